@@ -1,0 +1,132 @@
+-- The laws of costs that other crates cite. Each holds for every number, also for one above never, unless it says otherwise.
+-- Assumes nothing.
+use mathlib.Core.Bool.{Bool, true, false}
+use mathlib.Core.Logic.{_⊎_, inl, inr}
+use mathlib.Core.Path.{_≡_, refl, sym, _∙_}
+use Prim.Native.Nat.{ℕ, _+_, _≤_, _<_, min, max}
+use native.Mathlib.Decide.{decLe}
+use native.Mathlib.Nat.{max-comm, add-comm}
+use native.Mathlib.Omega.{arith}
+use lib.Dec.{leb, ltb, eqb}
+use borrow.Author.Tests.{le-leb, lt-leb, lt-ltb, le-ltb, eq-eqb, ne-eqb}
+use Rattle.cost.specs.Order.{standing, pickStanding}
+use Rattle.cost.specs.declared.Standing.the-variants as Standing
+use Rattle.cost.specs.Cost.{most, over, never, counted, isNever, isOver, or, pick, _⊕_, lesser, capped}
+
+-- ---- document 01's three cases of the sum
+
+or-true : (t : Bool) → or t true ≡ true
+unfolding or
+or-true true = refl
+or-true false = refl
+
+-- "A sum is never if a term is never"
+pub sum-never : (a b : ℕ) → (never ≤ a) ⊎ (never ≤ b) → a ⊕ b ≡ never
+unfolding _⊕_ isNever or pick
+sum-never a b (inl h) = rw (le-leb never a h)
+sum-never a b (inr h) = rw (le-leb never b h, or-true (leb never a))
+
+-- "otherwise over if .. the exact sum exceeds 999,999,999"
+past-most : (a b : ℕ) → a < never → b < never → most < a + b → a ⊕ b ≡ over
+unfolding _⊕_ isNever or pick
+past-most a b ha hb h =
+    rw (lt-leb never a ha, lt-leb never b hb, lt-ltb most (a + b) h, or-true (or (isOver a) (isOver b)))
+
+-- "otherwise over if a term is over or the exact sum exceeds 999,999,999"
+pub sum-over : (a b : ℕ) → a < never → b < never → (a ≡ over) ⊎ ((b ≡ over) ⊎ (most < a + b)) → a ⊕ b ≡ over
+sum-over a b ha hb (inl h) = past-most a b ha hb (omega arith)
+sum-over a b ha hb (inr (inl h)) = past-most a b ha hb (omega arith)
+sum-over a b ha hb (inr (inr h)) = past-most a b ha hb h
+
+-- "otherwise exact"
+pub sum-exact : (a b : ℕ) → a + b ≤ most → a ⊕ b ≡ a + b
+unfolding _⊕_ isNever isOver or pick
+sum-exact a b h =
+    let na : a < never = omega arith in
+    let nb : b < never = omega arith in
+    let oa : a ≡ over → ⊥ = omega arith in
+    let ob : b ≡ over → ⊥ = omega arith in
+    rw (lt-leb never a na, lt-leb never b nb, ne-eqb a over oa, ne-eqb b over ob, le-ltb most (a + b) h)
+
+-- ---- the sum by `min` and `max`, which `omega` reads
+
+by-cases : (a b : ℕ) → Dec (never ≤ a) → Dec (never ≤ b) → Dec (a + b ≤ most) → a ⊕ b ≡ max (max (min a never) (min b never)) (min (a + b) over)
+by-cases a b (yes h) q r = sum-never a b (inl h) ∙ omega arith
+by-cases a b (no g) (yes h) r = sum-never a b (inr h) ∙ omega arith
+by-cases a b (no g) (no h) (yes k) = sum-exact a b k ∙ omega arith
+by-cases a b (no g) (no h) (no k) = past-most a b (omega arith) (omega arith) (omega arith) ∙ omega arith
+
+pub sum-form : (a b : ℕ) → a ⊕ b ≡ max (max (min a never) (min b never)) (min (a + b) over)
+sum-form a b = by-cases a b (decLe never a) (decLe never b) (decLe (a + b) most)
+
+pub sum-bound : (a b : ℕ) → a ⊕ b ≤ never
+sum-bound a b = rw (sum-form a b) (omega arith)
+
+-- Where no term is never, the sum is the exact sum, capped.
+pub sum-below : (a b : ℕ) → a < never → b < never → a ⊕ b ≡ min (a + b) over
+sum-below a b h k = rw (sum-form a b) (omega arith)
+
+pub sum-comm : (a b : ℕ) → a ⊕ b ≡ b ⊕ a
+sum-comm a b = rw (sum-form a b, sum-form b a, max-comm (min a never) (min b never), add-comm a b)
+
+-- "a sum is at least each term"
+pub sum-left : (a b : ℕ) → min a never ≤ a ⊕ b
+sum-left a b = rw (sum-form a b) (omega arith)
+
+pub sum-right : (a b : ℕ) → min b never ≤ a ⊕ b
+sum-right a b = rw (sum-form a b) (omega arith)
+
+-- neutral 0
+pub sum-zero : (a : ℕ) → a ≤ never → a ⊕ 0 ≡ a
+sum-zero a h = rw (sum-form a 0) (omega arith)
+
+pub zero-sum : (a : ℕ) → a ≤ never → 0 ⊕ a ≡ a
+zero-sum a h = sum-comm 0 a ∙ sum-zero a h
+
+-- monotony
+mono-cases : (a b c d : ℕ) → a ≤ c → b ≤ d → Dec (never ≤ c) → Dec (never ≤ d) → a ⊕ b ≤ c ⊕ d
+mono-cases a b c d h k (yes p) q = rw (sum-never c d (inl p)) (sum-bound a b)
+mono-cases a b c d h k (no p) (yes q) = rw (sum-never c d (inr q)) (sum-bound a b)
+mono-cases a b c d h k (no p) (no q) =
+    rw (sum-below a b (omega arith) (omega arith), sum-below c d (omega arith) (omega arith)) (omega arith)
+
+pub sum-mono : (a b c d : ℕ) → a ≤ c → b ≤ d → a ⊕ b ≤ c ⊕ d
+sum-mono a b c d h k = mono-cases a b c d h k (decLe never c) (decLe never d)
+
+-- associativity
+assoc-cases : (a b c : ℕ) → Dec (never ≤ a) → Dec (never ≤ b) → Dec (never ≤ c) → (a ⊕ b) ⊕ c ≡ a ⊕ (b ⊕ c)
+assoc-cases a b c (yes p) q r =
+    rw (sum-never a b (inl p), sum-never a (b ⊕ c) (inl p)) (sum-never never c (inl (omega arith)))
+assoc-cases a b c (no p) (yes q) r =
+    rw (sum-never a b (inr q), sum-never b c (inl q), sum-never a never (inr (omega arith)))
+    (sum-never never c (inl (omega arith)))
+assoc-cases a b c (no p) (no q) (yes r) =
+    rw (sum-never (a ⊕ b) c (inr r), sum-never b c (inr r), sum-never a never (inr (omega arith)))
+assoc-cases a b c (no p) (no q) (no r) =
+    rw (sum-below a b (omega arith) (omega arith), sum-below b c (omega arith) (omega arith))
+    (sum-below (min (a + b) over) c (omega arith) (omega arith)
+    ∙ omega arith
+    ∙ sym (sum-below a (min (b + c) over) (omega arith) (omega arith)))
+
+pub sum-assoc : (a b c : ℕ) → (a ⊕ b) ⊕ c ≡ a ⊕ (b ⊕ c)
+sum-assoc a b c = assoc-cases a b c (decLe never a) (decLe never b) (decLe never c)
+
+-- Capping an exact sum gives the capped sum of the capped terms.
+pub capped-sum : (a b : ℕ) → capped (a + b) ≡ capped a ⊕ capped b
+unfolding capped
+capped-sum a b = sym (sum-below (min a over) (min b over) (omega arith) (omega arith) ∙ omega arith)
+
+-- ---- how a cost stands to another, from the test that tells
+
+pub stands-lower : (a b : ℕ) → counted a < counted b → Standing.Lower ≡ standing a b
+unfolding standing pickStanding
+stands-lower a b h = rw (lt-ltb (counted a) (counted b) h)
+
+pub stands-same : (a b : ℕ) → counted a ≡ counted b → Standing.Same ≡ standing a b
+unfolding standing pickStanding
+stands-same a b h = rw (le-ltb (counted a) (counted b) (omega arith), eq-eqb (counted a) (counted b) h)
+
+pub stands-higher : (a b : ℕ) → counted b < counted a → Standing.Higher ≡ standing a b
+unfolding standing pickStanding
+stands-higher a b h =
+    rw (le-ltb (counted a) (counted b) (omega arith), ne-eqb (counted a) (counted b) (omega arith))

@@ -1,0 +1,59 @@
+-- `clear_bytes` sets every byte to 0: those passed are. Assumes nothing.
+use mathlib.Core.List.{_++_, append-nil}
+use mathlib.Core.Path.{_≡_, ap, _∙_, refl}
+use Prim.Native.Nat.{_≤_, _-_}
+use native.Mathlib.Omega.{arith}
+use borrow.Author.Fill.{fill-more}
+use borrow.Author.Needs.{needs}
+use lib.ListN.{length, drop, replicate, length-set}
+use lib.Seq.{drop-length}
+use Rattle.table.proofs.clear_bytes.Statement.{statement}
+use Rattle.table.proofs.clear_bytes.Tie as tie
+
+abbrev Inv-loop : tie.InvT-loop
+Inv-loop buffer₀ i₀ buffer i = (i ≤ length buffer₀) × (length buffer ≡ length buffer₀) × (buffer ≡ replicate i 0 ++ drop i buffer₀)
+
+abbrev μ-loop : tie.MeasureT-loop
+μ-loop buffer₀ i₀ buffer i = length buffer₀ - i
+
+loop-holds : tie.Need-loop-holds Inv-loop μ-loop
+loop-holds c = (omega arith, refl, refl)
+
+slice-write-buffer : tie.Need-slice-write-buffer Inv-loop μ-loop
+slice-write-buffer c = omega arith
+
+add-i : tie.Need-add-i Inv-loop μ-loop
+add-i c = omega arith
+
+loop-less : tie.Need-loop-less Inv-loop μ-loop
+loop-less c = omega arith
+
+loop-again : tie.Need-loop-again Inv-loop μ-loop
+loop-again c =
+    let l = c .before .loop in
+    let before = c .before .before .args .buffer .now in
+    (omega arith, simp length-set (l .inv .1), rw (l .inv .2) (fill-more (l .i) 0 before (omega arith)))
+
+same-length : tie.Need-same-length Inv-loop μ-loop
+same-length c = omega arith
+
+returns : tie.Need-returns Inv-loop μ-loop
+returns c =
+    let l = c .before .loop in
+    let before = c .before .before .args .buffer .now in
+    let all : l .i ≡ length before = omega arith in
+    l .inv .2 ∙ rw (all, drop-length before) (append-nil (replicate (length before) 0))
+
+pub clear-bytes-spec : {M : Type 1} → statement M
+clear-bytes-spec =
+    tie.close
+    (tie.spec
+    Inv-loop
+    μ-loop
+    loop-holds
+    slice-write-buffer
+    add-i
+    loop-less
+    loop-again
+    same-length
+    returns)

@@ -1,0 +1,471 @@
+-- The laws of texts, fields, numerals and classes that other crates cite, and what this crate's own proofs share.
+-- Assumes nothing.
+use mathlib.Core.Bool.{Bool, true, false, _&&_, _||_}
+use mathlib.Core.List.{List, [], _∷_, _++_, List·Memᴰ, List·Memᴰ·head, List·Memᴰ·tail, List·Memᴰ·cases-cons, List·Memᴰ·not-nil}
+use mathlib.Core.Logic.{_↔_, _⊎_, inl, inr, ⊎-elim}
+use mathlib.Core.Option.{none, some}
+use mathlib.Core.Path.{_≡_, refl, sym, ap, subst, _∙_}
+use Prim.Native.Nat.{ℕ, suc, _+_, _*_, _-_, _^_, _≤_, _<_}
+use native.Mathlib.Nat.{zero-add, add-zero, add-suc, suc-add, pow-zero, pow-suc, pow-le-pow-right, mul-le-mul-right}
+use native.Mathlib.Omega.{arith}
+use lib.Dec.{leb, ltb, eqb, leb·suc-suc}
+use lib.ListN.{length, getD, take, drop, length-take, length-drop, drop-of-length-le}
+use lib.Seq.{drop-drop, getD-drop}
+use borrow.Author.Tests.{le-leb, lt-leb, eq-eqb, ne-eqb, leb-true, leb-false, ltb-true, eqb-true, eqb-false}
+use Rattle.text.specs.declared.Class.the-variants.{Digit, Upper, Lower, Comma, LineEnd, Other}
+use Rattle.text.specs.Class.{pick, between, classOf, isDigit, isUpperOrDigit}
+use Rattle.text.specs.Lines.{cut, split, fields, unended, ended, lines, stop, span, part, partsFrom, nextAfter, fieldsFrom, linesFrom, sameBytes}
+use Rattle.text.specs.Numeral.{digitBelow, allDigits, value, noLeadingZero, wellFormed, numeral, decimal, nameByte, allName, nameForm}
+
+-- ---- tests
+
+pub and-left : (a b : Bool) → (a && b) ≡ true → a ≡ true
+and-left true b h = refl
+and-left false b h = h
+
+pub and-right : (a b : Bool) → (a && b) ≡ true → b ≡ true
+and-right true b h = h
+and-right false true h = refl
+and-right false false h = h
+
+-- A test is true or it is false.
+pub by-test : {A : Type 0} (t : Bool) → (t ≡ true → A) → (t ≡ false → A) → A
+by-test true yes-way no-way = yes-way refl
+by-test false yes-way no-way = no-way refl
+
+-- ---- classes
+
+pub between-in : (low high b : ℕ) → low ≤ b → b ≤ high → between low high b ≡ true
+unfolding between
+between-in low high b p q = rw (le-leb low b p, le-leb b high q)
+
+pub between-below : (low high b : ℕ) → b < low → between low high b ≡ false
+unfolding between
+between-below low high b p = rw (lt-leb low b p)
+
+pub between-above : (low high b : ℕ) → high < b → between low high b ≡ false
+unfolding between
+between-above low high b p = go (leb low b)
+  where
+    go : (t : Bool) → (t && leb b high) ≡ false
+    go true = lt-leb b high p
+    go false = refl
+
+-- What is in no range, no comma and no line end is of no other class.
+pub class-other : (b : ℕ) → between 48 57 b ≡ false → between 65 90 b ≡ false → between 97 122 b ≡ false → (b ≡ 44 → ⊥) → (b ≡ 10 → ⊥) → classOf b ≡ Other
+unfolding classOf pick
+class-other b d u l c e = rw (d, u, l, ne-eqb b 44 c, ne-eqb b 10 e)
+
+pub class-digit : (b : ℕ) → isDigit (classOf b) ≡ between 48 57 b
+unfolding classOf pick isDigit
+class-digit b = go (between 48 57 b) (between 65 90 b) (between 97 122 b) (eqb b 44) (eqb b 10)
+  where
+    go : (d u l c e : Bool) → isDigit (pick d Digit (pick u Upper (pick l Lower (pick c Comma (pick e LineEnd Other))))) ≡ d
+    go true u l c e = refl
+    go false true l c e = refl
+    go false false true c e = refl
+    go false false false true e = refl
+    go false false false false true = refl
+    go false false false false false = refl
+
+pub class-name : (b : ℕ) → isUpperOrDigit (classOf b) ≡ nameByte b
+unfolding classOf pick isUpperOrDigit nameByte
+class-name b = go (between 48 57 b) (between 65 90 b) (between 97 122 b) (eqb b 44) (eqb b 10)
+  where
+    go : (d u l c e : Bool) → isUpperOrDigit (pick d Digit (pick u Upper (pick l Lower (pick c Comma (pick e LineEnd Other))))) ≡ (u || d)
+    go true true l c e = refl
+    go true false l c e = refl
+    go false true l c e = refl
+    go false false true c e = refl
+    go false false false true e = refl
+    go false false false false true = refl
+    go false false false false false = refl
+
+-- A digit of a base up to ten is a byte of class `Digit` below the base's end.
+pub class-digit-below : (base b : ℕ) → base ≤ 10 → digitBelow base b ≡ (isDigit (classOf b) && ltb b (48 + base))
+unfolding digitBelow between
+class-digit-below base b h = rw (class-digit b) (by-test (ltb b (48 + base)) small large)
+  where
+    small : ltb b (48 + base) ≡ true → (leb 48 b && ltb b (48 + base)) ≡ ((leb 48 b && leb b 57) && ltb b (48 + base))
+    small e = let p : b ≤ 57 = omega (arith, ltb-true b (48 + base) e) in rw (e, le-leb b 57 p) (go (leb 48 b))
+      where
+        go : (t : Bool) → (t && true) ≡ ((t && true) && true)
+        go true = refl
+        go false = refl
+
+    large : ltb b (48 + base) ≡ false → (leb 48 b && ltb b (48 + base)) ≡ ((leb 48 b && leb b 57) && ltb b (48 + base))
+    large e = rw e (go (leb 48 b) (leb b 57))
+      where
+        go : (s t : Bool) → (s && false) ≡ ((s && t) && false)
+        go true true = refl
+        go true false = refl
+        go false t = refl
+
+-- ---- spans and parts
+
+pub span-length : (mark : ℕ) (s : List ℕ) → span mark s ≤ length s
+unfolding span stop
+span-length mark [] = omega arith
+span-length mark (b ∷ s) = go (eqb b mark) (span-length mark s)
+  where
+    go : (t : Bool) → span mark s ≤ length s → stop t (span mark s) ≤ suc (length s)
+    go true h = omega arith
+    go false h = omega arith
+
+mark-step : (mark b : ℕ) (s : List ℕ) (t : Bool) → eqb b mark ≡ t → (span mark s < length s → getD s (span mark s) 0 ≡ mark) → stop t (span mark s) < suc (length s) → getD (b ∷ s) (stop t (span mark s)) 0 ≡ mark
+unfolding stop
+mark-step mark b s true e rest h = eqb-true b mark e
+mark-step mark b s false e rest h = rest (omega arith)
+
+-- Below the end, the first part is ended by the mark.
+pub span-mark : (mark : ℕ) (s : List ℕ) → span mark s < length s → getD s (span mark s) 0 ≡ mark
+unfolding span
+span-mark mark [] h = absurd (omega arith)
+span-mark mark (b ∷ s) h = mark-step mark b s (eqb b mark) refl (span-mark mark s) h
+
+pub length-part : (mark : ℕ) (s : List ℕ) (at : ℕ) → length (part mark s at) ≡ span mark (drop at s)
+unfolding part
+length-part mark s at = rw length-take (omega (arith, span-length mark (drop at s)))
+
+split-one : (mark b : ℕ) (s : List ℕ) (t : Bool) → split mark s ≡ take (span mark s) s ∷ partsFrom mark s (suc (span mark s)) → cut t b (split mark s) ≡ take (stop t (span mark s)) (b ∷ s) ∷ partsFrom mark (b ∷ s) (suc (stop t (span mark s)))
+unfolding cut stop partsFrom pick
+split-one mark b s true e = rw (le-leb 1 (suc (length s)) (omega arith))
+split-one mark b s false e = rw (e, leb·suc-suc (suc (span mark s)) (length s))
+
+split-step : (mark : ℕ) (s : List ℕ) → split mark s ≡ take (span mark s) s ∷ partsFrom mark s (suc (span mark s))
+unfolding split span partsFrom pick
+split-step mark [] = refl
+split-step mark (b ∷ s) = split-one mark b s (eqb b mark) (split-step mark s)
+
+partsFrom-drop : (mark : ℕ) (s : List ℕ) (at k : ℕ) → at ≤ length s → partsFrom mark (drop at s) k ≡ partsFrom mark s (at + k)
+unfolding partsFrom
+partsFrom-drop mark s at k h = rw (drop-drop k at s, length-drop at s, same-test)
+  where
+    same-test : leb k (length s - at) ≡ leb (at + k) (length s)
+    same-test =
+        by-test (leb k (length s - at))
+        (λ e. e ∙ sym (le-leb (at + k) (length s) (omega (arith, leb-true k (length s - at) e))))
+        (λ e. e ∙ sym (lt-leb (at + k) (length s) (omega (arith, leb-false k (length s - at) e))))
+
+-- ---- walking the parts from a cursor
+
+-- From the start on are all the parts.
+pub partsFrom-start : (mark : ℕ) (s : List ℕ) → partsFrom mark s 0 ≡ split mark s
+unfolding partsFrom pick
+partsFrom-start mark s = rw (le-leb 0 (length s) (omega arith))
+
+-- Past the end there is none.
+pub partsFrom-end : (mark : ℕ) (s : List ℕ) (at : ℕ) → length s < at → partsFrom mark s at ≡ []
+unfolding partsFrom pick
+partsFrom-end mark s at h = rw (lt-leb at (length s) h)
+
+partsFrom-split : (mark : ℕ) (s : List ℕ) (at : ℕ) → at ≤ length s → partsFrom mark s at ≡ split mark (drop at s)
+unfolding partsFrom pick
+partsFrom-split mark s at h = rw (le-leb at (length s) h)
+
+-- Up to the end there is one, and then those from behind its mark.
+pub partsFrom-step : (mark : ℕ) (s : List ℕ) (at : ℕ) → at ≤ length s → partsFrom mark s at ≡ part mark s at ∷ partsFrom mark s (at + length (part mark s at) + 1)
+unfolding part
+partsFrom-step mark s at h =
+    partsFrom-split mark s at h
+    ∙ split-step mark (drop at s)
+    ∙ ap (λ (ps : List (List ℕ)). part mark s at ∷ ps) (partsFrom-drop mark s at (suc (span mark (drop at s))) h ∙ ap (partsFrom mark s) further)
+  where
+    further : at + suc (span mark (drop at s)) ≡ at + length (part mark s at) + 1
+    further = omega (arith, length-part mark s at)
+
+-- A part ends within the text, and where it ends below the text's end, the mark stands there.
+pub part-within : (mark : ℕ) (s : List ℕ) (at : ℕ) → at ≤ length s → at + length (part mark s at) ≤ length s
+part-within mark s at h = omega (arith, length-part mark s at, span-length mark (drop at s), length-drop at s)
+
+pub part-mark : (mark : ℕ) (s : List ℕ) (at : ℕ) → at + length (part mark s at) < length s → getD s (at + length (part mark s at)) 0 ≡ mark
+part-mark mark s at h =
+    rw (length-part mark s at, ← getD-drop at s (span mark (drop at s)) 0)
+    (span-mark mark (drop at s) (omega (arith, length-part mark s at, length-drop at s)))
+
+-- The cursor that `after` answers, and that it moves on.
+pub nextAfter-within : (s : List ℕ) (at : ℕ) (p : List ℕ) → at ≤ length s → nextAfter s at p ≡ at + length p + 1
+unfolding nextAfter pick
+nextAfter-within s at p h = rw (le-leb at (length s) h)
+
+pub nextAfter-past : (s : List ℕ) (at : ℕ) (p : List ℕ) → length s < at → nextAfter s at p ≡ at
+unfolding nextAfter pick
+nextAfter-past s at p h = rw (lt-leb at (length s) h)
+
+-- ---- fields of a line, from a cursor
+
+pub fieldsFrom-start : (line : List ℕ) → fieldsFrom line 0 ≡ fields line
+unfolding fieldsFrom fields
+fieldsFrom-start line = partsFrom-start 44 line
+
+pub fieldsFrom-step : (line : List ℕ) (at : ℕ) → at ≤ length line → fieldsFrom line at ≡ part 44 line at ∷ fieldsFrom line (nextAfter line at (part 44 line at))
+unfolding fieldsFrom
+fieldsFrom-step line at h = rw (nextAfter-within line at (part 44 line at) h) (partsFrom-step 44 line at h)
+
+pub fieldsFrom-end : (line : List ℕ) (at : ℕ) → length line < at → fieldsFrom line at ≡ []
+unfolding fieldsFrom
+fieldsFrom-end line at h = partsFrom-end 44 line at h
+
+-- ---- lines of a text, from a cursor
+
+pub linesFrom-start : (text : List ℕ) → linesFrom text 0 ≡ lines text
+unfolding linesFrom lines
+linesFrom-start text = rw (partsFrom-start 10 text)
+
+-- At the end, or past it, there is no line.
+pub linesFrom-end : (text : List ℕ) (at : ℕ) → length text ≤ at → linesFrom text at ≡ []
+unfolding linesFrom ended unended split
+linesFrom-end text at h =
+    by-test (leb at (length text))
+    (λ e. rw (partsFrom-split 10 text at (leb-true at (length text) e), drop-of-length-le text h))
+    (λ e. rw (partsFrom-end 10 text at (leb-false at (length text) e)))
+
+ended-line : (p : List ℕ) (ps : List (List ℕ)) (q : List ℕ) (qs : List (List ℕ)) → ps ≡ q ∷ qs → ended (p ∷ ps) ≡ some (fields p) ∷ ended ps
+unfolding ended
+ended-line p ps q qs e = rw e
+
+-- A part that is ended by byte 10 is a line, by its fields, and the lines from behind it follow.
+pub linesFrom-line : (text : List ℕ) (at : ℕ) → at + length (part 10 text at) < length text → linesFrom text at ≡ some (fields (part 10 text at)) ∷ linesFrom text (nextAfter text at (part 10 text at))
+unfolding linesFrom
+linesFrom-line text at h =
+    let within : at ≤ length text = omega arith in
+    let next = at + length (part 10 text at) + 1 in
+    let reach : at + length (part 10 text at) + 1 ≤ length text = omega arith in
+    rw (nextAfter-within text at (part 10 text at) within, partsFrom-step 10 text at within)
+    (ended-line (part 10 text at) (partsFrom 10 text next) (part 10 text next) (partsFrom 10 text (next + length (part 10 text next) + 1)) (partsFrom-step 10 text next reach))
+
+unended-none : (p : List ℕ) → 0 < length p → unended p ≡ none ∷ []
+unfolding unended
+unended-none [] h = absurd (omega arith)
+unended-none (b ∷ p) h = refl
+
+-- A part that reaches the end of the text is a last line without byte 10.
+pub linesFrom-unended : (text : List ℕ) (at : ℕ) → at < length text → at + length (part 10 text at) ≡ length text → linesFrom text at ≡ none ∷ []
+unfolding linesFrom ended
+linesFrom-unended text at h e =
+    let within : at ≤ length text = omega arith in
+    rw (partsFrom-step 10 text at within, partsFrom-end 10 text (at + length (part 10 text at) + 1) (omega arith))
+    (unended-none (part 10 text at) (omega arith))
+
+-- ---- lengths
+
+length-cut : (t : Bool) (b : ℕ) (ps : List (List ℕ)) → length (cut t b ps) ≤ suc (length ps)
+unfolding cut
+length-cut true b ps = omega arith
+length-cut false b [] = omega arith
+length-cut false b (p ∷ ps) = omega arith
+
+pub length-split : (mark : ℕ) (s : List ℕ) → length (split mark s) ≤ length s + 1
+unfolding split
+length-split mark [] = omega arith
+length-split mark (b ∷ s) = omega (arith, length-cut (eqb b mark) b (split mark s), length-split mark s)
+
+-- A line has at most one field more than bytes.
+pub length-fields : (line : List ℕ) → length (fields line) ≤ length line + 1
+unfolding fields
+length-fields line = length-split 44 line
+
+length-ended : (t : Bool) (b : ℕ) (ps : List (List ℕ)) → length (ended (cut t b ps)) ≤ suc (length (ended ps))
+unfolding cut ended unended
+length-ended true b [] = omega arith
+length-ended true b (p ∷ ps) = omega arith
+length-ended false b [] = omega arith
+length-ended false b (p ∷ []) = omega arith
+length-ended false b (p ∷ (q ∷ ps)) = omega arith
+
+-- A text has at most as many lines as bytes.
+pub length-lines : (text : List ℕ) → length (lines text) ≤ length text
+unfolding lines split ended unended
+length-lines [] = omega arith
+length-lines (b ∷ s) = omega (arith, length-ended (eqb b 10) b (split 10 s), length-lines s)
+
+-- The bytes of parts, with a mark for each.
+unfoldable pub total : List (List ℕ) → ℕ
+total [] = 0
+total (p ∷ ps) = suc (length p) + total ps
+
+total-cut : (t : Bool) (b : ℕ) (ps : List (List ℕ)) → 0 < total ps → total (cut t b ps) ≡ suc (total ps)
+unfolding cut total
+total-cut true b ps h = omega arith
+total-cut false b [] h = absurd (omega arith)
+total-cut false b (p ∷ ps) h = omega arith
+
+-- The parts together with their marks are as long as the text, and one more.
+pub split-total : (mark : ℕ) (s : List ℕ) → total (split mark s) ≡ length s + 1
+unfolding split total
+split-total mark [] = refl
+split-total mark (b ∷ s) =
+    let rest = split-total mark s in
+    omega (arith, total-cut (eqb b mark) b (split mark s) (omega arith))
+
+member-case : (p q : List ℕ) (ps : List (List ℕ)) → (List·Memᴰ p ps → length p < total ps) → (p ≡ q) ⊎ List·Memᴰ p ps → length p < suc (length q) + total ps
+member-case p q ps rest (inl e) = omega (arith, ap length e)
+member-case p q ps rest (inr m) = omega (arith, rest m)
+
+total-member : (p : List ℕ) (ps : List (List ℕ)) → List·Memᴰ p ps → length p < total ps
+unfolding total
+total-member p [] m = absurd (List·Memᴰ·not-nil m)
+total-member p (q ∷ ps) m =
+    member-case p q ps (total-member p ps) (List·Memᴰ·cases-cons m)
+
+-- No part is longer than the text.
+pub split-member-length : (mark : ℕ) (s p : List ℕ) → List·Memᴰ p (split mark s) → length p ≤ length s
+split-member-length mark s p m = omega (arith, split-total mark s, total-member p (split mark s) m)
+
+-- ---- marks
+
+free-empty : (mark : ℕ) (p : List ℕ) → p ≡ [] → List·Memᴰ mark p → ⊥
+free-empty mark p e d = List·Memᴰ·not-nil (subst (List·Memᴰ mark) e d)
+
+free-cons : (mark b : ℕ) (q : List ℕ) → (mark ≡ b → ⊥) → (List·Memᴰ mark q → ⊥) → (p : List ℕ) → p ≡ b ∷ q → List·Memᴰ mark p → ⊥
+free-cons mark b q other rest p e d = ⊎-elim other rest (List·Memᴰ·cases-cons (subst (List·Memᴰ mark) e d))
+
+free-cut : (mark b : ℕ) (t : Bool) → eqb b mark ≡ t → (ps : List (List ℕ)) → ((p : List ℕ) → List·Memᴰ p ps → List·Memᴰ mark p → ⊥) → (p : List ℕ) → List·Memᴰ p (cut t b ps) → List·Memᴰ mark p → ⊥
+unfolding cut
+free-cut mark b true e ps rest p m d =
+    ⊎-elim (λ h. free-empty mark p h d) (λ h. rest p h d) (List·Memᴰ·cases-cons m)
+free-cut mark b false e [] rest p m d =
+    ⊎-elim
+    (λ h. free-cons mark b [] (λ k. eqb-false b mark e (sym k)) List·Memᴰ·not-nil p h d)
+    (λ h. List·Memᴰ·not-nil h)
+    (List·Memᴰ·cases-cons m)
+free-cut mark b false e (q ∷ ps) rest p m d =
+    ⊎-elim
+    (λ h. free-cons mark b q (λ k. eqb-false b mark e (sym k)) (rest q (List·Memᴰ·head refl)) p h d)
+    (λ h. rest p (List·Memᴰ·tail h) d)
+    (List·Memᴰ·cases-cons m)
+
+-- No part has the mark in it: no field has byte 44, and no line has byte 10.
+pub split-no-mark : (mark : ℕ) (s p : List ℕ) → List·Memᴰ p (split mark s) → List·Memᴰ mark p → ⊥
+unfolding split
+split-no-mark mark [] p m d =
+    ⊎-elim (λ h. free-empty mark p h d) List·Memᴰ·not-nil (List·Memᴰ·cases-cons m)
+split-no-mark mark (b ∷ s) p m d = free-cut mark b (eqb b mark) refl (split mark s) (split-no-mark mark s) p m d
+
+pub part-no-mark : (mark : ℕ) (s : List ℕ) (at : ℕ) → List·Memᴰ mark (part mark s at) → ⊥
+unfolding part
+part-no-mark mark s at d =
+    split-no-mark mark (drop at s) (part mark s at) (rw (split-step mark (drop at s)) (List·Memᴰ·head refl)) d
+
+-- ---- texts put together from their parts
+
+pub split-join : (mark : ℕ) (p s : List ℕ) → (List·Memᴰ mark p → ⊥) → split mark (p ++ mark ∷ s) ≡ p ∷ split mark s
+unfolding split cut
+split-join mark [] s free = rw (eq-eqb mark mark refl)
+split-join mark (b ∷ p) s free =
+    rw (ne-eqb b mark (λ e. free (List·Memᴰ·head (sym e))), split-join mark p s (λ m. free (List·Memᴰ·tail m)))
+
+-- A text with no mark is one part.
+pub split-whole : (mark : ℕ) (p : List ℕ) → (List·Memᴰ mark p → ⊥) → split mark p ≡ p ∷ []
+unfolding split cut
+split-whole mark [] free = refl
+split-whole mark (b ∷ p) free =
+    rw (ne-eqb b mark (λ e. free (List·Memᴰ·head (sym e))), split-whole mark p (λ m. free (List·Memᴰ·tail m)))
+
+pub fields-join : (f rest : List ℕ) → (List·Memᴰ 44 f → ⊥) → fields (f ++ 44 ∷ rest) ≡ f ∷ fields rest
+unfolding fields
+fields-join f rest free = split-join 44 f rest free
+
+pub lines-join : (line rest : List ℕ) → (List·Memᴰ 10 line → ⊥) → lines (line ++ 10 ∷ rest) ≡ some (fields line) ∷ lines rest
+unfolding lines
+lines-join line rest free =
+    rw (split-join 10 line rest free)
+    (ended-line line (split 10 rest) (take (span 10 rest) rest) (partsFrom 10 rest (suc (span 10 rest))) (split-step 10 rest))
+
+-- ---- words
+
+pub sameBytes-refl : (a : List ℕ) → sameBytes a a ≡ true
+unfolding sameBytes
+sameBytes-refl [] = refl
+sameBytes-refl (b ∷ s) = rw (eq-eqb b b refl) (sameBytes-refl s)
+
+pub sameBytes-true : (a b : List ℕ) → sameBytes a b ≡ true → a ≡ b
+unfolding sameBytes
+sameBytes-true [] [] h = refl
+sameBytes-true [] (b ∷ t) h = cc
+sameBytes-true (a ∷ s) [] h = cc
+sameBytes-true (a ∷ s) (b ∷ t) h =
+    let heads : a ≡ b = eqb-true a b (and-left (eqb a b) (sameBytes s t) h) in
+    let tails : s ≡ t = sameBytes-true s t (and-right (eqb a b) (sameBytes s t) h) in
+    cc
+
+-- Two strings match byte for byte where they are equal, and only there.
+pub sameBytes-iff : (a b : List ℕ) → (sameBytes a b ≡ true) ↔ (a ≡ b)
+sameBytes-iff a b = (sameBytes-true a b, λ e. rw e (sameBytes-refl b))
+
+pub sameBytes-other : (a b : List ℕ) → (length a ≡ length b → ⊥) → sameBytes a b ≡ false
+sameBytes-other a b other = by-test (sameBytes a b) (λ e. absurd (other (ap length (sameBytes-true a b e)))) (λ e. e)
+
+-- ---- numbers
+
+pub digit-low : (base b : ℕ) → digitBelow base b ≡ true → 48 ≤ b
+unfolding digitBelow
+digit-low base b h = leb-true 48 b (and-left (leb 48 b) (ltb b (48 + base)) h)
+
+pub digit-high : (base b : ℕ) → digitBelow base b ≡ true → b < 48 + base
+unfolding digitBelow
+digit-high base b h = ltb-true b (48 + base) (and-right (leb 48 b) (ltb b (48 + base)) h)
+
+-- One digit more keeps a value below the base's next power.
+pub digit-step : (base acc k b : ℕ) → acc < base ^ k → digitBelow base b ≡ true → acc * base + (b - 48) < base ^ suc k
+digit-step base acc k b h d =
+    omega (arith, pow-suc base k, mul-le-mul-right base h, digit-low base b d, digit-high base b d)
+
+value-grows : (base acc k : ℕ) (f : List ℕ) → acc < base ^ k → allDigits base f ≡ true → value base acc f < base ^ (k + length f)
+unfolding value allDigits
+value-grows base acc k [] h d = rw (add-zero k) h
+value-grows base acc k (b ∷ f) h d =
+    rw (add-suc k (length f), ← suc-add k (length f))
+    (value-grows base (acc * base + (b - 48)) (suc k) f (digit-step base acc k b h (and-left (digitBelow base b) (allDigits base f) d)) (and-right (digitBelow base b) (allDigits base f) d))
+
+-- The value of so many digits is below that power of the base.
+pub value-below : (base : ℕ) (f : List ℕ) → allDigits base f ≡ true → value base 0 f < base ^ length f
+value-below base f d = rw zero-add at (value-grows base 0 0 f (omega (arith, pow-zero base)) d)
+
+module _ (base most : ℕ) (f : List ℕ) where
+  pub wellFormed-length : wellFormed base most f ≡ true → length f ≤ most
+  unfolding wellFormed
+  wellFormed-length h =
+      leb-true (length f) most
+      (and-left (leb (length f) most) (noLeadingZero f && allDigits base f)
+      (and-right (leb 1 (length f)) (leb (length f) most && (noLeadingZero f && allDigits base f)) h))
+
+  pub wellFormed-digits : wellFormed base most f ≡ true → allDigits base f ≡ true
+  unfolding wellFormed
+  wellFormed-digits h =
+      and-right (noLeadingZero f) (allDigits base f)
+      (and-right (leb (length f) most) (noLeadingZero f && allDigits base f)
+      (and-right (leb 1 (length f)) (leb (length f) most && (noLeadingZero f && allDigits base f)) h))
+
+  pub numeral-good : wellFormed base most f ≡ true → numeral base most f ≡ some (value base 0 f)
+  unfolding numeral pick
+  numeral-good h = rw h
+
+  pub numeral-bad : wellFormed base most f ≡ false → numeral base most f ≡ none
+  unfolding numeral pick
+  numeral-bad h = rw h
+
+  pub numeral-below : (v : ℕ) → 0 < base → numeral base most f ≡ some v → v < base ^ most
+  numeral-below v positive e = by-test (wellFormed base most f) good bad
+    where
+      good : wellFormed base most f ≡ true → v < base ^ most
+      good h =
+          let same-value : value base 0 f ≡ v = cc (numeral-good h) in
+          omega (arith, value-below base f (wellFormed-digits h), pow-le-pow-right positive (wellFormed-length h))
+
+      bad : wellFormed base most f ≡ false → v < base ^ most
+      bad h = let z : _≡_ {A = ℕ} 0 1 = cc (numeral-bad h) in omega arith
+
+pub decimal-below : (f : List ℕ) (v : ℕ) → decimal f ≡ some v → v < 100000
+unfolding decimal
+decimal-below f v e = numeral-below 10 5 f v (omega arith) e
+
+-- ---- names
+
+-- A cell name has 1 to 8 bytes.
+pub nameForm-length : (f : List ℕ) → nameForm f ≡ true → (1 ≤ length f) × (length f ≤ 8)
+unfolding nameForm
+nameForm-length f h = (
+  leb-true 1 (length f) (and-left (leb 1 (length f)) (leb (length f) 8 && allName f) h),
+  leb-true (length f) 8 (and-left (leb (length f) 8) (allName f) (and-right (leb 1 (length f)) (leb (length f) 8 && allName f) h)),
+)

@@ -1,0 +1,22 @@
+-- `text::after` meets its contract: each arm is a case of `nextAfter`.
+-- Assumes nothing.
+use borrow.Author.Needs.{needs}
+use mathlib.Core.Path.{sym}
+use Rattle.text.proofs.Laws.{nextAfter-within, nextAfter-past}
+use Rattle.text.proofs.after.Statement.{statement}
+use Rattle.text.proofs.after.Tie as tie
+
+add-result : tie.Need-add-result
+add-result c = search needs
+
+add-result-2 : tie.Need-add-result-2
+add-result-2 c = search needs
+
+returns : tie.Need-returns
+returns c = sym (nextAfter-within _ _ _ (c .if1 .taken))
+
+returns-2 : tie.Need-returns-2
+returns-2 c = sym (nextAfter-past _ _ _ (c .if1 .left))
+
+pub after-spec : {M : Type 1} → statement M
+after-spec = tie.close (tie.spec add-result add-result-2 returns returns-2)

@@ -1,0 +1,79 @@
+-- `text::same` meets its contract. The loop's invariant: the bytes passed are the same, so that the rest decides.
+-- Assumes nothing.
+use mathlib.Core.Path.{_≡_, refl, sym, _∙_}
+use Prim.Native.Nat.{_-_, _≤_, _<_}
+use native.Mathlib.Omega.{arith}
+use lib.ListN.{length, drop}
+use Rattle.text.specs.Lines.{sameBytes}
+use Rattle.text.proofs.Laws.{sameBytes-other}
+use Rattle.text.proofs.Steps.{sameBytes-good, sameBytes-bad, sameBytes-end}
+use Rattle.text.proofs.same.Statement.{statement}
+use Rattle.text.proofs.same.Tie as tie
+
+abbrev Inv-loop : tie.InvT-loop
+Inv-loop a b n i₀ i = (i ≤ length a) × (sameBytes (drop i a) (drop i b) ≡ sameBytes a b)
+
+abbrev μ-loop : tie.MeasureT-loop
+μ-loop a b n i₀ i = length a - i
+
+returns : tie.Need-returns Inv-loop μ-loop
+returns c = sym (sameBytes-other _ _ (c .if1 .taken))
+
+loop-holds : tie.Need-loop-holds Inv-loop μ-loop
+loop-holds c = (omega arith, refl)
+
+shared-slice-read-if2 : tie.Need-shared-slice-read-if2 Inv-loop μ-loop
+shared-slice-read-if2 c = omega arith
+
+shared-slice-read-if2-2 : tie.Need-shared-slice-read-if2-2 Inv-loop μ-loop
+shared-slice-read-if2-2 c = omega arith
+
+returns-2 : tie.Need-returns-2 Inv-loop μ-loop
+returns-2 c =
+    let start = c .before .before .before .before .before .before .args in
+    let i = c .before .before .before .before .loop .i in
+    let in-a : i < length (start .a .now) = omega arith in
+    let in-b : i < length (start .b .now) = omega arith in
+    sym (sameBytes-bad (start .a .now) (start .b .now) i in-a in-b (c .if2 .taken))
+    ∙ c .before .before .before .before .loop .inv .1
+
+add-i : tie.Need-add-i Inv-loop μ-loop
+add-i c = omega arith
+
+loop-less : tie.Need-loop-less Inv-loop μ-loop
+loop-less c = omega arith
+
+loop-again : tie.Need-loop-again Inv-loop μ-loop
+loop-again c =
+    let start = c .before .before .before .before .before .before .args in
+    let i = c .before .before .before .before .loop .i in
+    let in-a : i < length (start .a .now) = omega arith in
+    let in-b : i < length (start .b .now) = omega arith in (
+      omega arith,
+      sym (sameBytes-good (start .a .now) (start .b .now) i in-a in-b (c .if2 .left))
+          ∙ c .before .before .before .before .loop .inv .1,
+    )
+
+returns-3 : tie.Need-returns-3 Inv-loop μ-loop
+returns-3 c =
+    let start = c .before .before .before .args in
+    let i = c .before .loop .i in
+    let past-a : length (start .a .now) ≤ i = omega arith in
+    let past-b : length (start .b .now) ≤ i = omega arith in
+    sym (sameBytes-end (start .a .now) (start .b .now) i past-a past-b) ∙ c .before .loop .inv .1
+
+pub same-spec : {M : Type 1} → statement M
+same-spec =
+    tie.close
+    (tie.spec
+    Inv-loop
+    μ-loop
+    returns
+    loop-holds
+    shared-slice-read-if2
+    shared-slice-read-if2-2
+    returns-2
+    add-i
+    loop-less
+    loop-again
+    returns-3)

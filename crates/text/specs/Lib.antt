@@ -1,0 +1,5 @@
+pub mod Bytes
+pub mod Class
+pub mod Lines
+pub mod Numeral
+pub mod Refusal

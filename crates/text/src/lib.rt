@@ -1,0 +1,249 @@
+// The text layer: classes of bytes, lines and fields of a lent text, words, names and numbers.
+//
+// Open to other crates, each for every input: `class_of`, `part`, `line`, `field`, `after`, `same`, `is_name`, `decimal`,
+// `octal`, and the types `Class`, `Numeral` and `Refusal`.
+ghost use mathlib.Core.Path.{_≡_};
+ghost use mathlib.Core.Bool.{true};
+ghost use Prim.Native.Nat.{_+_, _-_, _^_, _≤_, _<_, min};
+ghost use lib.ListN.{length};
+ghost use Rattle.text.specs.Class.{classOf};
+ghost use Rattle.text.specs.Lines.{part, nextAfter, sameBytes};
+ghost use Rattle.text.specs.Numeral.{digitBelow, allDigits, value, wellFormed, numeral, decimal, nameByte, nameForm, numeralRead};
+
+const COMMA: u8 = 44;
+
+const LINE_END: u8 = 10;
+
+const ZERO: u8 = 48;
+
+const NAME_MOST: usize = 8;
+
+const DECIMAL_MOST: usize = 5;
+
+// The most digits that `octal` reads, so that the value fits.
+const OCTAL_MOST: usize = 10;
+
+// Why a text is refused: document 01's number, and the line, 0 where no line is meant. The readers share it.
+pub struct Refusal {
+    pub number: u32,
+    pub line: u32,
+}
+
+// The class of a byte. `classOf` gives its cases.
+pub enum Class {
+    Digit,
+    Upper,
+    Lower,
+    Comma,
+    LineEnd,
+    Other,
+}
+
+pub fn class_of(b: u8) -> Class
+    ensures { λ r. ⌜ r ≡ classOf b ⌝ }
+{
+    match b {
+        48..=57 => Class::Digit,
+        65..=90 => Class::Upper,
+        97..=122 => Class::Lower,
+        44 => Class::Comma,
+        10 => Class::LineEnd,
+        _ => Class::Other,
+    }
+}
+
+// The part of the text from a cursor up to the next mark, or to the text's end; empty from a cursor past the end.
+pub fn part(text: &[u8], from: usize, mark: u8) -> &[u8]
+    ensures { λ r. ⌜ now r ≡ part mark (now (text .entry)) from ⌝ }
+{
+    let n = text.len();
+    if n < from {
+        return &text[n..];
+    }
+    let mut i = from;
+    while i < n {
+        if text[i] == mark {
+            return &text[from..i];
+        }
+        i += 1;
+    }
+    &text[from..]
+}
+
+pub fn line(text: &[u8], from: usize) -> &[u8]
+    ensures { λ r. ⌜ now r ≡ part 10 (now (text .entry)) from ⌝ }
+{
+    part(text, from, LINE_END)
+}
+
+pub fn field(line: &[u8], from: usize) -> &[u8]
+    ensures { λ r. ⌜ now r ≡ part 44 (now (line .entry)) from ⌝ }
+{
+    part(line, from, COMMA)
+}
+
+// The cursor after a part that starts at `from`: that of the next field of a line, or of the next line of a text. It is
+// past the text's end after the last part, and stays there.
+pub fn after(text: &[u8], from: usize, part: &[u8]) -> usize
+    ensures { λ r. ⌜ r ≡ nextAfter (now (text .entry)) from (now (part .entry)) ⌝ }
+{
+    if from <= text.len() {
+        from + part.len() + 1
+    } else {
+        from
+    }
+}
+
+// Whether two strings of bytes are the same, byte for byte.
+pub fn same(a: &[u8], b: &[u8]) -> bool
+    ensures { λ r. ⌜ r ≡ sameBytes (now (a .entry)) (now (b .entry)) ⌝ }
+{
+    let n = a.len();
+    if n != b.len() {
+        return false;
+    }
+    let mut i = 0;
+    while i < n {
+        if a[i] != b[i] {
+            return false;
+        }
+        i += 1;
+    }
+    true
+}
+
+fn name_byte(b: u8) -> bool
+    ensures { λ r. ⌜ r ≡ nameByte b ⌝ }
+{
+    let class = class_of(b);
+    match class {
+        Class::Digit => true,
+        Class::Upper => true,
+        _ => false,
+    }
+}
+
+// Whether a field has a cell name's form.
+pub fn is_name(f: &[u8]) -> bool
+    ensures { λ r. ⌜ r ≡ nameForm (now (f .entry)) ⌝ }
+{
+    let n = f.len();
+    if n < 1 {
+        return false;
+    }
+    if NAME_MOST < n {
+        return false;
+    }
+    let mut i = 0;
+    while i < n {
+        if !name_byte(f[i]) {
+            return false;
+        }
+        i += 1;
+    }
+    true
+}
+
+// What a field reads as: a number, or bad form. `numeralRead` gives its cases.
+pub enum Numeral {
+    Value(u32),
+    Bad,
+}
+
+fn digit_below(b: u8, base: u8) -> bool
+    requires { ⌜ base ≤ 10 ⌝ }
+    ensures { λ r. ⌜ r ≡ digitBelow base b ⌝ }
+{
+    let class = class_of(b);
+    match class {
+        Class::Digit => b < ZERO + base,
+        _ => false,
+    }
+}
+
+fn all_digits(f: &[u8], base: u8) -> bool
+    requires { ⌜ base ≤ 10 ⌝ }
+    ensures { λ r. ⌜ r ≡ allDigits base (now (f .entry)) ⌝ }
+{
+    let n = f.len();
+    let mut i = 0;
+    while i < n {
+        if !digit_below(f[i], base) {
+            return false;
+        }
+        i += 1;
+    }
+    true
+}
+
+fn well_formed(f: &[u8], base: u8, most: usize) -> bool
+    requires { ⌜ base ≤ 10 ⌝ }
+    ensures { λ r. ⌜ r ≡ wellFormed base most (now (f .entry)) ⌝ }
+{
+    let n = f.len();
+    if n < 1 {
+        return false;
+    }
+    if most < n {
+        return false;
+    }
+    if 1 < n {
+        if f[0] == ZERO {
+            return false;
+        }
+    }
+    all_digits(f, base)
+}
+
+// The value of a digit in place.
+fn digit(b: u8) -> u32
+    requires { ⌜ 48 ≤ b ⌝ }
+    ensures { λ r. ⌜ r ≡ b - 48 ⌝ }
+{
+    (b - ZERO) as u32
+}
+
+// The value of digits that are few enough for it to fit.
+fn value(f: &[u8], base: u32) -> u32
+    requires { ⌜ (0 < base) × (allDigits base (now f) ≡ true) × (base ^ length (now f) ≤ 2 ^ 32) ⌝ }
+    ensures { λ r. ⌜ r ≡ value base 0 (now (f .entry)) ⌝ }
+{
+    let n = f.len();
+    let mut sum: u32 = 0;
+    let mut i = 0;
+    while i < n {
+        sum = sum * base + digit(f[i]);
+        i += 1;
+    }
+    sum
+}
+
+// A field read in a base, with so few digits that each value fits. `decimal` and `octal` are its two uses.
+fn read(f: &[u8], base: u8, most: usize) -> Numeral
+    requires { ⌜ (0 < base) × (base ≤ 10) × (base ^ most ≤ 2 ^ 32) ⌝ }
+    ensures { λ r. ⌜ numeralRead r ≡ numeral base most (now (f .entry)) ⌝ }
+{
+    if well_formed(f, base, most) {
+        Numeral::Value(value(f, base as u32))
+    } else {
+        Numeral::Bad
+    }
+}
+
+// A decimal field.
+pub fn decimal(f: &[u8]) -> Numeral
+    ensures { λ r. ⌜ numeralRead r ≡ decimal (now (f .entry)) ⌝ }
+{
+    read(f, 10, DECIMAL_MOST)
+}
+
+// An octal field of at most so many digits. A `most` above 10 counts as 10, so that the value fits.
+pub fn octal(f: &[u8], most: usize) -> Numeral
+    ensures { λ r. ⌜ numeralRead r ≡ numeral 8 (min most 10) (now (f .entry)) ⌝ }
+{
+    if most < OCTAL_MOST {
+        read(f, 8, most)
+    } else {
+        read(f, 8, OCTAL_MOST)
+    }
+}
