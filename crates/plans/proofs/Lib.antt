@@ -1,0 +1,13 @@
+mod Table
+mod Falling
+mod Keeping
+mod Exactness
+mod Settling
+mod Replacing
+mod Without
+mod Bounds
+mod Staging
+mod Comparing
+mod Tracing
+mod Worked
+pub mod Laws

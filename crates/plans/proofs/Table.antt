@@ -1,0 +1,116 @@
+-- The table as numbers by node: what a store changes, when two tables are the same, and when one lies under another.
+-- Assumes nothing.
+use mathlib.Core.Bool.{Bool, true, false}
+use mathlib.Core.List.{List, [], _∷_}
+use mathlib.Core.Logic.{_↔_, _≢_}
+use mathlib.Core.Path.{_≡_, refl, sym, _∙_, ap₂}
+use Prim.Native.Nat.{ℕ, zero, suc, _≤_, _<_}
+use native.Mathlib.Decide.{ℕ-discrete, decLt}
+use native.Mathlib.Nat.{le-refl, le-trans, le-antisymm, suc-inj}
+use native.Mathlib.Omega.{arith}
+use borrow.Author.Tests.{eqb-true, eq-eqb}
+use lib.Dec.{eqb}
+use lib.ListN.{length, getD, set, length-set, List·getD-eq-default}
+use lib.Seq.{getD-set-same, getD-set-other, set-out, ext-getD}
+use Rattle.cost.specs.Cost.{never}
+use Rattle.plans.specs.Sweep.{at, same, and, total}
+
+pub at-set-same : (xs : List ℕ) (n a : ℕ) → n < length xs → at (set xs n a) n ≡ a
+unfolding at
+at-set-same xs n a h = getD-set-same xs n a never h
+
+pub at-set-other : (xs : List ℕ) (n a m : ℕ) → m ≢ n → at (set xs n a) m ≡ at xs m
+unfolding at
+at-set-other xs n a m h = getD-set-other xs n m a never h
+
+-- Within the table the number is what stands there, whatever is read past the end.
+pub at-getD : (xs : List ℕ) (n d : ℕ) → n < length xs → at xs n ≡ getD xs n d
+unfolding at
+at-getD [] n d h = absurd (omega arith)
+at-getD (x ∷ xs) zero d h = refl
+at-getD (x ∷ xs) (suc n) d h = at-getD xs n d (omega arith)
+
+pub at-past : (xs : List ℕ) (n : ℕ) → length xs ≤ n → at xs n ≡ never
+unfolding at
+at-past xs n h = List·getD-eq-default xs never h
+
+-- ---- the same table
+
+and-true : (b c : Bool) → and b c ≡ true → (b ≡ true) × (c ≡ true)
+unfolding and
+and-true true c e = (refl, e)
+and-true false c e = let z : true ≡ false = sym e in (e, cc)
+
+pub same-true : (xs ys : List ℕ) → same xs ys ≡ true → xs ≡ ys
+unfolding same
+same-true [] [] e = refl
+same-true [] (y ∷ ys) e = cc
+same-true (x ∷ xs) [] e = cc
+same-true (x ∷ xs) (y ∷ ys) e =
+    let h : (eqb x y ≡ true) × (same xs ys ≡ true) = and-true (eqb x y) (same xs ys) e in
+    ap₂ (λ (a : ℕ) (l : List ℕ). a ∷ l) (eqb-true x y (h .0)) (same-true xs ys (h .1))
+
+pub same-refl : (xs : List ℕ) → same xs xs ≡ true
+unfolding same and
+same-refl [] = refl
+same-refl (x ∷ xs) = rw (eq-eqb x x refl) (same-refl xs)
+
+pub same-iff : (xs ys : List ℕ) → (same xs ys ≡ true) ↔ (xs ≡ ys)
+same-iff xs ys = (same-true xs ys, λ e. rw e (same-refl ys))
+
+-- ---- one table under another
+
+-- As long, and nowhere higher.
+pub record Under (ys xs : List ℕ) : Type 0 where
+  pub long : length ys ≡ length xs
+  pub below : (n : ℕ) → at ys n ≤ at xs n
+
+pub under-refl : (xs : List ℕ) → Under xs xs
+under-refl xs = record { long = refl; below = λ n. le-refl (at xs n) }
+
+pub under-trans : {xs ys zs : List ℕ} → Under zs ys → Under ys xs → Under zs xs
+under-trans h k = record { long = h .long ∙ k .long; below = λ n. le-trans (h .below n) (k .below n) }
+
+pub at-ext : (xs ys : List ℕ) → length xs ≡ length ys → ((n : ℕ) → at xs n ≡ at ys n) → xs ≡ ys
+unfolding at
+at-ext xs ys e h = ext-getD never xs ys e (λ n b. h n)
+
+pub under-antisym : {xs ys : List ℕ} → Under ys xs → Under xs ys → ys ≡ xs
+under-antisym {xs} {ys} h k = at-ext ys xs (h .long) (λ n. le-antisymm (h .below n) (k .below n))
+
+-- A store that is no higher than what stood there.
+pub under-set : (xs : List ℕ) (n a : ℕ) → a ≤ at xs n → Under (set xs n a) xs
+under-set xs n a h = record { long = length-set xs n a; below = λ m. place m (ℕ-discrete m n) (decLt n (length xs)) }
+  where
+    place : (m : ℕ) → Dec (m ≡ n) → Dec (n < length xs) → at (set xs n a) m ≤ at xs m
+    place m (yes e) (yes b) = rw (e, at-set-same xs n a b) h
+    place m (yes e) (no b) = rw (set-out xs n a (omega arith)) (le-refl (at xs m))
+    place m (no e) d = rw (at-set-other xs n a m e) (le-refl (at xs m))
+
+-- ---- the sum of the table
+
+under-tail : {x y : ℕ} {xs ys : List ℕ} → Under (y ∷ ys) (x ∷ xs) → Under ys xs
+unfolding at
+under-tail h = record { long = suc-inj (h .long); below = λ n. h .below (suc n) }
+
+under-head : {x y : ℕ} {xs ys : List ℕ} → Under (y ∷ ys) (x ∷ xs) → y ≤ x
+unfolding at
+under-head h = h .below zero
+
+pub total-under : (ys xs : List ℕ) → Under ys xs → total ys ≤ total xs
+unfolding total
+total-under [] [] h = le-refl 0
+total-under [] (x ∷ xs) h = omega (arith, h .long)
+total-under (y ∷ ys) [] h = omega (arith, h .long)
+total-under (y ∷ ys) (x ∷ xs) h = omega (arith, under-head h, total-under ys xs (under-tail h))
+
+pub total-same : (ys xs : List ℕ) → Under ys xs → total ys ≡ total xs → ys ≡ xs
+unfolding total
+total-same [] [] h e = refl
+total-same [] (x ∷ xs) h e = absurd (omega (arith, h .long))
+total-same (y ∷ ys) [] h e = absurd (omega (arith, h .long))
+total-same (y ∷ ys) (x ∷ xs) h e =
+    let t : Under ys xs = under-tail h in
+    let a : y ≤ x = under-head h in
+    let b : total ys ≤ total xs = total-under ys xs t in
+    ap₂ (λ (a : ℕ) (l : List ℕ). a ∷ l) (omega arith) (total-same ys xs t (omega arith))

@@ -1,0 +1,250 @@
+-- The theorems of this crate, stated. Each is proved in proofs/Laws.antt under the name that stands beside it.
+-- Assumes nothing.
+use mathlib.Core.List.{List, List·Memᴰ, flatten}
+use mathlib.Core.Option.{none, some}
+use mathlib.Core.Path.{_≡_}
+use Prim.Native.Nat.{ℕ, _+_, _≤_, _<_}
+use lib.ListN.{length}
+use Rattle.cost.specs.Cost.{most, never, capped}
+use Rattle.plans.specs.System.{Way, Visit, System, Offers, Plan, cost}
+use Rattle.plans.specs.Sweep.{
+  at,
+  way,
+  least,
+  Rule,
+  renew,
+  lower,
+  sweep,
+  sweeps,
+  total,
+  Rests,
+  Settles,
+  run,
+  Inside,
+  Bounded,
+  Visited,
+  Once,
+  Above,
+  Leads,
+}
+use Rattle.plans.specs.Exact.{Exact, Attained, Start, first}
+use Rattle.plans.specs.Stages.{Stages, Apart}
+use Rattle.plans.specs.Trace.{firstPlace, wayAt, Mark, markAt, traceSweeps, untraced, SettledBy}
+
+-- ---- the numbers
+
+-- `attained-lower`, `attained-renew`: by either rule, every number that is not never is the capped cost of some plan, after any sweeps.
+abbrev pub AttainedStays : Rule → Type 0
+AttainedStays rule =
+    (S : System) (vs : List Visit) (k : ℕ) (xs : List ℕ) →
+    ((v : Visit) → List·Memᴰ v vs → List·Memᴰ v (S .visits)) →
+    ((n : ℕ) → Attained S n (at xs n)) →
+    (n : ℕ) → Attained S n (at (sweeps rule vs k xs) n)
+
+-- `none-cheaper`: where a sweep changes nothing, no plan, however it goes round loops, costs less than its node's number.
+abbrev pub NoneCheaper : Type 0
+NoneCheaper =
+    (S : System) (xs : List ℕ) →
+    Inside (S .visits) xs →
+    ((n c : ℕ) → S .price n ≡ some c → at xs n ≤ capped c) →
+    Rests lower (S .visits) xs →
+    (n : ℕ) (p : Plan S n) → at xs n ≤ capped (cost p)
+
+-- `run-exact`: where sweeps have settled, from any start, every number is exact, of whatever node.
+abbrev pub RunExact : Type 0
+RunExact =
+    (S : System) (xs ys : List ℕ) (k : ℕ) →
+    Inside (S .visits) xs →
+    Start S xs →
+    Settles lower (S .visits) xs k ys →
+    (n : ℕ) → Exact S n (at ys n)
+
+-- `stages-exact`: the same of runs one after the other.
+abbrev pub StagesExact : Type 0
+StagesExact =
+    (S : System) (vss : List (List Visit)) (xs zs : List ℕ) →
+    S .visits ≡ flatten vss →
+    Inside (flatten vss) xs →
+    Apart vss →
+    Start S xs →
+    Stages vss xs zs →
+    (n : ℕ) → Exact S n (at zs n)
+
+-- `first-start`: document 01's start, each priced node at its price and every other never, is a start.
+abbrev pub FirstStart : Type 0
+FirstStart = (S : System) (xs : List ℕ) → ((n : ℕ) → at xs n ≡ first (S .price n)) → Start S xs
+
+-- `exact-once`: a node has one exact number.
+abbrev pub ExactOnce : Type 0
+ExactOnce = (S : System) (n x y : ℕ) → Exact S n x → Exact S n y → x ≡ y
+
+-- ---- the sweeps
+
+-- `numbers-fall`: a sweep that keeps the lesser raises no number ..
+abbrev pub NumbersFall : Type 0
+NumbersFall = (vs : List Visit) (xs : List ℕ) (n : ℕ) → at (sweep lower vs xs) n ≤ at xs n
+
+-- `sum-falls`: .. and where it changes something, the sum of the table is smaller.
+abbrev pub SumFalls : Type 0
+SumFalls = (vs : List Visit) (xs : List ℕ) → (Rests lower vs xs → ⊥) → total (sweep lower vs xs) < total xs
+
+-- `rules-agree`: "becomes the least row sum" is "keeps the lesser", sweep after sweep, where no node has two different
+-- visits and each visited number is at least its own least way sum at the start; and that stays so.
+abbrev pub RulesAgree : Type 0
+RulesAgree =
+    (vs : List Visit) (k : ℕ) (xs : List ℕ) →
+    Once vs →
+    Above vs xs →
+    (sweeps renew vs k xs ≡ sweeps lower vs k xs) × Above vs (sweeps lower vs k xs)
+
+-- `runs-agree`: so do the runs.
+abbrev pub RunsAgree : Type 0
+RunsAgree =
+    (vs : List Visit) (fuel : ℕ) (xs : List ℕ) →
+    Once vs →
+    Above vs xs →
+    run renew vs fuel xs ≡ run lower vs fuel xs
+
+-- `settles-once`: where sweeps have settled, count and numbers are settled by the start.
+abbrev pub SettlesOnce : Type 0
+SettlesOnce =
+    (rule : Rule) (vs : List Visit) (xs ys zs : List ℕ) (k l : ℕ) →
+    Settles rule vs xs k ys →
+    Settles rule vs xs l zs →
+    (k ≡ l) × (ys ≡ zs)
+
+-- ---- how many sweeps
+
+-- The run settles with this fuel, and takes at most `bound` sweeps.
+abbrev pub SettlesWithin : Rule → List Visit → List ℕ → ℕ → ℕ → Type 0
+SettlesWithin rule vs xs fuel bound =
+    Settles rule vs xs (run rule vs fuel xs .count) (run rule vs fuel xs .numbers) × (run rule vs fuel xs .count ≤ bound)
+
+-- `visited-bound`: one sweep more than there are visited nodes, from any start: "at most 2G + 1 sweeps", the visited nodes
+-- being the two values of each of the G gates' outputs.
+abbrev pub VisitedBound : Type 0
+VisitedBound =
+    (vs : List Visit) (us xs : List ℕ) (fuel : ℕ) →
+    ((n : ℕ) → Visited vs n → List·Memᴰ n us) →
+    Bounded xs →
+    Inside vs xs →
+    length us < fuel →
+    SettlesWithin lower vs xs fuel (length us + 1)
+
+-- `renew-bound`: the same where a number becomes the least way sum.
+abbrev pub RenewBound : Type 0
+RenewBound =
+    (vs : List Visit) (us xs : List ℕ) (fuel : ℕ) →
+    ((n : ℕ) → Visited vs n → List·Memᴰ n us) →
+    Bounded xs →
+    Inside vs xs →
+    Once vs →
+    Above vs xs →
+    length us < fuel →
+    SettlesWithin renew vs xs fuel (length us + 1)
+
+-- `lead-bound`: where each way needs one of the nodes `outs`, and no other node that is visited, one sweep more than there
+-- are such nodes: "CO and SO at most G + 1", `outs` being the G gates' outputs, observed.
+abbrev pub LeadBound : Type 0
+LeadBound =
+    (vs : List Visit) (outs xs : List ℕ) (fuel : ℕ) →
+    Leads vs outs →
+    Bounded xs →
+    Inside vs xs →
+    length outs < fuel →
+    SettlesWithin lower vs xs fuel (length outs + 1)
+
+-- ---- more to plan with
+
+-- Whatever `S` has, `T` has too: each price, or a lower one, and each way.
+pub record Within (S T : System) : Type 0 where
+  pub prices : (n c : ℕ) → S .price n ≡ some c → (d : ℕ) × (T .price n ≡ some d) × (d ≤ c)
+  pub ways : (n : ℕ) (w : Way) → Offers (S .visits) n w → Offers (T .visits) n w
+
+-- `plan-within`: then each plan of `S` gives one of `T` that costs no more ..
+abbrev pub PlanWithin : Type 0
+PlanWithin = (S T : System) → Within S T → (n : ℕ) (p : Plan S n) → (q : Plan T n) × (cost q ≤ cost p)
+
+-- `exact-within`: .. and no number of `T` is higher.
+abbrev pub ExactWithin : Type 0
+ExactWithin = (S T : System) → Within S T → (n x y : ℕ) → Exact S n x → Exact T n y → y ≤ x
+
+-- `more-ways`, `more-prices`: in particular where ways are added ..
+abbrev pub MoreWays : Type 0
+MoreWays =
+    (S T : System) →
+    ((n : ℕ) → S .price n ≡ T .price n) →
+    ((v : Visit) → List·Memᴰ v (S .visits) → List·Memᴰ v (T .visits)) →
+    (n x y : ℕ) → Exact S n x → Exact T n y → y ≤ x
+
+-- .. and where prices are added or lowered.
+abbrev pub MorePrices : Type 0
+MorePrices =
+    (S T : System) →
+    S .visits ≡ T .visits →
+    ((n c : ℕ) → S .price n ≡ some c → (d : ℕ) × (T .price n ≡ some d) × (d ≤ c)) →
+    (n x y : ℕ) → Exact S n x → Exact T n y → y ≤ x
+
+-- `plan-at-any-prices`: a plan is one at any other prices of the same nodes.
+abbrev pub PlanAtAnyPrices : Type 0
+PlanAtAnyPrices =
+    (S T : System) →
+    ((n c : ℕ) → S .price n ≡ some c → (d : ℕ) × (T .price n ≡ some d)) →
+    ((n : ℕ) (w : Way) → Offers (S .visits) n w → Offers (T .visits) n w) →
+    (n : ℕ) → Plan S n → Plan T n
+
+-- `attained-more`: numbers that stand are still attained where prices and ways are added, so that sweeps go on from them.
+abbrev pub AttainedMore : Type 0
+AttainedMore =
+    (S T : System) →
+    ((n c : ℕ) → S .price n ≡ some c → T .price n ≡ some c) →
+    ((n : ℕ) (w : Way) → Offers (S .visits) n w → Offers (T .visits) n w) →
+    (n x : ℕ) → Attained S n x → Attained T n x
+
+-- ---- the settled row
+
+-- `first-least`: the place that a visit remembers is that of the first among the ways of the least sum.
+abbrev pub FirstLeast : Type 0
+FirstLeast =
+    (xs : List ℕ) (ws : List Way) →
+    least xs ws < never →
+    (firstPlace xs ws < length ws)
+    × (way xs (wayAt ws (firstPlace xs ws)) ≡ least xs ws)
+    × ((q : ℕ) → q < firstPlace xs ws → least xs ws < way xs (wayAt ws q))
+
+-- `traced-numbers`: sweeps that remember leave the same numbers ..
+abbrev pub TracedNumbers : Type 0
+TracedNumbers =
+    (rule : Rule) (vs : List Visit) (k : ℕ) (xs : List ℕ) →
+    traceSweeps rule vs k (untraced xs) .numbers ≡ sweeps rule vs k xs
+
+-- `traces-agree`: .. and by both rules the same marks.
+abbrev pub TracesAgree : Type 0
+TracesAgree =
+    (vs : List Visit) (k : ℕ) (xs : List ℕ) →
+    Once vs →
+    Above vs xs →
+    traceSweeps renew vs k (untraced xs) ≡ traceSweeps lower vs k (untraced xs)
+
+-- `unmarked-stood`: a node without a mark has the number that it had at the start.
+abbrev pub UnmarkedStood : Type 0
+UnmarkedStood =
+    (vs : List Visit) (k : ℕ) (xs : List ℕ) →
+    Bounded xs →
+    Inside vs xs →
+    (n : ℕ) →
+    markAt (traceSweeps lower vs k (untraced xs) .marks) n ≡ none →
+    at (sweeps lower vs k xs) n ≡ at xs n
+
+-- `settled-row`: where sweeps have settled, the way by which a figure was last lowered still sums to it, and each node that
+-- it needs was never lowered or last at an earlier visit.
+abbrev pub SettledRow : Type 0
+SettledRow =
+    (vs : List Visit) (k : ℕ) (xs : List ℕ) →
+    Bounded xs →
+    Inside vs xs →
+    Rests lower vs (sweeps lower vs k xs) →
+    (n : ℕ) (m : Mark) →
+    markAt (traceSweeps lower vs k (untraced xs) .marks) n ≡ some m →
+    at (sweeps lower vs k xs) n ≤ most →
+    SettledBy vs xs (traceSweeps lower vs k (untraced xs)) n m
