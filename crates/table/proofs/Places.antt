@@ -1,13 +1,13 @@
 -- What stands at a place of a table that is put together from parts of a fixed length.
 -- Assumes nothing.
-use mathlib.Core.List.{List, [], _∷_, _++_, append-assoc}
+use mathlib.Core.List.{List, [], _∷_, _++_, append-assoc, append-nil}
 use mathlib.Core.Path.{_≡_, refl, sym, ap, _∙_}
-use Prim.Native.Nat.{ℕ, zero, suc, _+_, _*_, _-_, _≤_, _<_}
+use Prim.Native.Nat.{ℕ, zero, suc, _+_, _*_, _-_, _≤_, _<_, min}
 use native.Mathlib.Nat.{zero-add, add-comm, add-assoc, zero-mul, suc-mul, suc-sub-suc, not-suc-le-zero, le-of-suc-le-suc}
 use native.Mathlib.Omega.{arith}
 use lib.ListN.{length, getD, replicate, length-append, List·getD-append}
-use lib.Seq.{getD-append-add}
-use Rattle.table.specs.Blocks.{fitted, blocks}
+use lib.Seq.{getD-append-add, drop-length}
+use Rattle.table.specs.Blocks.{fitted, blocks, cleared}
 
 module _ {A : Type 0} (d : A) where
   pub length-fitted : (n : ℕ) (xs : List A) → length (fitted d n xs) ≡ n
@@ -55,6 +55,13 @@ module _ {A : Type 0} (f : A → List ℕ) (k : ℕ) (even : (x : A) → length 
       rw (suc-mul i k, add-comm (i * k) k, add-assoc k (i * k) j, ← even x)
       (getD-append-add (f x) (blocks f xs) (i * length (f x) + j) 0
       ∙ rw (even x) (getD-blocks d xs i j (le-of-suc-le-suc h) q))
+
+-- clearing as many numbers as there are clears them all
+pub cleared-all : (xs : List ℕ) → cleared (length xs) xs ≡ replicate (length xs) 0
+unfolding cleared
+cleared-all xs =
+    let e : min (length xs) (length xs) ≡ length xs = omega arith in
+    rw (e, drop-length xs) (append-nil (replicate (length xs) 0))
 
 pub blocks-append : {A : Type 0} (f : A → List ℕ) (xs ys : List A) → blocks f (xs ++ ys) ≡ blocks f xs ++ blocks f ys
 unfolding blocks

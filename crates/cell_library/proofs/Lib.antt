@@ -1,0 +1,9 @@
+pub mod Cursors
+pub mod Entries
+pub mod Figures
+pub mod Laws
+pub mod Names
+pub mod Passes
+pub mod Places
+pub mod Stores
+pub mod Walks

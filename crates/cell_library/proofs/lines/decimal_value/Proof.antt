@@ -1,0 +1,28 @@
+-- `decimal_value` meets its contract. Assumes nothing.
+use mathlib.Core.Path.{sym, ap, _∙_}
+use Rattle.text.specs.declared.Numeral.{Numeral}
+use Rattle.text.specs.Numeral.{numeralRead}
+use Rattle.cell_library.specs.Passes.{orZero}
+use borrow.Author.Needs.{needs}
+use Rattle.cell_library.proofs.lines.decimal_value.Statement.{statement}
+use Rattle.cell_library.proofs.lines.decimal_value.Tie as tie
+
+decimal-requires : tie.Need-decimal-requires
+decimal-requires c κs = search needs
+
+enum-known-v : tie.Need-enum-known-v
+enum-known-v c = search needs
+
+enum-told : tie.Need-enum-told
+enum-told c = search needs
+
+returns : tie.Need-returns
+unfolding orZero numeralRead
+returns c = sym (ap (λ (v : Numeral). orZero (numeralRead v)) (c .before .v .given .1)) ∙ ap orZero (c .before .before .before .decimal .ensures)
+
+returns-2 : tie.Need-returns-2
+unfolding orZero numeralRead
+returns-2 c = sym (ap (λ (v : Numeral). orZero (numeralRead v)) (c .enum-told .given .1)) ∙ ap orZero (c .before .before .decimal .ensures)
+
+pub decimal-value-spec : {M : Type 1} → statement M
+decimal-value-spec = tie.close (tie.spec decimal-requires enum-known-v enum-told returns returns-2)

@@ -1,0 +1,19 @@
+-- `is_join` meets its contract. Assumes nothing.
+use Rattle.text.specs.Bytes.{bytes}
+use Rattle.cell_library.specs.Library.{isJoin}
+use borrow.Author.Needs.{needs}
+use Rattle.cell_library.proofs.rows.is_join.Statement.{statement}
+use Rattle.cell_library.proofs.rows.is_join.Tie as tie
+
+slice-aggregate-same : tie.Need-slice-aggregate-same
+slice-aggregate-same c = search needs
+
+same-requires : tie.Need-same-requires
+same-requires c κs = search needs
+
+returns : tie.Need-returns
+unfolding isJoin bytes
+returns c = c .same .ensures
+
+pub is-join-spec : {M : Type 1} → statement M
+is-join-spec = tie.close (tie.spec slice-aggregate-same same-requires returns)

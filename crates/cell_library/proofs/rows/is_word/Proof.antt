@@ -1,0 +1,65 @@
+-- `is_word` meets its contract. Assumes nothing.
+use Rattle.text.specs.Bytes.{bytes}
+use Rattle.cell_library.specs.Library.{wordBytes}
+use Rattle.cell_library.specs.Passes.{wordAt}
+use Rattle.cell_library.proofs.Passes.{at-CC, at-SO}
+use borrow.Author.Needs.{needs}
+use Rattle.cell_library.proofs.rows.is_word.Statement.{statement}
+use Rattle.cell_library.proofs.rows.is_word.Tie as tie
+
+slice-aggregate-same : tie.Need-slice-aggregate-same
+slice-aggregate-same c = search needs
+
+same-requires : tie.Need-same-requires
+same-requires c κs = search needs
+
+returns : tie.Need-returns
+unfolding wordBytes bytes
+returns c = rw (at-CC (c .before .before .before .before .args .place) (c .before .before .if1 .taken)) (c .same .ensures)
+
+slice-aggregate-same-2 : tie.Need-slice-aggregate-same-2
+slice-aggregate-same-2 c = search needs
+
+same-requires-2 : tie.Need-same-requires-2
+same-requires-2 c κs = search needs
+
+returns-2 : tie.Need-returns-2
+unfolding wordBytes bytes wordAt
+returns-2 c = rw (c .before .before .if2 .taken) (c .same2 .ensures)
+
+slice-aggregate-same-3 : tie.Need-slice-aggregate-same-3
+slice-aggregate-same-3 c = search needs
+
+same-requires-3 : tie.Need-same-requires-3
+same-requires-3 c κs = search needs
+
+returns-3 : tie.Need-returns-3
+unfolding wordBytes bytes wordAt
+returns-3 c = rw (c .before .before .if3 .taken) (c .same3 .ensures)
+
+slice-aggregate-same-4 : tie.Need-slice-aggregate-same-4
+slice-aggregate-same-4 c = search needs
+
+same-requires-4 : tie.Need-same-requires-4
+same-requires-4 c κs = search needs
+
+returns-4 : tie.Need-returns-4
+unfolding wordBytes bytes
+returns-4 c = rw (at-SO (c .before .before .before .before .before .before .args .place) (c .before .before .before .before .if1 .left) (c .before .before .before .if2 .left) (c .before .before .if3 .left)) (c .same4 .ensures)
+
+pub is-word-spec : {M : Type 1} → statement M
+is-word-spec =
+    tie.close
+    (tie.spec
+    slice-aggregate-same
+    same-requires
+    returns
+    slice-aggregate-same-2
+    same-requires-2
+    returns-2
+    slice-aggregate-same-3
+    same-requires-3
+    returns-3
+    slice-aggregate-same-4
+    same-requires-4
+    returns-4)

@@ -1,0 +1,45 @@
+-- `power` meets its contract. Assumes nothing.
+use mathlib.Core.Path.{_≡_, refl}
+use Prim.Native.Nat.{_-_, _^_, _≤_, _<_}
+use native.Mathlib.Nat.{pow-suc, pow-le-pow-right}
+use native.Mathlib.Numerals.{add-one}
+use native.Mathlib.Omega.{arith}
+use Rattle.cell_library.proofs.rows.power.Statement.{statement}
+use Rattle.cell_library.proofs.rows.power.Tie as tie
+
+abbrev Inv-loop : tie.InvT-loop
+Inv-loop k p₀ i₀ p i = (i ≤ k) × (p ≡ 2 ^ i)
+
+abbrev μ-loop : tie.MeasureT-loop
+μ-loop k p₀ i₀ p i = k - i
+
+loop-holds : tie.Need-loop-holds Inv-loop μ-loop
+loop-holds c = (omega arith, refl)
+
+mul-p : tie.Need-mul-p Inv-loop μ-loop
+mul-p c =
+    let l = c .before .loop in
+    let few : l .i ≤ 30 = omega arith in
+    let two : 0 < 2 = omega arith in
+    omega (arith, pow-le-pow-right two few)
+
+add-i : tie.Need-add-i Inv-loop μ-loop
+add-i c = omega arith
+
+loop-less : tie.Need-loop-less Inv-loop μ-loop
+loop-less c = omega arith
+
+loop-again : tie.Need-loop-again Inv-loop μ-loop
+loop-again c =
+    let l = c .before .loop in
+    (omega arith, rw (add-one (l .i), pow-suc 2 (l .i)) (omega arith))
+
+returns : tie.Need-returns Inv-loop μ-loop
+returns c =
+    let l = c .before .loop in
+    let all : l .i ≡ c .before .before .args .k = omega arith in
+    rw (← all) (l .inv .1)
+
+pub power-spec : {M : Type 1} → statement M
+power-spec =
+    tie.close (tie.spec Inv-loop μ-loop loop-holds mul-p add-i loop-less loop-again returns)

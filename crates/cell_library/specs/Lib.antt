@@ -1,0 +1,8 @@
+pub mod Answer
+pub mod Cells
+pub mod Faults
+pub mod Layout
+pub mod Library
+pub mod Passes
+pub mod Sound
+pub mod Walk

@@ -1,0 +1,243 @@
+-- The library text: its six lines an entry, and where it stops. Document 01, "Cells" and "Where a text stops", library line.
+-- Assumes nothing.
+use mathlib.Core.Bool.{Bool, true, false, not, _&&_, _||_}
+use mathlib.Core.List.{List, [], _∷_, _++_}
+use mathlib.Core.Option.{Option, none, some}
+use Prim.Native.Nat.{ℕ, suc, _+_, _*_, _^_}
+use lib.Dec.{leb, ltb, eqb}
+use lib.ListN.{length}
+use Rattle.text.specs.Bytes.{bytes, bytes-open}
+use Rattle.text.specs.Class.{pick}
+use Rattle.text.specs.Lines.{lines, sameBytes, lines-open}
+use Rattle.text.specs.Numeral.{numeral, value, decimal, nameForm, numeral-open}
+use Rattle.text.specs.Refusal.{Read, refused, read, _>>=_, _>>_, weigh, form, refusal-open}
+use Rattle.cell_library.specs.Cells.{Row, rowOf, Group, Cell, bit, cells-open}
+
+-- A line by its fields.
+abbrev pub Fields : Type 0
+Fields = List (List ℕ)
+
+-- ---- the rows of a line
+
+-- "1 to 7 digits"
+unfoldable pub mostDigits : ℕ
+mostDigits = 7
+
+unfoldable pub holds : {A : Type 0} → Option A → Bool
+holds none = false
+holds (some a) = true
+
+unfoldable pub isRow : List ℕ → Bool
+isRow f = holds (numeral 8 mostDigits f)
+
+unfoldable pub isJoin : List ℕ → Bool
+isJoin f = sameBytes f (bytes "M")
+
+-- What stands before a field: the line's word, a row, or an M.
+pub data Before : Type 0 where
+  word row join : Before
+
+-- A row or an M in its place: an M stands between two rows.
+unfoldable pub mayJoin : Before → Bool
+mayJoin word = false
+mayJoin row = true
+mayJoin join = false
+
+unfoldable pub mayEnd : Before → Bool
+mayEnd word = true
+mayEnd row = true
+mayEnd join = false
+
+-- "a line or an M out of place is bad form": the fields after a line's word are rows, with an M only between two rows.
+unfoldable pub rowsForm : Before → Fields → Bool
+rowsForm b [] = mayEnd b
+rowsForm b (f ∷ fs) = pick (isJoin f) (mayJoin b && rowsForm join fs) (isRow f && rowsForm row fs)
+
+unfoldable pub joinFirst : Fields → Bool
+joinFirst [] = false
+joinFirst (f ∷ fs) = isJoin f
+
+unfoldable pub withRow : Bool → Row → List Group → List Group
+withRow false r gs = (r ∷ []) ∷ gs
+withRow true r [] = (r ∷ []) ∷ []
+withRow true r (g ∷ gs) = (r ∷ g) ∷ gs
+
+-- "Rows joined by M form a group of alternatives": a row before an M stands in the group of the row behind it.
+unfoldable pub groupsOf : Fields → List Group
+groupsOf [] = []
+groupsOf (f ∷ fs) = pick (isJoin f) (groupsOf fs) (withRow (joinFirst fs) (rowOf (value 8 0 f)) (groupsOf fs))
+
+-- ---- refusals 6, 7 and 8, of the groups of a line
+
+unfoldable pub anyGroup : (Group → Bool) → List Group → Bool
+anyGroup p [] = false
+anyGroup p (g ∷ gs) = p g || anyGroup p gs
+
+unfoldable pub anyRow : (Row → Bool) → Group → Bool
+anyRow p [] = false
+anyRow p (r ∷ rs) = p r || anyRow p rs
+
+-- "a group above 16 rows"
+unfoldable pub aboveSixteen : Group → Bool
+aboveSixteen g = ltb 16 (length g)
+
+-- "a row with a bit above its columns": a CC or SC row has 2n columns, a CO or SO row three more.
+unfoldable pub above : ℕ → Row → Bool
+above width r = leb (2 ^ width) (r .columns)
+
+-- "a CC or SC row naming no pin" (7 comes first, so that each bit set is a pin's)
+unfoldable pub namesNone : Row → Bool
+namesNone r = eqb (r .columns) 0
+
+-- "a CO or SO row without "observe the output""
+unfoldable pub observesNot : ℕ → Row → Bool
+observesNot n r = not (bit (r .columns) (2 * n + 2))
+
+-- ---- the six lines of an entry
+
+pub data Word : Type 0 where
+  CC CO SC SO : Word
+
+unfoldable pub wordBytes : Word → List ℕ
+wordBytes CC = bytes "CC"
+wordBytes CO = bytes "CO"
+wordBytes SC = bytes "SC"
+wordBytes SO = bytes "SO"
+
+-- "CC and SC have two groups (output to 0, output to 1), CO and SO one for each pin."
+unfoldable pub groupCount : Word → ℕ → ℕ
+groupCount CC n = 2
+groupCount CO n = n
+groupCount SC n = 2
+groupCount SO n = n
+
+unfoldable pub columnCount : Word → ℕ → ℕ
+columnCount CC n = 2 * n
+columnCount CO n = 2 * n + 3
+columnCount SC n = 2 * n
+columnCount SO n = 2 * n + 3
+
+unfoldable pub idle : Word → ℕ → Row → Bool
+idle CC n = namesNone
+idle CO n = observesNot n
+idle SC n = namesNone
+idle SO n = observesNot n
+
+-- The groups of a line that starts with this word; none is bad form.
+unfoldable pub rowsAfter : Word → Fields → Option (List Group)
+rowsAfter w [] = none
+rowsAfter w (f ∷ fs) = pick (sameBytes f (wordBytes w) && rowsForm word fs) (some (groupsOf fs)) none
+
+unfoldable pub rowLine : ℕ → Word → ℕ → Fields → Read (List Group)
+rowLine line w n fs = do
+  gs ← form 3 line (rowsAfter w fs)
+  weigh line
+      ((6, not (eqb (length gs) (groupCount w n)) || anyGroup aboveSixteen gs)
+      ∷ (7, anyGroup (anyRow (above (columnCount w n))) gs)
+      ∷ (8, anyGroup (anyRow (idle w n)) gs)
+      ∷ [])
+  read gs
+
+pub record Header : Type 0 where
+  pub name : List ℕ
+  pub pins : ℕ
+
+unfoldable pub headerOf : List ℕ → Option ℕ → Option Header
+headerOf name none = none
+headerOf name (some n) = pick (nameForm name) (some (record { name = name; pins = n })) none
+
+-- `Name,NAME,n`
+unfoldable pub nameAfter : Fields → Option Header
+nameAfter [] = none
+nameAfter (f ∷ []) = none
+nameAfter (f ∷ (name ∷ [])) = none
+nameAfter (f ∷ (name ∷ (n ∷ []))) = pick (sameBytes f (bytes "Name")) (headerOf name (decimal n)) none
+nameAfter (f ∷ (name ∷ (n ∷ (x ∷ xs)))) = none
+
+unfoldable pub endAfter : Fields → Option (Unit {0})
+endAfter [] = none
+endAfter (f ∷ []) = pick (sameBytes f (bytes "End")) (some tt) none
+endAfter (f ∷ (x ∷ xs)) = none
+
+-- The place of a name among the cells, from 0; the count of cells where it is not among them.
+unfoldable pub cellNamed : List ℕ → List Cell → ℕ
+cellNamed name [] = 0
+cellNamed name (c ∷ cs) = pick (sameBytes name (c .name)) 0 (suc (cellNamed name cs))
+
+-- "4 name used before"
+unfoldable pub nameUsed : List ℕ → List Cell → Bool
+nameUsed name cells = ltb (cellNamed name cells) (length cells)
+
+-- "5 pins not 1 to 8"
+unfoldable pub pinsBad : ℕ → Bool
+pinsBad n = not (leb 1 n && leb n 8)
+
+unfoldable pub nameLine : ℕ → List Cell → Fields → Read Header
+nameLine line cells fs = do
+  h ← form 3 line (nameAfter fs)
+  weigh line
+      ((4, nameUsed (h .name) cells)
+      ∷ (5, pinsBad (h .pins))
+      ∷ (9, leb 32 (length cells))
+      ∷ [])
+  read h
+
+-- "The six lines of an entry stand in the order shown": what is read of the entry at hand, and the line that it wants next.
+pub data Place : Type 0 where
+  outside : Place
+  afterName afterCC afterCO afterSC afterSO : Cell → Place
+
+pub record Reading : Type 0 where
+  pub cells : List Cell
+  pub place : Place
+
+unfoldable pub begun : Header → Cell
+begun h = record { name = h .name; pins = h .pins; cc = []; co = []; sc = []; so = [] }
+
+unfoldable pub withGroups : Word → List Group → Cell → Cell
+withGroups CC gs c = record { name = c .name; pins = c .pins; cc = gs; co = c .co; sc = c .sc; so = c .so }
+withGroups CO gs c = record { name = c .name; pins = c .pins; cc = c .cc; co = gs; sc = c .sc; so = c .so }
+withGroups SC gs c = record { name = c .name; pins = c .pins; cc = c .cc; co = c .co; sc = gs; so = c .so }
+withGroups SO gs c = record { name = c .name; pins = c .pins; cc = c .cc; co = c .co; sc = c .sc; so = gs }
+
+unfoldable pub entryLine : ℕ → List Cell → Word → (Cell → Place) → Cell → Fields → Read Reading
+entryLine line cells w next c fs = do
+  gs ← rowLine line w (c .pins) fs
+  read (record { cells = cells; place = next (withGroups w gs c) })
+
+unfoldable pub libraryLine : ℕ → List Cell → Place → Fields → Read Reading
+libraryLine line cells outside fs = do
+  h ← nameLine line cells fs
+  read (record { cells = cells; place = afterName (begun h) })
+libraryLine line cells (afterName c) fs = entryLine line cells CC afterCC c fs
+libraryLine line cells (afterCC c) fs = entryLine line cells CO afterCO c fs
+libraryLine line cells (afterCO c) fs = entryLine line cells SC afterSC c fs
+libraryLine line cells (afterSC c) fs = entryLine line cells SO afterSO c fs
+libraryLine line cells (afterSO c) fs = do
+  form 3 line (endAfter fs)
+  read (record { cells = cells ++ (c ∷ []); place = outside })
+
+-- "An entry broken off by the end is 3 at the line after the last."
+unfoldable pub libraryEnd : ℕ → List Cell → Place → Read (List Cell)
+libraryEnd line cells outside = read cells
+libraryEnd line cells (afterName c) = refused 3 line
+libraryEnd line cells (afterCC c) = refused 3 line
+libraryEnd line cells (afterCO c) = refused 3 line
+libraryEnd line cells (afterSC c) = refused 3 line
+libraryEnd line cells (afterSO c) = refused 3 line
+
+unfoldable pub libraryFrom : ℕ → Reading → List (Option Fields) → Read (List Cell)
+libraryFrom line r [] = libraryEnd line (r .cells) (r .place)
+libraryFrom line r (l ∷ ls) = do
+  fs ← form 3 line l
+  next ← libraryLine line (r .cells) (r .place) fs
+  libraryFrom (suc line) next ls
+
+-- "Lines count from 1 in each text."
+unfoldable pub library : List ℕ → Read (List Cell)
+library t = libraryFrom 1 (record { cells = []; place = outside }) (lines t)
+
+-- Opens the page's definitions, where a figure computes with them.
+unfoldable pub library-open : ℕ
+unfolding bytes-open lines-open numeral-open refusal-open cells-open mostDigits holds isRow isJoin mayJoin mayEnd rowsForm joinFirst withRow groupsOf anyGroup anyRow aboveSixteen above namesNone observesNot wordBytes groupCount columnCount idle rowsAfter rowLine headerOf nameAfter endAfter cellNamed nameUsed pinsBad nameLine begun withGroups entryLine libraryLine libraryEnd libraryFrom library
+library-open = 0

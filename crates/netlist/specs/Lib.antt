@@ -1,0 +1,4 @@
+pub mod Layout
+pub mod Netlist
+pub mod Plain
+pub mod Sound
