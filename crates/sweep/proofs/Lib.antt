@@ -1,0 +1,16 @@
+pub mod Sweeping
+pub mod Placing
+pub mod Visiting
+pub mod Bounding
+pub mod Planning
+pub mod Exactness
+pub mod Laws
+pub mod Figures
+pub mod Columns
+pub mod Rows
+pub mod Visits
+pub mod Running
+pub mod Starting
+pub mod Naming
+pub mod Bridge
+pub mod Calculating

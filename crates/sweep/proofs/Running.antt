@@ -1,0 +1,33 @@
+-- A run, sweep by sweep: what its loop keeps, and what it comes to.
+-- Assumes nothing.
+use mathlib.Core.Bool.{Bool, true, false}
+use mathlib.Core.List.{List}
+use mathlib.Core.Path.{_≡_, sym, _∙_}
+use Prim.Native.Nat.{ℕ, suc, _+_, _-_, _^_, _≤_, _<_}
+use native.Mathlib.Omega.{arith}
+use Rattle.plans.specs.System.{Visit}
+use Rattle.plans.specs.Sweep.{Rule, Settles}
+use Rattle.sweep.specs.Changes.{Going}
+use Rattle.sweep.specs.Runs.{Swept, Runs}
+use Rattle.sweep.proofs.Sweeping.{going-first, going-on, going-ends, going-within}
+
+-- Before the sweep that counts `count`, all sweeps before it changed something.
+abbrev pub Before : Rule → List Visit → List ℕ → ℕ → List ℕ → Type 0
+Before rule vs xs count ys = (1 ≤ count) × Going rule vs xs (count - 1) ys
+
+pub run-first : (rule : Rule) (vs : List Visit) (xs : List ℕ) → Before rule vs xs 1 xs
+run-first rule vs xs = (omega arith, going-first rule vs xs)
+
+module _ {rule : Rule} {vs : List Visit} {xs ys zs : List ℕ} {count : ℕ} {changed : Bool} (r : Runs rule vs xs) (b : Before rule vs xs count ys) (s : Swept rule vs ys zs changed) where
+  pub run-on : changed ≡ true → Before rule vs xs (count + 1) zs
+  run-on t =
+      let e : count + 1 - 1 ≡ suc (count - 1) = omega arith in
+      (omega arith, rw (e, s .numbers) (going-on rule vs (r .flag) (b .1) (sym (s .flag) ∙ t)))
+
+  pub run-fits : changed ≡ true → count + 1 < 2 ^ 32
+  run-fits t = omega (arith, going-within (r .fuel) (r .bound) (r .within) (run-on t .1), r .small)
+
+  pub run-ends : changed ≡ false → Settles rule vs xs count zs
+  run-ends t =
+      let e : count ≡ suc (count - 1) = omega arith in
+      rw (e, s .numbers) (going-ends rule vs (r .flag) (b .1) (sym (s .flag) ∙ t))

@@ -1,0 +1,30 @@
+-- What the calls that visit, sweep and run leave in the numbers and say.
+-- Assumes nothing.
+use mathlib.Core.Bool.{Bool, false}
+use mathlib.Core.List.{List}
+use mathlib.Core.Logic.{_↔_}
+use mathlib.Core.Path.{_≡_}
+use Prim.Native.Nat.{ℕ, _^_, _<_}
+use Rattle.plans.specs.System.{Visit}
+use Rattle.plans.specs.Sweep.{Rule, sweep, Rests}
+use Rattle.plans.specs.Statements.{SettlesWithin}
+use Rattle.sweep.specs.Changes.{alters, changes}
+
+-- From the numbers `xs`, a visit by this rule left `ys`, and said whether it changed a number.
+pub record Renewed (rule : Rule) (v : Visit) (xs ys : List ℕ) (changed : Bool) : Type 0 where
+  pub numbers : ys ≡ rule xs v
+  pub flag : changed ≡ alters rule v xs
+
+-- The same of a sweep over these visits.
+pub record Swept (rule : Rule) (vs : List Visit) (xs ys : List ℕ) (changed : Bool) : Type 0 where
+  pub numbers : ys ≡ sweep rule vs xs
+  pub flag : changed ≡ changes rule vs xs
+
+-- What a run asks: a sweep's flag tells whether it changed the numbers, and the sweeps settle, after so few that the count
+-- holds their number.
+pub record Runs (rule : Rule) (vs : List Visit) (xs : List ℕ) : Type 0 where
+  pub flag : (ys : List ℕ) → (changes rule vs ys ≡ false) ↔ Rests rule vs ys
+  pub fuel : ℕ
+  pub bound : ℕ
+  pub within : SettlesWithin rule vs xs fuel bound
+  pub small : bound < 2 ^ 32
