@@ -1,0 +1,4 @@
+pub mod Outcome
+pub mod Demands
+pub mod Figures
+pub mod Answer

@@ -1,0 +1,14 @@
+-- What a function leaves that writes at a cursor. Document 01, "Report", has none of this: it says how the report comes
+-- to stand in its buffer.
+-- Assumes nothing.
+use mathlib.Core.List.{List}
+use mathlib.Core.Path.{_≡_}
+use Prim.Native.Nat.{ℕ, _+_, min}
+use lib.ListN.{length}
+use lib.Seq.{sets}
+
+-- The bytes are stored from the cursor on, those past the buffer's end nowhere, and the next cursor stands behind them;
+-- all the places past the end are as one.
+pub record Put (at : ℕ) (put before after : List ℕ) (next : ℕ) : Type 0 where
+  pub stored : after ≡ sets before at put
+  pub moved : min next (length before + 1) ≡ min (at + length put) (length before + 1)

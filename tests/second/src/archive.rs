@@ -1,0 +1,29 @@
+//! The C entry of the proved archive; include/scoap.h describes it. Only programs that link the
+//! archive may call it.
+
+mod c {
+    extern "C" {
+        pub fn scoap_report(
+            lib: *const u8,
+            lib_len: usize,
+            net: *const u8,
+            net_len: usize,
+            report: *mut u8,
+            report_len: usize,
+        ) -> u64;
+    }
+}
+
+pub fn scoap_report(lib: &[u8], net: &[u8], report: &mut [u8]) -> u64 {
+    // Each slice is valid for its length, and no two overlap.
+    unsafe {
+        c::scoap_report(
+            lib.as_ptr(),
+            lib.len(),
+            net.as_ptr(),
+            net.len(),
+            report.as_mut_ptr(),
+            report.len(),
+        )
+    }
+}

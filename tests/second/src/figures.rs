@@ -1,0 +1,306 @@
+//! The scope paper's figures to hold, and netlists that grow with a size: texts for the unit tests,
+//! the comparison and the benchmark.
+
+use std::fmt::Write;
+
+pub const C1130: &str = "\
+Name,C1130,3
+CC,41,M,11,M,3,125
+CO,1025,1105,1121
+SC,40,M,10,M,2,124
+SO,1024,1104,1120
+End
+";
+
+/// A flip-flop with the pins D, C and R.
+pub const C1490: &str = "\
+Name,C1490,3
+CC,22,M,134,74
+CO,1034,1334,M,1474,1222
+SC,23,M,135,75
+SO,1035,1335,M,1475,1223
+End
+";
+
+pub const NAND2: &str = "\
+Name,NAND2,2
+CC,13,21,M,5
+CO,203,211
+SC,12,20,M,4
+SO,202,210
+End
+";
+
+pub const AND2: &str = "\
+Name,AND2,2
+CC,21,M,5,13
+CO,203,211
+SC,20,M,4,12
+SO,202,210
+End
+";
+
+pub const INV: &str = "\
+Name,INV,1
+CC,3,5
+CO,41
+SC,2,4
+SO,40
+End
+";
+
+pub const C1130_NET: &str = "\
+input,1
+input,2
+input,3
+gate,C1130,4,1,2,3
+output,4
+";
+
+/// As the scope paper prints it.
+pub const C1130_REPORT: &str = "\
+line,cc0,cc1,sc0,sc1,co,so
+1,1,1,0,0,3,0
+2,1,1,0,0,3,0
+3,1,1,0,0,3,0
+4,2,4,0,0,0,0
+sweeps,2,2,2,2
+";
+
+pub const C1490_NET: &str = "\
+input,1
+input,2
+input,3
+gate,C1490,4,1,2,3
+output,4
+";
+
+pub const C1490_REPORT: &str = "\
+line,cc0,cc1,sc0,sc1,co,so
+1,1,1,0,0,3,1
+2,1,1,0,0,6,2
+3,1,1,0,0,6,2
+4,2,4,1,1,0,0
+sweeps,2,2,2,2
+";
+
+pub const LATCH_NET: &str = "\
+input,1
+input,2
+gate,NAND2,3,1,4
+gate,NAND2,4,2,3
+output,3
+";
+
+/// The paper gives CC, CO and the sweeps; every sequential number is 0, as no row has depth.
+pub const LATCH_REPORT: &str = "\
+line,cc0,cc1,sc0,sc1,co,so
+1,1,1,0,0,3,0
+2,1,1,0,0,5,0
+3,4,2,0,0,0,0
+4,4,2,0,0,2,0
+sweeps,3,3,3,3
+";
+
+/// A line that nothing drives and nothing reads but its output mark: no value is ever set.
+pub const UNDRIVEN_NET: &str = "output,1\n";
+pub const UNDRIVEN_REPORT: &str = "\
+line,cc0,cc1,sc0,sc1,co,so
+1,never,never,never,never,0,0
+sweeps,1,1,1,1
+";
+
+pub const EMPTY_REPORT: &str = "\
+line,cc0,cc1,sc0,sc1,co,so
+sweeps,1,1,1,1
+";
+
+/// C17 without its fan-out branches, which are no lines here.
+pub const C17_NET: &str = "\
+input,1
+input,2
+input,3
+input,6
+input,7
+gate,NAND2,10,1,3
+gate,NAND2,11,3,6
+gate,NAND2,16,2,11
+gate,NAND2,19,11,7
+gate,NAND2,22,10,16
+gate,NAND2,23,16,19
+output,22
+output,23
+";
+
+/// Line, CC0, CC1 and CO from the table of source 002.
+pub const C17_TABLE: [[u32; 4]; 11] = [
+    [1, 1, 1, 5],
+    [2, 1, 1, 6],
+    [3, 1, 1, 5],
+    [6, 1, 1, 7],
+    [7, 1, 1, 6],
+    [10, 3, 2, 3],
+    [11, 3, 2, 5],
+    [16, 4, 2, 3],
+    [19, 4, 2, 3],
+    [22, 5, 4, 0],
+    [23, 5, 5, 0],
+];
+
+/// Lines 2 to `gates` + 1, each gate with every pin on the line before.
+pub fn doubling(cell: &str, gates: usize) -> String {
+    let mut net = String::from("input,1\n");
+    for gate in 1..=gates {
+        writeln!(net, "gate,{cell},{},{gate},{gate}", gate + 1).unwrap();
+    }
+    writeln!(net, "output,{}", gates + 1).unwrap();
+    net
+}
+
+/// A full tree of two-pin gates over 2^depth inputs; its root is line 1, which is the output, and
+/// the gate of line k reads 2k and 2k + 1.
+pub fn tree(cell: &str, depth: u32) -> String {
+    let leaves = 1usize << depth;
+    let mut net = String::new();
+    for line in leaves..2 * leaves {
+        writeln!(net, "input,{line}").unwrap();
+    }
+    for line in (1..leaves).rev() {
+        writeln!(net, "gate,{cell},{line},{},{}", 2 * line, 2 * line + 1).unwrap();
+    }
+    net.push_str("output,1\n");
+    net
+}
+
+/// One-pin gates in a row, from the input to the output or listed backwards: then every sweep
+/// carries the values one gate further.
+pub fn chain(cell: &str, gates: usize, backwards: bool) -> String {
+    let mut net = String::from("input,1\n");
+    for place in 1..=gates {
+        let gate = if backwards { gates + 1 - place } else { place };
+        writeln!(net, "gate,{cell},{},{gate}", gate + 1).unwrap();
+    }
+    writeln!(net, "output,{}", gates + 1).unwrap();
+    net
+}
+
+/// A cell whose 1 is the 0 of the gate before it, and whose 0 is its own 1: over a chain listed
+/// backwards each sweep renews one number, so that 2G + 1 sweeps are needed.
+pub const SLOW: &str = "\
+Name,SLOW,2
+CC,3,21
+CO,203,211
+SC,2,20
+SO,202,210
+End
+";
+
+/// The gate of line k + 1 reads line k with pin 1 and itself with pin 2.
+pub fn slow_chain(gates: usize) -> String {
+    let mut net = String::from("input,1\n");
+    for gate in (1..=gates).rev() {
+        writeln!(net, "gate,SLOW,{},{gate},{}", gate + 1, gate + 1).unwrap();
+    }
+    writeln!(net, "output,{}", gates + 1).unwrap();
+    net
+}
+
+/// Latches of two NAND2 each, four lines apiece, every one with its own inputs and one output.
+pub fn latches(count: usize) -> String {
+    let mut net = String::new();
+    for latch in 0..count {
+        let [set, reset, q, p] = [1, 2, 3, 4].map(|line| 4 * latch + line);
+        write!(
+            net,
+            "input,{set}\ninput,{reset}\ngate,NAND2,{q},{set},{p}\ngate,NAND2,{p},{reset},{q}\n\
+             output,{q}\n"
+        )
+        .unwrap();
+    }
+    net
+}
+
+/// D0 and D1 with both pins on one line double its cost at 1, and D1 adds 1. SEE shows its first pin
+/// for the 1 of its second. ALL is 0 for the 1 of all eight pins.
+pub const EXACT: &str = "\
+Name,D0,2
+CC,21,M,5,12
+CO,203,211
+SC,20,M,4,12
+SO,202,210
+End
+Name,D1,2
+CC,21,M,5,13
+CO,203,211
+SC,20,M,4,13
+SO,202,210
+End
+Name,SEE,2
+CC,21,13
+CO,202,210
+SC,20,12
+SO,202,210
+End
+Name,ALL,8
+CC,125252,2
+CO,2000000,2000000,2000000,2000000,2000000,2000000,2000000,2000000
+SC,125252,2
+SO,2000000,2000000,2000000,2000000,2000000,2000000,2000000,2000000
+End
+";
+
+/// A netlist over the cells above that makes just this cost: combinational on line 900, or
+/// sequential, where an input costs 0. Line 901 is observed at the cost and line 903 has eight times
+/// the cost for its 0.
+pub fn exact(cost: u64, sequential: bool) -> String {
+    assert!(cost > 0);
+    let mut bits: Vec<u64> = (0..64 - cost.leading_zeros())
+        .rev()
+        .map(|bit| cost >> bit & 1)
+        .collect();
+    if !sequential {
+        // An input is the leading 1.
+        bits.remove(0);
+    }
+    let mut net = String::from("input,1\ninput,901\noutput,902\n");
+    let mut last = 1;
+    for (place, bit) in bits.iter().enumerate() {
+        let line = if place + 1 == bits.len() {
+            900
+        } else {
+            last + 1
+        };
+        writeln!(net, "gate,D{bit},{line},{last},{last}").unwrap();
+        last = line;
+    }
+    writeln!(net, "gate,SEE,902,901,{last}").unwrap();
+    writeln!(net, "gate,ALL,903{}", format!(",{last}").repeat(8)).unwrap();
+    net
+}
+
+/// A cost as the report shows it.
+pub fn shown(cost: u64) -> String {
+    if cost > 999_999_999 {
+        "over".to_string()
+    } else {
+        cost.to_string()
+    }
+}
+
+/// Costs about the largest figure, the stored values of over and never, and where 32 bits wrap.
+pub const EDGES: [u64; 14] = [
+    2,
+    124_999_999,
+    125_000_000,
+    536_870_911,
+    536_870_912,
+    999_999_998,
+    999_999_999,
+    1_000_000_000,
+    1_000_000_001,
+    1_000_000_002,
+    2_147_483_648,
+    4_294_967_295,
+    4_294_967_296,
+    4_294_967_299,
+];

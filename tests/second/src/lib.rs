@@ -1,0 +1,82 @@
+//! Goldstein's six numbers for every line of a netlist: the second implementation.
+//!
+//! It is written from the scope paper alone and shares nothing with the proved program, which it is
+//! held against. Texts go in; a report or a refusal comes out.
+
+mod cost;
+pub mod damage;
+pub mod figures;
+pub mod generate;
+mod library;
+mod netlist;
+pub mod random;
+mod report;
+mod sweep;
+mod text;
+
+#[cfg(test)]
+mod tests;
+
+pub use cost::{Cost, LARGEST, NEVER, OVER};
+pub use library::{MOST_CELLS, MOST_PINS, MOST_ROWS};
+pub use netlist::MOST_LINES;
+pub use sweep::Counts;
+
+/// A text above this many bytes is refused at entry.
+pub const MOST_BYTES: usize = 65_535;
+
+/// Where a pair of texts stops.
+#[derive(Clone, Copy, Debug, PartialEq, Eq)]
+pub struct Refusal {
+    pub number: u32,
+    pub line: u32,
+}
+
+#[derive(Clone, Debug, PartialEq, Eq)]
+pub enum Answer {
+    Accepted { report: Vec<u8>, counts: Counts },
+    Refused { number: u32, line: u32 },
+}
+
+/// The answer for a library, a netlist and a report buffer of `room` bytes.
+pub fn analyse(lib: &[u8], net: &[u8], room: usize) -> Answer {
+    match accepted(lib, net, room) {
+        Ok((report, counts)) => Answer::Accepted { report, counts },
+        Err(Refusal { number, line }) => Answer::Refused { number, line },
+    }
+}
+
+fn accepted(lib: &[u8], net: &[u8], room: usize) -> Result<(Vec<u8>, Counts), Refusal> {
+    if lib.len() > MOST_BYTES || net.len() > MOST_BYTES {
+        return Err(Refusal { number: 2, line: 0 });
+    }
+    let library = library::read(lib)?;
+    let netlist = netlist::read(net, &library)?;
+    let (numbers, counts) = sweep::run(&library, &netlist);
+    let report = report::write(&netlist, &numbers, &counts);
+    if report.len() > room {
+        return Err(Refusal {
+            number: 17,
+            line: 0,
+        });
+    }
+    Ok((report, counts))
+}
+
+/// The same with the effect on a lent buffer, in the form of the C entry: the report's length, or
+/// the refusal's number times 1,000,000 plus its line.
+pub fn report_into(lib: &[u8], net: &[u8], buffer: &mut [u8]) -> u64 {
+    match accepted(lib, net, buffer.len()) {
+        Ok((report, _)) => {
+            buffer[..report.len()].copy_from_slice(&report);
+            report.len() as u64
+        }
+        Err(Refusal { number, line }) => {
+            // A refusal at entry touches nothing; every later one clears the whole buffer.
+            if number > 2 {
+                buffer.fill(0);
+            }
+            u64::from(number) * 1_000_000 + u64::from(line)
+        }
+    }
+}

@@ -1,0 +1,202 @@
+//! The cell library: at most 32 entries of six lines.
+
+use crate::text::{self, Line, Lines, Name};
+use crate::Refusal;
+
+pub const MOST_CELLS: usize = 32;
+pub const MOST_PINS: usize = 8;
+pub const MOST_ROWS: usize = 16;
+
+/// The rows of a group: where they stand in the library's one list of rows.
+#[derive(Clone, Copy, Default)]
+pub struct Group {
+    start: u32,
+    end: u32,
+}
+
+/// The numbers of one kind, combinational or sequential: how a cell's output is set to 0 and to 1,
+/// and how each pin is observed.
+#[derive(Clone, Copy, Default)]
+pub struct Ways {
+    pub set: [Group; 2],
+    pub observe: [Group; MOST_PINS],
+}
+
+pub struct Cell {
+    name: Name,
+    pub pins: usize,
+    pub combinational: Ways,
+    pub sequential: Ways,
+}
+
+#[derive(Default)]
+pub struct Library {
+    pub cells: Vec<Cell>,
+    rows: Vec<u32>,
+}
+
+impl Library {
+    pub fn rows(&self, group: Group) -> &[u32] {
+        &self.rows[group.start as usize..group.end as usize]
+    }
+
+    /// The index of the cell of this name.
+    pub fn find(&self, name: &Name) -> Option<usize> {
+        self.cells.iter().position(|cell| cell.name == *name)
+    }
+}
+
+/// What a line's rows are for.
+#[derive(Clone, Copy, PartialEq)]
+enum Use {
+    Set,
+    Observe,
+}
+
+pub fn read(text: &[u8]) -> Result<Library, Refusal> {
+    let mut library = Library::default();
+    let mut lines = Lines::of(text);
+    // The groups of the line read last; one list serves every line.
+    let mut groups = Vec::new();
+    while let Some(line) = lines.next() {
+        let (name, pins) = name_line(&line, &library).map_err(at(line.number))?;
+        let mut cell = Cell {
+            name,
+            pins,
+            combinational: Ways::default(),
+            sequential: Ways::default(),
+        };
+        for (word, purpose) in [
+            ("CC", Use::Set),
+            ("CO", Use::Observe),
+            ("SC", Use::Set),
+            ("SO", Use::Observe),
+        ] {
+            let line = within(&mut lines)?;
+            rows_line(&line, word, purpose, pins, &mut library.rows, &mut groups)
+                .map_err(at(line.number))?;
+            let ways = match word {
+                "CC" | "CO" => &mut cell.combinational,
+                _ => &mut cell.sequential,
+            };
+            match purpose {
+                Use::Set => ways.set.copy_from_slice(&groups),
+                Use::Observe => ways.observe[..pins].copy_from_slice(&groups),
+            }
+        }
+        let line = within(&mut lines)?;
+        if !line.ended || line.bytes != b"End" {
+            return Err(Refusal {
+                number: 3,
+                line: line.number,
+            });
+        }
+        library.cells.push(cell);
+    }
+    Ok(library)
+}
+
+fn at(line: u32) -> impl Fn(u32) -> Refusal {
+    move |number| Refusal { number, line }
+}
+
+/// The next line of an entry. An entry broken off by the end is 3 at the line after the last.
+fn within<'a>(lines: &mut Lines<'a>) -> Result<Line<'a>, Refusal> {
+    let after = lines.number() + 1;
+    lines.next().ok_or(Refusal {
+        number: 3,
+        line: after,
+    })
+}
+
+/// `Name,NAME,n`: 3 form, 4 used before, 5 pins, 9 a 33rd entry.
+fn name_line(line: &Line, library: &Library) -> Result<(Name, usize), u32> {
+    let mut fields = text::fields(line.bytes);
+    let word = fields.next();
+    let name = fields.next().and_then(text::name);
+    let pins = fields.next().and_then(text::decimal);
+    let (Some(b"Name"), Some(name), Some(pins), None, true) =
+        (word, name, pins, fields.next(), line.ended)
+    else {
+        return Err(3);
+    };
+    if library.find(&name).is_some() {
+        return Err(4);
+    }
+    let pins = pins as usize;
+    if pins < 1 || pins > MOST_PINS {
+        return Err(5);
+    }
+    if library.cells.len() == MOST_CELLS {
+        return Err(9);
+    }
+    Ok((name, pins))
+}
+
+/// A line of rows: 3 form, 6 groups, 7 a bit above the columns, 8 nothing named. The rows are added
+/// to the list and the groups replaced.
+fn rows_line(
+    line: &Line,
+    word: &str,
+    purpose: Use,
+    pins: usize,
+    rows: &mut Vec<u32>,
+    groups: &mut Vec<Group>,
+) -> Result<(), u32> {
+    groups.clear();
+    let first = rows.len();
+    let mut fields = text::fields(line.bytes);
+    if fields.next() != Some(word.as_bytes()) || !line.ended {
+        return Err(3);
+    }
+    // An M joins the row after it to the group before it, so it needs both.
+    let mut joined = false;
+    for field in fields {
+        if field == b"M" {
+            if joined || groups.is_empty() {
+                return Err(3);
+            }
+            joined = true;
+            continue;
+        }
+        let row = text::octal(field).ok_or(3u32)?;
+        if !joined {
+            let start = rows.len() as u32;
+            groups.push(Group { start, end: start });
+        }
+        rows.push(row);
+        groups.last_mut().unwrap().end = rows.len() as u32;
+        joined = false;
+    }
+    if joined {
+        return Err(3);
+    }
+    let wanted = match purpose {
+        Use::Set => 2,
+        Use::Observe => pins,
+    };
+    if groups.len() != wanted
+        || groups
+            .iter()
+            .any(|group| (group.end - group.start) as usize > MOST_ROWS)
+    {
+        return Err(6);
+    }
+    // The highest column: pin 1 at 0 where the output is set, else "observe the output".
+    let top = match purpose {
+        Use::Set => 2 * pins,
+        Use::Observe => 2 * pins + 3,
+    };
+    let rows = &rows[first..];
+    if rows.iter().any(|row| row >> (top + 1) != 0) {
+        return Err(7);
+    }
+    let unnamed = |row: u32| match purpose {
+        Use::Set => row >> 1 == 0,
+        Use::Observe => row >> top == 0,
+    };
+    if rows.iter().any(|&row| unnamed(row)) {
+        return Err(8);
+    }
+    Ok(())
+}

@@ -1,0 +1,156 @@
+//! The netlist: inputs, outputs and gates in any order.
+
+use crate::library::{Library, MOST_PINS};
+use crate::text::{self, Line, Lines};
+use crate::Refusal;
+
+/// Line numbers run from 1 to this one.
+pub const MOST_LINES: usize = 1_000;
+pub const MOST_GATES: usize = 1_000;
+
+pub struct Gate {
+    pub cell: usize,
+    pub pins: usize,
+    /// The lines in the order of a row's columns from the lowest: the last pin first, and the
+    /// output after pin 1.
+    pub lines: [u16; MOST_PINS + 1],
+}
+
+impl Gate {
+    pub fn output(&self) -> usize {
+        usize::from(self.lines[self.pins])
+    }
+
+    /// The line read by a pin, counted from 0.
+    pub fn pin(&self, pin: usize) -> usize {
+        usize::from(self.lines[self.pins - 1 - pin])
+    }
+}
+
+#[derive(Clone, Copy, Default)]
+pub struct Marks {
+    pub input: bool,
+    pub driven: bool,
+    pub output: bool,
+    pub mentioned: bool,
+}
+
+pub struct Netlist {
+    pub gates: Vec<Gate>,
+    /// By line number; place 0 stays unused.
+    pub marks: [Marks; MOST_LINES + 1],
+}
+
+pub fn read(text: &[u8], library: &Library) -> Result<Netlist, Refusal> {
+    let mut netlist = Netlist {
+        gates: Vec::new(),
+        marks: [Marks::default(); MOST_LINES + 1],
+    };
+    for line in Lines::of(text) {
+        netlist
+            .read_line(&line, library)
+            .map_err(|number| Refusal {
+                number,
+                line: line.number,
+            })?;
+    }
+    Ok(netlist)
+}
+
+impl Netlist {
+    /// Takes a line in, or answers the lowest number that holds of it.
+    fn read_line(&mut self, line: &Line, library: &Library) -> Result<(), u32> {
+        if !line.ended {
+            return Err(10);
+        }
+        let mut fields = text::fields(line.bytes);
+        match fields.next() {
+            Some(b"input") => {
+                let marks = self.mark(only_number(fields)?)?;
+                if marks.driven {
+                    return Err(14);
+                }
+                marks.driven = true;
+                marks.input = true;
+                Ok(())
+            }
+            Some(b"output") => {
+                let marks = self.mark(only_number(fields)?)?;
+                if marks.output {
+                    return Err(15);
+                }
+                marks.output = true;
+                Ok(())
+            }
+            Some(b"gate") => self.gate(fields, library),
+            _ => Err(10),
+        }
+    }
+
+    fn gate<'a>(
+        &mut self,
+        mut fields: impl Iterator<Item = &'a [u8]>,
+        library: &Library,
+    ) -> Result<(), u32> {
+        let name = fields.next().and_then(text::name).ok_or(10u32)?;
+        let output = fields.next().and_then(text::decimal).ok_or(10u32)?;
+        // Every field is read before anything is judged: form comes first, then all line numbers.
+        let mut in_range = on_range(output);
+        let mut read = [0u16; MOST_PINS];
+        let mut pins = 0;
+        for field in fields {
+            let pin = text::decimal(field).ok_or(10u32)?;
+            in_range &= on_range(pin);
+            if pins < MOST_PINS && on_range(pin) {
+                read[pins] = pin as u16;
+            }
+            pins += 1;
+        }
+        if !in_range {
+            return Err(11);
+        }
+        let cell = library.find(&name).ok_or(12u32)?;
+        if pins != library.cells[cell].pins {
+            return Err(13);
+        }
+        let marks = self.mark(output)?;
+        if marks.driven {
+            return Err(14);
+        }
+        marks.driven = true;
+        // Never met: as many driven lines come before it as there are lines.
+        if self.gates.len() == MOST_GATES {
+            return Err(16);
+        }
+        let mut lines = [0; MOST_PINS + 1];
+        for pin in 0..pins {
+            lines[pins - 1 - pin] = read[pin];
+            self.marks[usize::from(read[pin])].mentioned = true;
+        }
+        lines[pins] = output as u16;
+        self.gates.push(Gate { cell, pins, lines });
+        Ok(())
+    }
+
+    /// The marks of a line that the text mentions.
+    fn mark(&mut self, number: u32) -> Result<&mut Marks, u32> {
+        if !on_range(number) {
+            return Err(11);
+        }
+        let marks = &mut self.marks[number as usize];
+        marks.mentioned = true;
+        Ok(marks)
+    }
+}
+
+fn on_range(number: u32) -> bool {
+    (1..=MOST_LINES as u32).contains(&number)
+}
+
+/// `input` and `output` have one field.
+fn only_number<'a>(mut fields: impl Iterator<Item = &'a [u8]>) -> Result<u32, u32> {
+    match (fields.next().and_then(text::decimal), fields.next()) {
+        (Some(number), None) => Ok(number),
+        _ => Err(10),
+    }
+}

@@ -1,0 +1,133 @@
+//! The sweeps: costs of setting and of observing every line, and how many sweeps it took.
+
+use crate::cost::{add, Cost, NEVER};
+use crate::library::{Cell, Library, Ways};
+use crate::netlist::{Gate, Netlist, MOST_LINES};
+
+/// Sweeps for CC, SC, CO and SO, the one that changes nothing included.
+pub type Counts = [u32; 4];
+
+/// By line number; place 0 stays unused.
+pub type Setting = [[Cost; 2]; MOST_LINES + 1];
+pub type Observing = [Cost; MOST_LINES + 1];
+
+pub struct Numbers {
+    pub cc: Setting,
+    pub sc: Setting,
+    pub co: Observing,
+    pub so: Observing,
+}
+
+pub fn run(library: &Library, netlist: &Netlist) -> (Numbers, Counts) {
+    let mut numbers = Numbers {
+        cc: [[NEVER; 2]; MOST_LINES + 1],
+        sc: [[NEVER; 2]; MOST_LINES + 1],
+        co: [NEVER; MOST_LINES + 1],
+        so: [NEVER; MOST_LINES + 1],
+    };
+    for (line, marks) in netlist.marks.iter().enumerate() {
+        if marks.input {
+            numbers.cc[line] = [1, 1];
+            numbers.sc[line] = [0, 0];
+        }
+        if marks.output {
+            numbers.co[line] = 0;
+            numbers.so[line] = 0;
+        }
+    }
+    let cc = set(library, netlist, combinational, &mut numbers.cc);
+    let sc = set(library, netlist, sequential, &mut numbers.sc);
+    let co = observe(
+        library,
+        netlist,
+        combinational,
+        &numbers.cc,
+        &mut numbers.co,
+    );
+    let so = observe(library, netlist, sequential, &numbers.sc, &mut numbers.so);
+    (numbers, [cc, sc, co, so])
+}
+
+fn combinational(cell: &Cell) -> &Ways {
+    &cell.combinational
+}
+
+fn sequential(cell: &Cell) -> &Ways {
+    &cell.sequential
+}
+
+fn set(
+    library: &Library,
+    netlist: &Netlist,
+    ways: impl Fn(&Cell) -> &Ways,
+    costs: &mut Setting,
+) -> u32 {
+    let mut sweeps = 0;
+    loop {
+        let mut changed = false;
+        for gate in &netlist.gates {
+            let groups = &ways(&library.cells[gate.cell]).set;
+            // The 1 sees the 0 just renewed, where a gate reads its own output.
+            for value in [0, 1] {
+                let mut least = NEVER;
+                for &row in library.rows(groups[value]) {
+                    least = least.min(row_sum(row, gate, costs));
+                }
+                let number = &mut costs[gate.output()][value];
+                changed |= *number != least;
+                *number = least;
+            }
+        }
+        sweeps += 1;
+        if !changed {
+            return sweeps;
+        }
+    }
+}
+
+fn observe(
+    library: &Library,
+    netlist: &Netlist,
+    ways: impl Fn(&Cell) -> &Ways,
+    setting: &Setting,
+    costs: &mut Observing,
+) -> u32 {
+    let mut sweeps = 0;
+    loop {
+        let mut changed = false;
+        for gate in netlist.gates.iter().rev() {
+            let groups = &ways(&library.cells[gate.cell]).observe;
+            // Every row of the group has this bit.
+            let observed = 1 << (2 * gate.pins + 3);
+            for pin in 0..gate.pins {
+                let line = gate.pin(pin);
+                let mut least = costs[line];
+                for &row in library.rows(groups[pin]) {
+                    let values = row_sum(row & !observed, gate, setting);
+                    least = least.min(add(values, costs[gate.output()]));
+                }
+                changed |= costs[line] != least;
+                costs[line] = least;
+            }
+        }
+        sweeps += 1;
+        if !changed {
+            return sweeps;
+        }
+    }
+}
+
+/// The depth and the costs of the values that a row names, of pins and of the output.
+#[inline]
+fn row_sum(row: u32, gate: &Gate, costs: &Setting) -> Cost {
+    let mut sum = row & 1;
+    let mut columns = row >> 1;
+    while columns != 0 {
+        let column = columns.trailing_zeros() as usize;
+        // Two columns to a line: "at 1" below "at 0".
+        let line = usize::from(gate.lines[column / 2]);
+        sum = add(sum, costs[line][1 - column % 2]);
+        columns &= columns - 1;
+    }
+    sum
+}

@@ -1,0 +1,512 @@
+//! The scope paper's figures and at least one text for every refusal.
+
+use crate::figures::*;
+use crate::generate::pair;
+use crate::library::{self, Library, Ways};
+use crate::netlist::{self, Netlist};
+use crate::random::Random;
+use crate::{analyse, report_into, sweep, Answer, LARGEST, NEVER, OVER};
+
+const ROOM: usize = 65_536;
+
+fn report(lib: &str, net: &str) -> String {
+    match analyse(lib.as_bytes(), net.as_bytes(), ROOM) {
+        Answer::Accepted { report, .. } => String::from_utf8(report).unwrap(),
+        refused => panic!("{refused:?}"),
+    }
+}
+
+/// The costs printed for a line, and the sweeps under line 0.
+fn printed(report: &str, line: usize) -> Vec<String> {
+    let head = if line == 0 {
+        "sweeps,".to_string()
+    } else {
+        format!("{line},")
+    };
+    let found = report
+        .lines()
+        .find(|text| text.starts_with(&head))
+        .expect("the line is printed");
+    found.split(',').skip(1).map(str::to_string).collect()
+}
+
+fn refused(lib: &str, net: &str, number: u32, line: u32) {
+    assert_eq!(
+        analyse(lib.as_bytes(), net.as_bytes(), ROOM),
+        Answer::Refused { number, line },
+        "library:\n{lib}netlist:\n{net}"
+    );
+}
+
+fn lib_refused(lib: &str, number: u32, line: u32) {
+    refused(lib, "", number, line);
+    // A refused library hides the netlist.
+    refused(lib, "bad", number, line);
+}
+
+fn net_refused(net: &str, number: u32, line: u32) {
+    refused(&format!("{NAND2}{INV}"), net, number, line);
+}
+
+#[test]
+fn whole_reports() {
+    assert_eq!(report(C1130, C1130_NET), C1130_REPORT);
+    assert_eq!(report(C1490, C1490_NET), C1490_REPORT);
+    assert_eq!(report(NAND2, LATCH_NET), LATCH_REPORT);
+    assert_eq!(report("", UNDRIVEN_NET), UNDRIVEN_REPORT);
+    assert_eq!(report("", ""), EMPTY_REPORT);
+    assert_eq!(report(NAND2, ""), EMPTY_REPORT);
+}
+
+#[test]
+fn doubled_and_gates() {
+    let low = report(AND2, &doubling("AND2", 28));
+    assert_eq!(printed(&low, 29)[..2], ["29", "536870911"]);
+    let high = report(AND2, &doubling("AND2", 29));
+    assert_eq!(printed(&high, 30)[..2], ["30", "over"]);
+}
+
+#[test]
+fn edge_costs() {
+    for cost in EDGES {
+        for (sequential, columns) in [(false, [0, 1, 4]), (true, [2, 3, 5])] {
+            let report = report(EXACT, &exact(cost, sequential));
+            let [zero, one, observe] = columns;
+            assert_eq!(printed(&report, 900)[one], shown(cost));
+            assert_eq!(printed(&report, 901)[observe], shown(cost));
+            assert_eq!(printed(&report, 903)[zero], shown(8 * cost));
+        }
+    }
+}
+
+#[test]
+fn c17_table() {
+    let report = report(NAND2, C17_NET);
+    for [line, cc0, cc1, co] in C17_TABLE {
+        let costs = printed(&report, line as usize);
+        assert_eq!(
+            [&costs[0], &costs[1], &costs[4]],
+            [&cc0.to_string(), &cc1.to_string(), &co.to_string()]
+        );
+    }
+    assert_eq!(report.lines().count(), 2 + C17_TABLE.len());
+}
+
+#[test]
+fn trees() {
+    for depth in 1..=8 {
+        let report = report(AND2, &tree("AND2", depth));
+        let all = (1u32 << (depth + 1)) - 1;
+        assert_eq!(
+            printed(&report, 1)[..2],
+            [(depth + 1).to_string(), all.to_string()]
+        );
+    }
+}
+
+#[test]
+fn most_sweeps() {
+    for gates in [1, 2, 10, 999] {
+        let report = report(SLOW, &slow_chain(gates));
+        let (set, observe) = ((2 * gates + 1).to_string(), (gates + 1).to_string());
+        assert_eq!(
+            printed(&report, 0),
+            [set.clone(), set, observe.clone(), observe]
+        );
+    }
+}
+
+/// A cell that sets its 1 from its own 0: seen in the same visit, so two sweeps do.
+#[test]
+fn own_output() {
+    let cell = "Name,A,2\nCC,11,5\nCO,201,201\nSC,11,5\nSO,201,201\nEnd\n";
+    let report = report(cell, "input,1\ngate,A,2,1,2\n");
+    let known = "\
+line,cc0,cc1,sc0,sc1,co,so
+1,1,1,0,0,never,never
+2,2,3,1,2,never,never
+sweeps,2,2,1,1
+";
+    assert_eq!(report, known);
+}
+
+#[test]
+fn over_and_never() {
+    // Line 31 is over, line 32 undriven: a sum of both is never, the lesser of both over.
+    let lib = format!("{AND2}{NAND2}");
+    let mut net = doubling("AND2", 30);
+    net.push_str("gate,AND2,40,31,32\ngate,NAND2,41,31,32\noutput,41\n");
+    let report = report(&lib, &net);
+    assert_eq!(printed(&report, 31)[1], "over");
+    assert_eq!(printed(&report, 40)[..4], ["32", "never", "0", "never"]);
+    assert_eq!(printed(&report, 41)[..2], ["never", "32"]);
+    assert_eq!(printed(&report, 32)[4], "over");
+}
+
+#[test]
+fn entry() {
+    let most = "\n".repeat(65_535);
+    let more = "\n".repeat(65_536);
+    refused(&most, "", 3, 1);
+    refused("", &most, 10, 1);
+    refused(&more, "", 2, 0);
+    refused("", &more, 2, 0);
+    refused("bad", &more, 2, 0);
+    refused(&more, &more, 2, 0);
+}
+
+#[test]
+fn library_form() {
+    lib_refused("\n", 3, 1);
+    lib_refused("Name,A,1", 3, 1);
+    lib_refused("Name,A,1\n", 3, 2);
+    lib_refused(NAND2.trim_end(), 3, 6);
+    lib_refused(&format!("{NAND2}\n"), 3, 7);
+    lib_refused(&format!("{NAND2}Name,A,2\nCC,13,21,M,5\n"), 3, 9);
+    for name in [
+        "Name",
+        "Name,A",
+        "Name,A,1,1",
+        "name,A,1",
+        "Name,,1",
+        "Name,A,",
+        "Name,a,1",
+        "Name,A_B,1",
+        "Name,ABCDEFGHI,1",
+        "Name,A,08",
+        "Name,A,100000",
+        "Name,A,x",
+        "Name,A,-1",
+        " Name,A,1",
+        "Name,A,1\r",
+        "Name,A,1,",
+        "Name, A,1",
+        "NameX,A,1",
+    ] {
+        lib_refused(&format!("{name}\n"), 3, 1);
+    }
+    for row in [
+        "CC,",
+        "CC,13,",
+        "CC,13,21,",
+        "CC,M,13,21",
+        "CC,13,21,M",
+        "CC,13,M,M,21,5",
+        "CC,M",
+        "CC,13,018",
+        "CC,13,18",
+        "CC,13,19",
+        "CC,13,021",
+        "CC,13,10000000",
+        "CC,13,m,21",
+        "CC,13, 21",
+        "cc,13,21",
+        "CO,13,21",
+        "SC,13,21",
+        "CC,13,,21",
+        "CC,13,00",
+        "CC13,21",
+        "",
+        "End",
+        "CC,13,MM,21",
+        "CC,13,21\r",
+    ] {
+        lib_refused(&format!("Name,A,2\n{row}\n"), 3, 2);
+    }
+    for end in ["end", "End,", "End,1", "", "END", "End "] {
+        lib_refused(&NAND2.replace("End", end), 3, 6);
+    }
+}
+
+#[test]
+fn library_names_and_pins() {
+    lib_refused(&format!("{NAND2}{NAND2}"), 4, 7);
+    lib_refused(&format!("{NAND2}Name,NAND2,9\n"), 4, 7);
+    for pins in ["0", "9", "10", "99999"] {
+        lib_refused(&format!("Name,A,{pins}\n"), 5, 1);
+    }
+    // Names that look like words or numbers are names.
+    for name in ["END", "M", "007", "CC", "ABCDEFGH"] {
+        report(&NAND2.replace("NAND2", name), "");
+    }
+}
+
+#[test]
+fn library_rows() {
+    for (row, number) in [
+        ("CC", 6),
+        ("CC,13", 6),
+        ("CC,13,21,5", 6),
+        ("CC,13,M,21", 6),
+        ("CC,40,21", 7),
+        ("CC,1,40", 7),
+        ("CC,1000000,2", 7),
+        ("CC,0,21", 8),
+        ("CC,13,1", 8),
+        ("CC,40", 6),
+    ] {
+        lib_refused(&format!("Name,A,2\n{row}\n"), number, 2);
+    }
+    for (row, number) in [
+        ("CO", 6),
+        ("CO,203", 6),
+        ("CO,203,211,211", 6),
+        ("CO,203,400", 7),
+        ("CO,3,400", 7),
+        ("CO,203,177", 8),
+        ("CO,0,203", 8),
+    ] {
+        lib_refused(&format!("Name,A,2\nCC,13,21\n{row}\n"), number, 3);
+        lib_refused(
+            &format!("Name,A,2\nCC,13,21\nCO,203,211\nSC,13,21\nS{}\n", &row[1..]),
+            number,
+            5,
+        );
+    }
+    let sixteen = ["13"; 16].join(",M,");
+    lib_refused(&format!("Name,A,2\nCC,{sixteen},21\n"), 3, 3);
+    lib_refused(&format!("Name,A,2\nCC,{sixteen},M,13,21\n"), 6, 2);
+    lib_refused(&format!("Name,A,2\nCC,{sixteen},M,13,1\n"), 6, 2);
+    // Form counts after seventeen rows, too.
+    lib_refused(&format!("Name,A,2\nCC,{sixteen},M,13,8\n"), 3, 2);
+    // Eight pins: seven octal digits are needed.
+    let rows = ["2000000"; 8].join(",");
+    let eight = format!("Name,A,8\nCC,377777,2\nCO,{rows}\nSC,2,3\nSO,{rows}\nEnd\n");
+    report(&eight, "");
+    lib_refused(&eight.replace("377777", "400000"), 7, 2);
+    lib_refused(&eight.replacen("2000000", "4000000", 1), 7, 3);
+    lib_refused(&eight.replacen("2000000", "1777777", 1), 8, 3);
+}
+
+#[test]
+fn library_entries() {
+    let entries = |count: u32| -> String {
+        (0..count)
+            .map(|cell| NAND2.replace("NAND2", &format!("C{cell}")))
+            .collect()
+    };
+    report(&entries(32), "");
+    let full = entries(32);
+    lib_refused(&entries(33), 9, 193);
+    lib_refused(&format!("{full}Name,A,1\n"), 9, 193);
+    lib_refused(&format!("{full}Name,A,9\n"), 5, 193);
+    lib_refused(&format!("{full}Name,C3,2\n"), 4, 193);
+    lib_refused(&format!("{full}Name,A,1"), 3, 193);
+}
+
+#[test]
+fn netlist_form() {
+    net_refused("\n", 10, 1);
+    net_refused("input,1", 10, 1);
+    net_refused("input,1\n\n", 10, 2);
+    for line in [
+        "input",
+        "input,",
+        "input,1,2",
+        "input,1,",
+        "Input,1",
+        "input,01",
+        "input,100000",
+        "input,x",
+        "input,1 ",
+        "output",
+        "output,1,2",
+        "output,",
+        "gate",
+        "gate,",
+        "gate,INV",
+        "gate,INV,",
+        "gate,inv,1,2",
+        "gate,,1,2",
+        "gate,INV,1,",
+        "gate,INV,1,02",
+        "gate,INV,1,100000",
+        "gate,ABCDEFGHI,1,2",
+        "gate,INV,1,2,",
+        "gates,INV,1,2",
+        "wire,1",
+        "gate,INV,1,2\r",
+        "gate, INV,1,2",
+        "input,-1",
+        "gate,INV,0,9999999",
+    ] {
+        net_refused(&format!("{line}\n"), 10, 1);
+    }
+}
+
+#[test]
+fn netlist_meaning() {
+    for line in [
+        "input,0",
+        "input,1001",
+        "input,99999",
+        "output,0",
+        "output,1001",
+        "gate,INV,0,1",
+        "gate,INV,1,1001",
+        "gate,X,1,1001",
+        "gate,INV,1,2,3,4,5,6,7,8,9,10,0",
+    ] {
+        net_refused(&format!("{line}\n"), 11, 1);
+    }
+    net_refused("gate,X,1,2\n", 12, 1);
+    net_refused("gate,X,1\n", 12, 1);
+    net_refused("input,1\ngate,X,1\n", 12, 2);
+    net_refused("gate,INV,1\n", 13, 1);
+    net_refused("gate,INV,1,2,3\n", 13, 1);
+    net_refused("gate,INV,1,2,3,4,5,6,7,8,9,10\n", 13, 1);
+    net_refused("input,1\ngate,INV,1\n", 13, 2);
+    net_refused("input,1\ninput,1\n", 14, 2);
+    net_refused("input,1\ngate,INV,1,1\n", 14, 2);
+    net_refused("gate,INV,1,1\ngate,INV,1,2\n", 14, 2);
+    net_refused("gate,INV,1,1\ninput,1\n", 14, 2);
+    net_refused("output,1\ninput,1\noutput,1\n", 15, 3);
+    // The last line number, and the topmost bad line of two.
+    net_refused("output,1000\noutput,1\noutput,1\ninput,0\n", 15, 3);
+}
+
+#[test]
+fn report_buffer() {
+    let [lib, net] = [C1130, C1130_NET].map(str::as_bytes);
+    let length = C1130_REPORT.len();
+    let mut exact = vec![7; length];
+    assert_eq!(report_into(lib, net, &mut exact), length as u64);
+    assert_eq!(exact, C1130_REPORT.as_bytes());
+    let mut short = vec![7; length - 1];
+    assert_eq!(report_into(lib, net, &mut short), 17_000_000);
+    assert!(short.iter().all(|&b| b == 0));
+    let mut long = vec![7; length + 5];
+    assert_eq!(report_into(lib, net, &mut long), length as u64);
+    assert_eq!(long[length..], [7; 5]);
+    let mut untouched = vec![7; 9];
+    assert_eq!(report_into(&[10; 65_536], net, &mut untouched), 2_000_000);
+    assert_eq!(untouched, [7; 9]);
+    assert_eq!(report_into(lib, b"input,1", &mut untouched), 10_000_001);
+    assert_eq!(untouched, [0; 9]);
+    assert_eq!(report_into(b"", b"", &mut []), 17_000_000);
+}
+
+/// The cheapest plans, found without sweeps: the cheapest number not yet known is settled next, from
+/// settled ones only. Costs far above the largest figure are cut off, as they only mean "over".
+struct Plans {
+    set: Vec<[Option<u64>; 2]>,
+    observe: Vec<Option<u64>>,
+}
+
+const FAR: u64 = 1 << 50;
+
+fn plans(library: &Library, netlist: &Netlist, input: u64, sequential: bool) -> Plans {
+    let lines = netlist.marks.len();
+    let ways = |cell: usize| -> &Ways {
+        let cell = &library.cells[cell];
+        if sequential {
+            &cell.sequential
+        } else {
+            &cell.combinational
+        }
+    };
+    let mut set = vec![[None; 2]; lines];
+    for (line, marks) in netlist.marks.iter().enumerate() {
+        if marks.input {
+            set[line] = [Some(input); 2];
+        }
+    }
+    // The sum over the columns of pins and output, straight from the paper's bit numbers.
+    let sum = |row: u32, gate: &netlist::Gate, set: &[[Option<u64>; 2]]| -> Option<u64> {
+        let n = gate.pins;
+        let mut sum = u64::from(row & 1);
+        for i in 1..=n {
+            for (bit, value) in [(2 * (n - i) + 2, 0), (2 * (n - i) + 1, 1)] {
+                if row >> bit & 1 == 1 {
+                    sum = FAR.min(sum + set[gate.pin(i - 1)][value]?);
+                }
+            }
+        }
+        for (bit, value) in [(2 * n + 2, 0), (2 * n + 1, 1)] {
+            if row >> bit & 1 == 1 {
+                sum = FAR.min(sum + set[gate.output()][value]?);
+            }
+        }
+        Some(sum)
+    };
+    loop {
+        let mut next: Option<(u64, usize, usize)> = None;
+        for gate in &netlist.gates {
+            for value in 0..2 {
+                if set[gate.output()][value].is_some() {
+                    continue;
+                }
+                for &row in library.rows(ways(gate.cell).set[value]) {
+                    if let Some(cost) = sum(row, gate, &set) {
+                        let found = (cost, gate.output(), value);
+                        next = Some(next.map_or(found, |best| best.min(found)));
+                    }
+                }
+            }
+        }
+        let Some((cost, line, value)) = next else {
+            break;
+        };
+        set[line][value] = Some(cost);
+    }
+    let mut observe: Vec<Option<u64>> = netlist
+        .marks
+        .iter()
+        .map(|marks| marks.output.then_some(0))
+        .collect();
+    loop {
+        let mut next: Option<(u64, usize)> = None;
+        for gate in &netlist.gates {
+            let Some(seen) = observe[gate.output()] else {
+                continue;
+            };
+            for pin in 0..gate.pins {
+                if observe[gate.pin(pin)].is_some() {
+                    continue;
+                }
+                for &row in library.rows(ways(gate.cell).observe[pin]) {
+                    if let Some(cost) = sum(row, gate, &set) {
+                        let found = (FAR.min(cost + seen), gate.pin(pin));
+                        next = Some(next.map_or(found, |best| best.min(found)));
+                    }
+                }
+            }
+        }
+        let Some((cost, line)) = next else { break };
+        observe[line] = Some(cost);
+    }
+    Plans { set, observe }
+}
+
+#[test]
+fn cheapest_plans() {
+    let told = |cost: Option<u64>| match cost {
+        None => NEVER,
+        Some(cost) if cost > u64::from(LARGEST) => OVER,
+        Some(cost) => cost as u32,
+    };
+    let mut rng = Random::from(7);
+    let mut counts = [0; 3];
+    for round in 0..400 {
+        let pair = pair(&mut rng, if round % 10 == 0 { 120 } else { 15 });
+        let library = library::read(&pair.lib.bytes()).unwrap();
+        let netlist = netlist::read(&pair.net.bytes(), &library).unwrap();
+        let (numbers, _) = sweep::run(&library, &netlist);
+        let combinational = plans(&library, &netlist, 1, false);
+        let sequential = plans(&library, &netlist, 0, true);
+        for line in 1..netlist.marks.len() {
+            assert_eq!(numbers.cc[line], combinational.set[line].map(told));
+            assert_eq!(numbers.sc[line], sequential.set[line].map(told));
+            assert_eq!(numbers.co[line], told(combinational.observe[line]));
+            assert_eq!(numbers.so[line], told(sequential.observe[line]));
+            if netlist.marks[line].mentioned {
+                let [zero, one] = numbers.cc[line];
+                for cost in [zero, one, numbers.co[line], numbers.so[line]] {
+                    counts[cost.saturating_sub(LARGEST) as usize] += 1;
+                }
+            }
+        }
+    }
+    // Each kind of cost was met.
+    assert!(counts.iter().all(|&count| count > 5), "{counts:?}");
+}

@@ -1,0 +1,248 @@
+/*
+ * The stack that the C entry needs: each case runs on a thread whose stack was painted before, and
+ * the lowest byte that lost its paint is looked for afterwards. What the thread itself takes, a few
+ * thousand bytes, counts as the entry's. Calls for memory from the heap are counted, too, by the
+ * linker's --wrap. The last line counts: 'N passed, M failed'.
+ */
+#define _GNU_SOURCE
+#include <pthread.h>
+#include <stdio.h>
+#include <stdlib.h>
+#include <string.h>
+#include <sys/mman.h>
+
+#include "scoap.h"
+
+#define LIMIT (512u * 1024u)
+/* Far more than the limit, so that a breach is measured rather than met as a crash. */
+#define STACK (64u * 1024u * 1024u)
+#define PAINT 0xa5u
+
+static char lib[2 * SCOAP_MOST_TEXT];
+static char net[2 * SCOAP_MOST_TEXT];
+static uint8_t report[2 * SCOAP_REPORT];
+static size_t lib_length;
+static size_t net_length;
+static uint64_t answer;
+
+static volatile int entered;
+static volatile unsigned taken;
+
+static unsigned passed;
+static unsigned failed;
+
+void *__real_malloc(size_t size);
+void *__real_calloc(size_t count, size_t size);
+void *__real_realloc(void *memory, size_t size);
+void *__wrap_malloc(size_t size);
+void *__wrap_calloc(size_t count, size_t size);
+void *__wrap_realloc(void *memory, size_t size);
+
+void *__wrap_malloc(size_t size)
+{
+    taken += entered;
+    return __real_malloc(size);
+}
+
+void *__wrap_calloc(size_t count, size_t size)
+{
+    taken += entered;
+    return __real_calloc(count, size);
+}
+
+void *__wrap_realloc(void *memory, size_t size)
+{
+    taken += entered;
+    return __real_realloc(memory, size);
+}
+
+static void *run(void *unused)
+{
+    entered = 1;
+    answer = scoap_report((const uint8_t *)lib, lib_length, (const uint8_t *)net, net_length,
+                          report, sizeof report);
+    entered = 0;
+    return unused;
+}
+
+/* The bytes of a fresh thread's stack that lost their paint. */
+static size_t used(void)
+{
+    pthread_attr_t attributes;
+    pthread_t thread;
+    size_t untouched = 0;
+    unsigned char *stack = mmap(NULL, STACK, PROT_READ | PROT_WRITE,
+                                MAP_PRIVATE | MAP_ANONYMOUS | MAP_STACK, -1, 0);
+
+    if (stack == MAP_FAILED) {
+        perror("mmap");
+        exit(2);
+    }
+    memset(stack, PAINT, STACK);
+    if (pthread_attr_init(&attributes) != 0
+        || pthread_attr_setstack(&attributes, stack, STACK) != 0
+        || pthread_create(&thread, &attributes, run, NULL) != 0
+        || pthread_join(thread, NULL) != 0) {
+        fprintf(stderr, "no thread on the painted stack\n");
+        exit(2);
+    }
+    pthread_attr_destroy(&attributes);
+    while (untouched < STACK && stack[untouched] == PAINT) {
+        untouched++;
+    }
+    munmap(stack, STACK);
+    return STACK - untouched;
+}
+
+static void start(void)
+{
+    lib_length = 0;
+    net_length = 0;
+}
+
+static void add_lib(const char *text)
+{
+    size_t length = strlen(text);
+
+    memcpy(lib + lib_length, text, length);
+    lib_length += length;
+}
+
+static void add_net(const char *text)
+{
+    size_t length = strlen(text);
+
+    memcpy(net + net_length, text, length);
+    net_length += length;
+}
+
+/* Measures the texts just put together. `number` is the refusal meant, 0 for acceptance. */
+static void measure(const char *label, unsigned number)
+{
+    size_t own = used();
+    unsigned is = answer < SCOAP_REFUSED ? 0 : scoap_number(answer);
+
+    printf("%-34s %8zu bytes of stack\n", label, own);
+    if (is != number) {
+        printf("FAILED: %s: answer %llu, number %u was meant\n", label,
+               (unsigned long long)answer, number);
+        failed++;
+    } else if (taken != 0) {
+        printf("FAILED: %s: %u calls for memory\n", label, taken);
+        taken = 0;
+        failed++;
+    } else if (own > LIMIT) {
+        printf("FAILED: %s: above %u\n", label, LIMIT);
+        failed++;
+    } else {
+        passed++;
+    }
+}
+
+static const char nand2[] = "Name,NAND2,2\nCC,13,21,M,5\nCO,203,211\nSC,12,20,M,4\nSO,202,210\nEnd\n";
+/* The 0 comes from the own 1 and the 1 from the 0 before: 2G + 1 sweeps where listed backwards. */
+static const char slow[] = "Name,SLOW,2\nCC,3,21\nCO,203,211\nSC,2,20\nSO,202,210\nEnd\n";
+
+/* Groups of sixteen rows over eight pins, each naming every column. */
+static void full_entry(unsigned number)
+{
+    static const char *const words[] = {"CC", "CO", "SC", "SO"};
+    char text[64];
+
+    snprintf(text, sizeof text, "Name,FULL%u,8\n", number);
+    add_lib(text);
+    for (unsigned word = 0; word < 4; word++) {
+        unsigned groups = word % 2 == 0 ? 2 : 8;
+        add_lib(words[word]);
+        for (unsigned row = 0; row < groups * 16; row++) {
+            add_lib(row % 16 == 0 ? "," : ",M,");
+            add_lib(word % 2 == 0 ? "377777" : "3777777");
+        }
+        add_lib("\n");
+    }
+    add_lib("End\n");
+}
+
+int main(void)
+{
+    char text[128];
+
+    start();
+    measure("empty texts", 0);
+
+    start();
+    add_lib(nand2);
+    for (unsigned line = 1; line <= 1000; line++) {
+        snprintf(text, sizeof text, "gate,NAND2,%u,%u,%u\noutput,%u\n", line, line % 1000 + 1,
+                 (line * 7) % 1000 + 1, line);
+        add_net(text);
+    }
+    measure("1,000 gates in loops", 0);
+
+    start();
+    add_lib(slow);
+    add_net("input,1\n");
+    for (unsigned line = 1000; line > 1; line--) {
+        snprintf(text, sizeof text, "gate,SLOW,%u,%u,%u\n", line, line - 1, line);
+        add_net(text);
+    }
+    add_net("output,1000\n");
+    measure("1,999 sweeps", 0);
+
+    start();
+    for (unsigned cell = 0; cell < 15; cell++) {
+        full_entry(cell);
+    }
+    add_net("input,1\noutput,2\n");
+    for (unsigned line = 2; line <= 1000; line++) {
+        snprintf(text, sizeof text, "gate,FULL%u,%u,1,%u,1,1,%u,1,1,1\n", line % 15, line, line - 1,
+                 line);
+        add_net(text);
+    }
+    measure("full entries, full rows", 0);
+
+    /* Texts as long as they may be: many lines, many fields, one field. */
+    start();
+    memset(lib, '\n', lib_length = SCOAP_MOST_TEXT);
+    measure("a library of empty lines", 3);
+    start();
+    memset(net, '\n', net_length = SCOAP_MOST_TEXT);
+    measure("a netlist of empty lines", 10);
+    start();
+    memset(lib, ',', lib_length = SCOAP_MOST_TEXT);
+    measure("a library of commas", 3);
+    start();
+    memset(net, ',', net_length = SCOAP_MOST_TEXT);
+    measure("a netlist of commas", 10);
+    start();
+    memset(net, '1', net_length = SCOAP_MOST_TEXT);
+    measure("a netlist of one field", 10);
+    start();
+    add_lib("Name,A,1\nCC,2");
+    while (lib_length + 5 <= SCOAP_MOST_TEXT) {
+        add_lib(",M,2");
+    }
+    add_lib("\n");
+    measure("one group of many rows", 6);
+    start();
+    add_lib("Name,A,1\nCC,2");
+    while (lib_length + 3 <= SCOAP_MOST_TEXT) {
+        add_lib(",2");
+    }
+    add_lib("\n");
+    measure("many groups", 6);
+    start();
+    add_lib(nand2);
+    add_net("gate,NAND2,1");
+    while (net_length + 3 <= SCOAP_MOST_TEXT) {
+        add_net(",1");
+    }
+    add_net("\n");
+    measure("one gate of many pins", 13);
+    start();
+    memset(net, '\n', net_length = SCOAP_MOST_TEXT + 1);
+    measure("a text too long", 2);
+
+    printf("%u passed, %u failed\n", passed, failed);
+    return failed == 0 ? 0 : 1;
+}
