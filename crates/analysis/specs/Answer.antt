@@ -3,7 +3,7 @@
 use mathlib.Core.Bool.{false, _||_}
 use mathlib.Core.List.{List, [], _∷_, _++_}
 use mathlib.Core.Path.{_≡_}
-use Prim.Native.Nat.{ℕ, _≤_}
+use Prim.Native.Nat.{ℕ, _+_, _*_, _≤_}
 use lib.Dec.{ltb}
 use lib.ListN.{length, drop, replicate}
 use Rattle.text.specs.Class.{pick}
@@ -17,6 +17,7 @@ use Rattle.sweep.specs.Calculation.{analysed}
 use Rattle.report.specs.Report.{reportAfter}
 use Rattle.analysis.specs.declared.Answer.{Answer}
 use Rattle.analysis.specs.declared.Answer.the-variants.{Accepted, Refused}
+use Rattle.analysis.specs.Demands.{Promised}
 use Rattle.analysis.specs.Outcome as O
 
 -- Accepted, with the report's length and the counts, or document 01's number and line.
@@ -55,8 +56,18 @@ unfoldable pub ownTables : List ℕ → O.Lent
 ownTables report =
     record { library = replicate librarySize 0; netlist = replicate netlistSize 0; numbers = replicate numbersSize 0; report = report }
 
--- What the C entry promises: its number, and the whole report buffer afterwards. Its numbers are those of `analyse`, whose
--- promise it rests on, demands 1 to 3 among them.
+-- "gets one number back: the report's length when accepted, else the refusal number times 1,000,000 plus the line."
+unfoldable pub numberOf : Read O.Summary → ℕ
+numberOf (refused number line) = number * 1000000 + line
+numberOf (read s) = s .length
+
+-- What the C entry promises: its number and the whole report buffer afterwards, by equation; and that it is an analysis on
+-- tables of its own, whose numbers and report keep the whole promise of `analyse`, the three demands among it.
 pub record Coded (lib net before after : List ℕ) (said : ℕ) : Type 0 where
   pub answers : said ≡ O.code (O.outcome (O.givenTexts lib net) (ownTables before))
   pub leaves : after ≡ O.left (O.outcome (O.givenTexts lib net) (ownTables before)) (ownTables before) .report
+  pub tables : O.Lent
+  pub answer : Read O.Summary
+  pub number : said ≡ numberOf answer
+  pub buffer : after ≡ tables .report
+  pub promised : Promised (O.givenTexts lib net) (ownTables before) tables answer

@@ -8,6 +8,7 @@ use Prim.Native.String.{String}
 use lib.ListN.{replicate}
 use Rattle.text.specs.Bytes.{bytes, text, bytes-open}
 use Rattle.text.specs.Refusal.{Read, refused, read}
+use Rattle.cell_library.specs.Cells.{Column, pin, observe, rowOf, named, settingColumns, observingColumns}
 use Rattle.cell_library.specs.Layout as L
 use Rattle.cell_library.specs.Library.{library-open}
 use Rattle.netlist.specs.Layout as N
@@ -118,6 +119,30 @@ backwards =
 abbrev undriven : Figure
 undriven = record { library = []; netlist = "output,7" ∷ []; report = "line,cc0,cc1,sc0,sc1,co,so" ∷ "7,never,never,never,never,0,0" ∷ "sweeps,1,1,1,1" ∷ [] }
 
-pub figures-hold : AllHold (c1130 ∷ c1490 ∷ latch ∷ chain28 ∷ chain29 ∷ backwards ∷ undriven ∷ empty ∷ [])
+-- A row decoded: its octal number in a cell of three pins, its depth, and the columns that it names, lowest first.
+pub record Decoded : Type 0 where
+  pub row : ℕ
+  pub columns : List Column
+  pub depth : ℕ
+  pub names : List Column
+
+abbrev pub AllDecode : List Decoded → Type 0
+AllDecode [] = Unit {0}
+AllDecode (d ∷ ds) =
+    (rowOf (d .row) .depth ≡ d .depth) × (named 3 (d .columns) (rowOf (d .row) .columns) ≡ d .names) × AllDecode ds
+
+-- C1130's rows 41 (pin 1 at 1), 125 (every pin at 0) and 1025 (pins 2 and 3 at 0, and the output observed), each of depth 1.
+abbrev rows : List Decoded
+rows =
+    record { row = 0o41; columns = settingColumns 3; depth = 1; names = pin 1 1 ∷ [] }
+    ∷ record { row = 0o125; columns = settingColumns 3; depth = 1; names = pin 3 0 ∷ pin 2 0 ∷ pin 1 0 ∷ [] }
+    ∷ record { row = 0o1025; columns = observingColumns 3; depth = 1; names = pin 3 0 ∷ pin 2 0 ∷ observe ∷ [] }
+    ∷ []
+
+-- Document 01's figures that are marked P, and a chain listed backwards, which needs more than three sweeps.
+pub figures-hold : AllDecode rows × AllHold (c1130 ∷ c1490 ∷ latch ∷ chain28 ∷ chain29 ∷ backwards ∷ undriven ∷ empty ∷ [])
 unfolding outcome-open lent reported
-figures-hold = (refl, (refl, (refl, (refl, (refl, (refl, (refl, (refl, tt))))))))
+figures-hold = (
+  (refl, refl, (refl, refl, (refl, refl, tt))),
+  (refl, (refl, (refl, (refl, (refl, (refl, (refl, (refl, tt)))))))),
+)

@@ -43,7 +43,7 @@ pub enum Answer {
 }
 
 // Sets all that was lent to zero.
-pub fn clear_all(library: &mut [u32], netlist: &mut [u32], numbers: &mut [u32], report: &mut [u8])
+fn clear_all(library: &mut [u32], netlist: &mut [u32], numbers: &mut [u32], report: &mut [u8])
     ensures { λ _. ⌜ lentOf (now (library .exit)) (now (netlist .exit)) (now (numbers .exit)) (now (report .exit))
         ≡ zeroed (lentOf (now (library .entry)) (now (netlist .entry)) (now (numbers .entry)) (now (report .entry))) ⌝ }
 {
@@ -54,7 +54,7 @@ pub fn clear_all(library: &mut [u32], netlist: &mut [u32], numbers: &mut [u32], 
 }
 
 // Calculates and reports, from tables that hold an accepted library and netlist.
-pub fn conclude(library: &[u32], netlist: &[u32], numbers: &mut [u32], report: &mut [u8]) -> Answer
+fn conclude(library: &[u32], netlist: &[u32], numbers: &mut [u32], report: &mut [u8]) -> Answer
     requires { ⌜ Ready (now library) (now netlist) (now numbers) ⌝ }
     ensures { λ r. ⌜ ((cells : List Cell) (ss : List Statement)
         → Holds (now (library .entry)) (now (netlist .entry)) cells ss
@@ -84,7 +84,7 @@ pub fn conclude(library: &[u32], netlist: &[u32], numbers: &mut [u32], report: &
 }
 
 // Why lent memory or a text is refused at entry, by lengths: 1, 2, or 0 where neither is.
-pub fn entry_cause(lib: usize, net: usize, library: usize, netlist: usize, numbers: usize) -> u32
+fn entry_cause(lib: usize, net: usize, library: usize, netlist: usize, numbers: usize) -> u32
     ensures { λ r. ⌜ r ≡ entryCause lib net library netlist numbers ⌝ }
 {
     if library < LIBRARY {
