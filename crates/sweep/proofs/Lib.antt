@@ -4,13 +4,13 @@ pub mod Visiting
 pub mod Bounding
 pub mod Planning
 pub mod Exactness
-pub mod Laws
 pub mod Figures
+pub mod Laws
 pub mod Columns
 pub mod Rows
+pub mod Naming
 pub mod Visits
 pub mod Running
 pub mod Starting
-pub mod Naming
 pub mod Bridge
 pub mod Calculating

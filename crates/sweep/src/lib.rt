@@ -18,10 +18,10 @@ use cost::Temporal;
 ghost use mathlib.Core.Path.{_≡_};
 ghost use mathlib.Core.Bool.{not, _||_};
 ghost use mathlib.Core.List.{List, _++_};
-ghost use Prim.Native.Nat.{ℕ, _+_, _*_, _-_, _≤_, _<_};
+ghost use Prim.Native.Nat.{_+_, _*_, _-_, _≤_, _<_};
 ghost use lib.Count.{trailingZeros};
 ghost use lib.Dec.{eqb};
-ghost use lib.ListN.{length, getD, set, drop};
+ghost use lib.ListN.{length, set, drop};
 ghost use lib.Seq.{sets};
 ghost use Rattle.plans.specs.Sweep.{at, least, Settles, renew, lower};
 ghost use Rattle.cost.specs.Cost.{lesser};
@@ -30,7 +30,7 @@ ghost use Rattle.netlist.specs.Netlist.{Statement};
 ghost use Rattle.sweep.specs.Calculation.{analysed};
 ghost use Rattle.sweep.specs.Ready.{Holds, Ready, Calculated, whole};
 ghost use Rattle.sweep.specs.Runs.{Renewed, Swept, Runs};
-ghost use Rattle.sweep.specs.Tables.{settingPlace, observingPlace, columnPlace, groupWays, groupVisit, gateAt, cellAt, gateCell, gatePins, gateLines, valueVisits, gatePinVisits, settingSweep, observingSweep, startNumber, lineStart, linesStart};
+ghost use Rattle.sweep.specs.Tables.{settingPlace, observingPlace, columnPlace, groupWays, groupVisit, gateAt, cellAt, gateCell, gateLines, valueVisits, gatePinVisits, settingSweep, observingSweep, startNumber, lineStart, linesStart};
 ghost use Rattle.sweep.specs.Fits.{LinesFit, GroupFits, GateFits, TablesFit};
 
 // How many sweeps each of the four runs took.
@@ -111,8 +111,11 @@ fn least_sum(
     pins: usize,
     numbers: &[u32; 6000],
 ) -> u32
-    requires { ⌜ (kind ≤ 1) × GroupFits (now library) group × LinesFit (now lines) pins 6000 × (length (now numbers) ≡ 6000) ⌝ }
-    ensures { λ r. ⌜ r ≡ least (now (numbers .entry)) (groupWays kind (now (lines .entry)) pins (now (library .entry)) group) ⌝ }
+    requires { ⌜ (kind ≤ 1) × GroupFits (now library) group × LinesFit (now lines) pins 6000
+        × (length (now numbers) ≡ 6000) ⌝ }
+    ensures { λ r.
+        ⌜ r ≡ least (now (numbers .entry))
+        (groupWays kind (now (lines .entry)) pins (now (library .entry)) group) ⌝ }
 {
     if kind == COMBINATIONAL {
         spatial::least_sum(library, group, lines, pins, numbers).0
@@ -135,7 +138,9 @@ fn lesser_of(kind: usize, a: u32, b: u32) -> u32
 // Stores a number, and says whether another stood there.
 fn store(numbers: &mut [u32; 6000], place: usize, number: u32) -> bool
     requires { ⌜ (place < 6000) × (length (now numbers) ≡ 6000) ⌝ }
-    ensures { λ r. ⌜ (now (numbers .exit) ≡ set (now (numbers .entry)) place number) × (r ≡ not (eqb number (at (now (numbers .entry)) place))) ⌝ }
+    ensures { λ r.
+        ⌜ (now (numbers .exit) ≡ set (now (numbers .entry)) place number)
+        × (r ≡ not (eqb number (at (now (numbers .entry)) place))) ⌝ }
 {
     if numbers[place] == number {
         return false;
@@ -154,8 +159,12 @@ fn renew_at(
     numbers: &mut [u32; 6000],
     place: usize,
 ) -> bool
-    requires { ⌜ (kind ≤ 1) × GroupFits (now library) group × LinesFit (now lines) pins 6000 × (length (now numbers) ≡ 6000) × (place < 6000) ⌝ }
-    ensures { λ r. ⌜ Renewed renew (groupVisit kind (now (lines .entry)) pins (now (library .entry)) group place) (now (numbers .entry)) (now (numbers .exit)) r ⌝ }
+    requires { ⌜ (kind ≤ 1) × GroupFits (now library) group × LinesFit (now lines) pins 6000
+        × (length (now numbers) ≡ 6000) × (place < 6000) ⌝ }
+    ensures { λ r.
+        ⌜ Renewed renew
+        (groupVisit kind (now (lines .entry)) pins (now (library .entry)) group place)
+        (now (numbers .entry)) (now (numbers .exit)) r ⌝ }
 {
     let sum = least_sum(kind, library, group, lines, pins, numbers);
     store(numbers, place, sum)
@@ -171,8 +180,12 @@ fn lower_at(
     numbers: &mut [u32; 6000],
     place: usize,
 ) -> bool
-    requires { ⌜ (kind ≤ 1) × GroupFits (now library) group × LinesFit (now lines) pins 6000 × (length (now numbers) ≡ 6000) × (place < 6000) ⌝ }
-    ensures { λ r. ⌜ Renewed lower (groupVisit kind (now (lines .entry)) pins (now (library .entry)) group place) (now (numbers .entry)) (now (numbers .exit)) r ⌝ }
+    requires { ⌜ (kind ≤ 1) × GroupFits (now library) group × LinesFit (now lines) pins 6000
+        × (length (now numbers) ≡ 6000) × (place < 6000) ⌝ }
+    ensures { λ r.
+        ⌜ Renewed lower
+        (groupVisit kind (now (lines .entry)) pins (now (library .entry)) group place)
+        (now (numbers .entry)) (now (numbers .exit)) r ⌝ }
 {
     let sum = least_sum(kind, library, group, lines, pins, numbers);
     let kept = lesser_of(kind, numbers[place], sum);
@@ -214,8 +227,11 @@ fn set_gate(
     numbers: &mut [u32; 6000],
     gate: usize,
 ) -> bool
-    requires { ⌜ (kind ≤ 1) × GateFits (now library) (now netlist) 6000 gate × (length (now numbers) ≡ 6000) ⌝ }
-    ensures { λ r. ⌜ Swept renew (valueVisits kind (now (library .entry)) (now (netlist .entry)) gate) (now (numbers .entry)) (now (numbers .exit)) r ⌝ }
+    requires { ⌜ (kind ≤ 1) × GateFits (now library) (now netlist) 6000 gate
+        × (length (now numbers) ≡ 6000) ⌝ }
+    ensures { λ r.
+        ⌜ Swept renew (valueVisits kind (now (library .entry)) (now (netlist .entry)) gate)
+        (now (numbers .entry)) (now (numbers .exit)) r ⌝ }
 {
     let cell = cell_place(netlist, gate);
     let pins = wide(library[cell + 9]);
@@ -235,8 +251,11 @@ fn observe_gate(
     numbers: &mut [u32; 6000],
     gate: usize,
 ) -> bool
-    requires { ⌜ (kind ≤ 1) × GateFits (now library) (now netlist) 6000 gate × (length (now numbers) ≡ 6000) ⌝ }
-    ensures { λ r. ⌜ Swept lower (gatePinVisits kind (now (library .entry)) (now (netlist .entry)) gate) (now (numbers .entry)) (now (numbers .exit)) r ⌝ }
+    requires { ⌜ (kind ≤ 1) × GateFits (now library) (now netlist) 6000 gate
+        × (length (now numbers) ≡ 6000) ⌝ }
+    ensures { λ r.
+        ⌜ Swept lower (gatePinVisits kind (now (library .entry)) (now (netlist .entry)) gate)
+        (now (numbers .entry)) (now (numbers .exit)) r ⌝ }
 {
     let cell = cell_place(netlist, gate);
     let pins = wide(library[cell + 9]);
@@ -264,7 +283,9 @@ fn observe_gate(
 // One sweep for CC or SC, "the gates in netlist order"; whether a number changed.
 fn set_sweep(kind: usize, library: &[u32], netlist: &[u32], numbers: &mut [u32; 6000]) -> bool
     requires { ⌜ (kind ≤ 1) × TablesFit (now library) (now netlist) 6000 × (length (now numbers) ≡ 6000) ⌝ }
-    ensures { λ r. ⌜ Swept renew (settingSweep kind (now (library .entry)) (now (netlist .entry))) (now (numbers .entry)) (now (numbers .exit)) r ⌝ }
+    ensures { λ r.
+        ⌜ Swept renew (settingSweep kind (now (library .entry)) (now (netlist .entry)))
+        (now (numbers .entry)) (now (numbers .exit)) r ⌝ }
 {
     let gates = wide(netlist[0]);
     let mut changed = false;
@@ -280,7 +301,9 @@ fn set_sweep(kind: usize, library: &[u32], netlist: &[u32], numbers: &mut [u32; 
 // One sweep for CO or SO, "gates in reverse order"; whether a number changed.
 fn observe_sweep(kind: usize, library: &[u32], netlist: &[u32], numbers: &mut [u32; 6000]) -> bool
     requires { ⌜ (kind ≤ 1) × TablesFit (now library) (now netlist) 6000 × (length (now numbers) ≡ 6000) ⌝ }
-    ensures { λ r. ⌜ Swept lower (observingSweep kind (now (library .entry)) (now (netlist .entry))) (now (numbers .entry)) (now (numbers .exit)) r ⌝ }
+    ensures { λ r.
+        ⌜ Swept lower (observingSweep kind (now (library .entry)) (now (netlist .entry)))
+        (now (numbers .entry)) (now (numbers .exit)) r ⌝ }
 {
     let mut gate = wide(netlist[0]);
     let mut changed = false;
@@ -295,8 +318,11 @@ fn observe_sweep(kind: usize, library: &[u32], netlist: &[u32], numbers: &mut [u
 // Sweeps for CC or SC from the numbers that stand there: "Sweeps stop after the first that changes
 // nothing; it is counted."
 fn set_run(kind: usize, library: &[u32], netlist: &[u32], numbers: &mut [u32; 6000]) -> u32
-    requires { ⌜ (kind ≤ 1) × TablesFit (now library) (now netlist) 6000 × (length (now numbers) ≡ 6000) × Runs renew (settingSweep kind (now library) (now netlist)) (now numbers) ⌝ }
-    ensures { λ r. ⌜ Settles renew (settingSweep kind (now (library .entry)) (now (netlist .entry))) (now (numbers .entry)) r (now (numbers .exit)) ⌝ }
+    requires { ⌜ (kind ≤ 1) × TablesFit (now library) (now netlist) 6000 × (length (now numbers) ≡ 6000)
+        × Runs renew (settingSweep kind (now library) (now netlist)) (now numbers) ⌝ }
+    ensures { λ r.
+        ⌜ Settles renew (settingSweep kind (now (library .entry)) (now (netlist .entry)))
+        (now (numbers .entry)) r (now (numbers .exit)) ⌝ }
 {
     let mut count: u32 = 1;
     while set_sweep(kind, library, netlist, numbers) {
@@ -307,8 +333,11 @@ fn set_run(kind: usize, library: &[u32], netlist: &[u32], numbers: &mut [u32; 60
 
 // The same for CO or SO.
 fn observe_run(kind: usize, library: &[u32], netlist: &[u32], numbers: &mut [u32; 6000]) -> u32
-    requires { ⌜ (kind ≤ 1) × TablesFit (now library) (now netlist) 6000 × (length (now numbers) ≡ 6000) × Runs lower (observingSweep kind (now library) (now netlist)) (now numbers) ⌝ }
-    ensures { λ r. ⌜ Settles lower (observingSweep kind (now (library .entry)) (now (netlist .entry))) (now (numbers .entry)) r (now (numbers .exit)) ⌝ }
+    requires { ⌜ (kind ≤ 1) × TablesFit (now library) (now netlist) 6000 × (length (now numbers) ≡ 6000)
+        × Runs lower (observingSweep kind (now library) (now netlist)) (now numbers) ⌝ }
+    ensures { λ r.
+        ⌜ Settles lower (observingSweep kind (now (library .entry)) (now (netlist .entry)))
+        (now (numbers .entry)) r (now (numbers .exit)) ⌝ }
 {
     let mut count: u32 = 1;
     while observe_sweep(kind, library, netlist, numbers) {
@@ -327,7 +356,9 @@ fn first(mark: u32, price: u32) -> u32
 // Lays the start of the six numbers of a line, lines from 0 here.
 fn start_line(netlist: &[u32], numbers: &mut [u32; 6000], line: usize)
     requires { ⌜ (1001 + line < length (now netlist)) × (line * 6 + 6 ≤ 6000) ⌝ }
-    ensures { λ _. ⌜ now (numbers .exit) ≡ sets (now (numbers .entry)) (line * 6) (lineStart (now (netlist .entry)) (1 + line)) ⌝ }
+    ensures { λ _.
+        ⌜ now (numbers .exit) ≡ sets (now (numbers .entry)) (line * 6)
+        (lineStart (now (netlist .entry)) (1 + line)) ⌝ }
 {
     let driver = netlist[1 + line];
     let output = netlist[1001 + line];
@@ -354,29 +385,41 @@ fn start(netlist: &[u32], numbers: &mut [u32; 6000])
 
 // The four runs, each from the numbers that stand there: CC, SC, CO and SO.
 fn set_spatial(library: &[u32], netlist: &[u32], numbers: &mut [u32; 6000]) -> u32
-    requires { ⌜ TablesFit (now library) (now netlist) 6000 × (length (now numbers) ≡ 6000) × Runs renew (settingSweep 0 (now library) (now netlist)) (now numbers) ⌝ }
-    ensures { λ r. ⌜ Settles renew (settingSweep 0 (now (library .entry)) (now (netlist .entry))) (now (numbers .entry)) r (now (numbers .exit)) ⌝ }
+    requires { ⌜ TablesFit (now library) (now netlist) 6000 × (length (now numbers) ≡ 6000) × Runs renew
+        (settingSweep 0 (now library) (now netlist)) (now numbers) ⌝ }
+    ensures { λ r.
+        ⌜ Settles renew (settingSweep 0 (now (library .entry)) (now (netlist .entry)))
+        (now (numbers .entry)) r (now (numbers .exit)) ⌝ }
 {
     set_run(COMBINATIONAL, library, netlist, numbers)
 }
 
 fn set_temporal(library: &[u32], netlist: &[u32], numbers: &mut [u32; 6000]) -> u32
-    requires { ⌜ TablesFit (now library) (now netlist) 6000 × (length (now numbers) ≡ 6000) × Runs renew (settingSweep 1 (now library) (now netlist)) (now numbers) ⌝ }
-    ensures { λ r. ⌜ Settles renew (settingSweep 1 (now (library .entry)) (now (netlist .entry))) (now (numbers .entry)) r (now (numbers .exit)) ⌝ }
+    requires { ⌜ TablesFit (now library) (now netlist) 6000 × (length (now numbers) ≡ 6000) × Runs renew
+        (settingSweep 1 (now library) (now netlist)) (now numbers) ⌝ }
+    ensures { λ r.
+        ⌜ Settles renew (settingSweep 1 (now (library .entry)) (now (netlist .entry)))
+        (now (numbers .entry)) r (now (numbers .exit)) ⌝ }
 {
     set_run(SEQUENTIAL, library, netlist, numbers)
 }
 
 fn observe_spatial(library: &[u32], netlist: &[u32], numbers: &mut [u32; 6000]) -> u32
-    requires { ⌜ TablesFit (now library) (now netlist) 6000 × (length (now numbers) ≡ 6000) × Runs lower (observingSweep 0 (now library) (now netlist)) (now numbers) ⌝ }
-    ensures { λ r. ⌜ Settles lower (observingSweep 0 (now (library .entry)) (now (netlist .entry))) (now (numbers .entry)) r (now (numbers .exit)) ⌝ }
+    requires { ⌜ TablesFit (now library) (now netlist) 6000 × (length (now numbers) ≡ 6000) × Runs lower
+        (observingSweep 0 (now library) (now netlist)) (now numbers) ⌝ }
+    ensures { λ r.
+        ⌜ Settles lower (observingSweep 0 (now (library .entry)) (now (netlist .entry)))
+        (now (numbers .entry)) r (now (numbers .exit)) ⌝ }
 {
     observe_run(COMBINATIONAL, library, netlist, numbers)
 }
 
 fn observe_temporal(library: &[u32], netlist: &[u32], numbers: &mut [u32; 6000]) -> u32
-    requires { ⌜ TablesFit (now library) (now netlist) 6000 × (length (now numbers) ≡ 6000) × Runs lower (observingSweep 1 (now library) (now netlist)) (now numbers) ⌝ }
-    ensures { λ r. ⌜ Settles lower (observingSweep 1 (now (library .entry)) (now (netlist .entry))) (now (numbers .entry)) r (now (numbers .exit)) ⌝ }
+    requires { ⌜ TablesFit (now library) (now netlist) 6000 × (length (now numbers) ≡ 6000) × Runs lower
+        (observingSweep 1 (now library) (now netlist)) (now numbers) ⌝ }
+    ensures { λ r.
+        ⌜ Settles lower (observingSweep 1 (now (library .entry)) (now (netlist .entry)))
+        (now (numbers .entry)) r (now (numbers .exit)) ⌝ }
 {
     observe_run(SEQUENTIAL, library, netlist, numbers)
 }
@@ -384,7 +427,9 @@ fn observe_temporal(library: &[u32], netlist: &[u32], numbers: &mut [u32; 6000])
 // The start and the four runs, over just the numbers of the 1,000 lines.
 fn analyse(library: &[u32], netlist: &[u32], numbers: &mut [u32; 6000]) -> Counts
     requires { ⌜ Ready (now library) (now netlist) (now numbers) × (length (now numbers) ≡ 6000) ⌝ }
-    ensures { λ r. ⌜ ((cells : List Cell) (ss : List Statement) → Holds (now (library .entry)) (now (netlist .entry)) cells ss → whole r (now (numbers .exit)) ≡ analysed cells ss) ⌝ }
+    ensures { λ r.
+        ⌜ ((cells : List Cell) (ss : List Statement) → Holds (now (library .entry))
+        (now (netlist .entry)) cells ss → whole r (now (numbers .exit)) ≡ analysed cells ss) ⌝ }
 {
     start(netlist, numbers);
     let cc = set_spatial(library, netlist, numbers);
@@ -397,7 +442,8 @@ fn analyse(library: &[u32], netlist: &[u32], numbers: &mut [u32; 6000]) -> Count
 // Lays numbers into the first 6,000 of a lent table.
 fn hand_over(found: &[u32; 6000], numbers: &mut [u32])
     requires { ⌜ (length (now found) ≡ 6000) × (6000 ≤ length (now numbers)) ⌝ }
-    ensures { λ _. ⌜ now (numbers .exit) ≡ now (found .entry) ++ drop 6000 (now (numbers .entry)) ⌝ }
+    ensures { λ _.
+        ⌜ now (numbers .exit) ≡ now (found .entry) ++ drop 6000 (now (numbers .entry)) ⌝ }
 {
     let mut i = 0;
     while i < 6000 {
@@ -410,7 +456,10 @@ fn hand_over(found: &[u32; 6000], numbers: &mut [u32])
 // of each line in the first 6,000 numbers, and says how many sweeps each run took.
 pub fn calculate(library: &[u32], netlist: &[u32], numbers: &mut [u32]) -> Counts
     requires { ⌜ Ready (now library) (now netlist) (now numbers) ⌝ }
-    ensures { λ r. ⌜ ((cells : List Cell) (ss : List Statement) → Holds (now (library .entry)) (now (netlist .entry)) cells ss → Calculated cells ss (now (numbers .entry)) (now (numbers .exit)) r) ⌝ }
+    ensures { λ r.
+        ⌜ ((cells : List Cell) (ss : List Statement) → Holds (now (library .entry))
+        (now (netlist .entry)) cells ss → Calculated cells ss (now (numbers .entry))
+        (now (numbers .exit)) r) ⌝ }
 {
     // The sweeps work on an array of their own: a reference to it is one machine word, so that the
     // row sum's calls of itself stay in registers.

@@ -22,7 +22,9 @@ fn row_sum(
     before: Spatial,
 ) -> u32
     requires { ⌜ LinesFit (now lines) pins 6000 × (length (now numbers) ≡ 6000) × (before .0 ≤ never) ⌝ }
-    ensures { λ r. ⌜ r ≡ before .0 ⊕ sums (now (numbers .entry)) (rowPlaces 0 (now (lines .entry)) pins columns) ⌝ }
+    ensures { λ r.
+        ⌜ r ≡ before .0 ⊕ sums (now (numbers .entry))
+        (rowPlaces 0 (now (lines .entry)) pins columns) ⌝ }
 {
     if columns == 0 {
         return before.0;
@@ -40,8 +42,11 @@ pub fn least_sum(
     pins: usize,
     numbers: &[u32; 6000],
 ) -> Spatial
-    requires { ⌜ GroupFits (now library) group × LinesFit (now lines) pins 6000 × (length (now numbers) ≡ 6000) ⌝ }
-    ensures { λ r. ⌜ r .0 ≡ least (now (numbers .entry)) (groupWays 0 (now (lines .entry)) pins (now (library .entry)) group) ⌝ }
+    requires { ⌜ GroupFits (now library) group × LinesFit (now lines) pins 6000
+        × (length (now numbers) ≡ 6000) ⌝ }
+    ensures { λ r.
+        ⌜ r .0 ≡ least (now (numbers .entry))
+        (groupWays 0 (now (lines .entry)) pins (now (library .entry)) group) ⌝ }
 {
     let mut best = Spatial(NEVER);
     let mut row = wide(library[group]);
