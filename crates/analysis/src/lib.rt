@@ -4,6 +4,9 @@
 // and `scoap_report` for C, which has tables of its own. Neither has a condition on its input. What
 // they promise is in specs/: Outcome.antt has their answer and what they leave in lent memory,
 // Demands.antt the three demands.
+//
+// For crate `records` alone, which reads the netlist from a list of records and shares all that
+// comes behind: `entry_cause`, `conclude` and `clear_all`.
 use report::Sweeps;
 use report::Written;
 use text::Refusal;
@@ -43,7 +46,7 @@ pub enum Answer {
 }
 
 // Sets all that was lent to zero.
-fn clear_all(library: &mut [u32], netlist: &mut [u32], numbers: &mut [u32], report: &mut [u8])
+pub fn clear_all(library: &mut [u32], netlist: &mut [u32], numbers: &mut [u32], report: &mut [u8])
     ensures { λ _. ⌜ lentOf (now (library .exit)) (now (netlist .exit)) (now (numbers .exit)) (now (report .exit))
         ≡ zeroed (lentOf (now (library .entry)) (now (netlist .entry)) (now (numbers .entry)) (now (report .entry))) ⌝ }
 {
@@ -54,7 +57,7 @@ fn clear_all(library: &mut [u32], netlist: &mut [u32], numbers: &mut [u32], repo
 }
 
 // Calculates and reports, from tables that hold an accepted library and netlist.
-fn conclude(library: &[u32], netlist: &[u32], numbers: &mut [u32], report: &mut [u8]) -> Answer
+pub fn conclude(library: &[u32], netlist: &[u32], numbers: &mut [u32], report: &mut [u8]) -> Answer
     requires { ⌜ Ready (now library) (now netlist) (now numbers) ⌝ }
     ensures { λ r. ⌜ ((cells : List Cell) (ss : List Statement)
         → Holds (now (library .entry)) (now (netlist .entry)) cells ss
@@ -84,7 +87,7 @@ fn conclude(library: &[u32], netlist: &[u32], numbers: &mut [u32], report: &mut 
 }
 
 // Why lent memory or a text is refused at entry, by lengths: 1, 2, or 0 where neither is.
-fn entry_cause(lib: usize, net: usize, library: usize, netlist: usize, numbers: usize) -> u32
+pub fn entry_cause(lib: usize, net: usize, library: usize, netlist: usize, numbers: usize) -> u32
     ensures { λ r. ⌜ r ≡ entryCause lib net library netlist numbers ⌝ }
 {
     if library < LIBRARY {
