@@ -1,0 +1,66 @@
+-- The two callers tied: where the records say the same as a netlist text, statement by statement, the call over records and
+-- the call over texts answer and leave the same.
+-- Assumes nothing.
+use mathlib.Core.Bool.{Bool, or-false}
+use mathlib.Core.List.{List, [], _∷_}
+use mathlib.Core.Path.{_≡_, refl, sym, ap, _∙_}
+use Prim.Native.Nat.{ℕ, _≤_}
+use lib.Dec.{ltb}
+use lib.ListN.{length}
+use borrow.Author.Tests.{le-ltb}
+use Rattle.text.specs.Bytes.{bytes}
+use Rattle.text.specs.Lines.{lines}
+use Rattle.text.specs.Refusal.{Read, refused, read, _>>=_, _>>_, weigh}
+use Rattle.cell_library.specs.Cells.{Cell}
+use Rattle.cell_library.specs.Library.{library}
+use Rattle.netlist.specs.Netlist.{Statement, admitted, lineForms, netlist, netlist-open}
+use Rattle.analysis.specs.Demands.{Promised}
+use Rattle.analysis.specs.Outcome.{Accepted, Lent, Summary, givenTexts, textLong, tableShort, conclude, reading, outcome, answer, left}
+use Rattle.records.specs.declared.Record.{Record}
+use Rattle.records.specs.Records.{allZero, pinsBefore, endsInZeros, markForm, gateForm, recordForm, recordForms, fromRecords}
+use Rattle.records.specs.Outcome.{givenRecords}
+
+-- Against the cells of the library, each record says what the line at its place says. A line of bad form is said by a record
+-- of bad form, so that refused lists are tied too.
+unfoldable pub SaySame : List ℕ → List ℕ → List Record → Type 0
+SaySame lib net rs = (cells : List Cell) → library lib ≡ read cells → recordForms rs ≡ lineForms cells (lines net)
+
+module _ (lib net : List ℕ) (rs : List Record) (same : SaySame lib net rs) where
+  same-statements : (cells : List Cell) → library lib ≡ read cells → fromRecords rs cells ≡ netlist cells net
+  unfolding SaySame fromRecords netlist
+  same-statements cells e = ap (admitted 1 cells []) (same cells e)
+
+  by-library : (space : ℕ) (o : Read (List Cell)) → library lib ≡ o → (o >>= λ cells. fromRecords rs cells >>= λ ss. conclude cells ss space) ≡ (o >>= λ cells. netlist cells net >>= λ ss. conclude cells ss space)
+  unfolding _>>=_
+  by-library space (refused n l) e = refl
+  by-library space (read cells) e = ap (λ (r : Read (List Statement)). r >>= λ ss. conclude cells ss space) (same-statements cells e)
+
+  same-reading : (space : ℕ) → reading (givenRecords lib rs) space ≡ reading (givenTexts lib net) space
+  unfolding reading givenRecords givenTexts
+  same-reading space = by-library space (library lib) refl
+
+  module _ (short : length net ≤ 65535) where
+    same-long : givenRecords lib rs .long ≡ givenTexts lib net .long
+    unfolding givenRecords givenTexts textLong
+    same-long = sym (rw (le-ltb 65535 (length net) short) (or-false (ltb 65535 (length lib))))
+
+    pub same-outcome : (m : Lent) → outcome (givenRecords lib rs) m ≡ outcome (givenTexts lib net) m
+    unfolding outcome
+    same-outcome m =
+        ap (λ (t : Bool). weigh 0 ((1, tableShort m) ∷ (2, t) ∷ []) >> reading (givenRecords lib rs) (length (m .report))) same-long
+        ∙ ap (λ (r : Read Accepted). weigh 0 ((1, tableShort m) ∷ (2, givenTexts lib net .long) ∷ []) >> r) (same-reading (length (m .report)))
+
+    -- Of two calls that keep their promises, which `analyse_records` and `analysis::analyse` do.
+    pub same-calls : (before after after′ : Lent) (said said′ : Read Summary) → Promised (givenRecords lib rs) before after said → Promised (givenTexts lib net) before after′ said′ → (said ≡ said′) × (after ≡ after′)
+    same-calls before after after′ said said′ p q =
+        let e = same-outcome before in
+        (p .answers ∙ ap answer e ∙ sym (q .answers), p .leaves ∙ ap (λ (o : Read Accepted). left o before) e ∙ sym (q .leaves))
+
+-- An input, an output and a line of bad form, said both ways; the cells do not matter to them.
+marks-same : (lib : List ℕ) → SaySame lib (bytes "input,1\noutput,2\ninput,01\n")
+    (record { kind = 0; cell = 0; line = 1; pins = 0 ∷ 0 ∷ 0 ∷ 0 ∷ 0 ∷ 0 ∷ 0 ∷ 0 ∷ [] }
+    ∷ record { kind = 1; cell = 0; line = 2; pins = 0 ∷ 0 ∷ 0 ∷ 0 ∷ 0 ∷ 0 ∷ 0 ∷ 0 ∷ [] }
+    ∷ record { kind = 3; cell = 0; line = 1; pins = 0 ∷ 0 ∷ 0 ∷ 0 ∷ 0 ∷ 0 ∷ 0 ∷ 0 ∷ [] }
+    ∷ [])
+unfolding netlist-open SaySame allZero pinsBefore endsInZeros markForm gateForm recordForm recordForms
+marks-same lib cells e = refl

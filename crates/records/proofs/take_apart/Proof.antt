@@ -1,0 +1,41 @@
+-- `take_apart` says a record's statement: a gate by its pins before the first 0, else an input or an output. Assumes nothing.
+use mathlib.Core.Bool.{Bool, _&&_}
+use mathlib.Core.Path.{refl, ap}
+use lib.Dec.{eqb, ltb}
+use Rattle.records.proofs.Laws.{gate-says, mark-says}
+use borrow.Author.Needs.{needs}
+use Rattle.records.proofs.take_apart.Statement.{statement}
+use Rattle.records.proofs.take_apart.Tie as tie
+
+pins-before-requires : tie.Need-pins-before-requires
+pins-before-requires c κs = search needs
+
+zero-from-requires : tie.Need-zero-from-requires
+zero-from-requires c κs = search needs
+
+pins-bad-requires : tie.Need-pins-bad-requires
+pins-bad-requires c κs = search needs
+
+returns : tie.Need-returns
+returns c =
+    let rec = c .before .before .before .before .before .args .rec in
+    gate-says rec _ refl (c .before .before .pins-before .result) (c .before .before .before .if1 .taken) (c .before .before .pins-before .ensures .1) (c .before .before .pins-before .ensures .0) (c .before .zero-from .ensures) refl refl refl refl (c .pins-bad .ensures)
+
+zero-from-requires-2 : tie.Need-zero-from-requires-2
+zero-from-requires-2 c κs = search needs
+
+returns-2 : tie.Need-returns-2
+returns-2 c =
+    let rec = c .before .before .before .before .args .rec in
+    mark-says rec _ refl (c .before .before .if1 .left) (ap (λ (b : Bool). (ltb (rec .kind) 2 && eqb (rec .cell) 0) && b) (c .zero-from2 .ensures)) refl
+
+pub take-apart-spec : {M : Type 1} → statement M
+take-apart-spec =
+    tie.close
+    (tie.spec
+    pins-before-requires
+    zero-from-requires
+    pins-bad-requires
+    returns
+    zero-from-requires-2
+    returns-2)

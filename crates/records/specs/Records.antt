@@ -1,0 +1,51 @@
+-- The netlist as a list of records. Document 01, "Callers": "kind (0 input, 1 output, 2 gate), cell index (from 0 in library
+-- order), line, eight pins, 0 after the last."
+-- Assumes nothing.
+use mathlib.Core.Bool.{Bool, true, _&&_}
+use mathlib.Core.List.{List, [], _∷_}
+use mathlib.Core.Option.{Option, none, some}
+use Prim.Native.Nat.{ℕ}
+use lib.Dec.{eqb}
+use Rattle.text.specs.Class.{pick}
+use Rattle.text.specs.Refusal.{Read}
+use Rattle.cell_library.specs.Cells.{Cell}
+use Rattle.netlist.specs.Netlist.{Statement, input, output, gate, admitted}
+use Rattle.records.specs.declared.Record.{Record}
+
+unfoldable pub allZero : List ℕ → Bool
+allZero [] = true
+allZero (p ∷ ps) = eqb p 0 && allZero ps
+
+-- The pins before the first 0.
+unfoldable pub pinsBefore : List ℕ → List ℕ
+pinsBefore [] = []
+pinsBefore (p ∷ ps) = pick (eqb p 0) [] (p ∷ pinsBefore ps)
+
+-- No pin stands after a 0.
+unfoldable pub endsInZeros : List ℕ → Bool
+endsInZeros [] = true
+endsInZeros (p ∷ ps) = pick (eqb p 0) (allZero ps) (endsInZeros ps)
+
+-- "10 being an unknown kind, an unused field not 0, or a pin after a 0": none is bad form. An input or an output uses its
+-- line alone.
+unfoldable pub markForm : Statement → Record → Option Statement
+markForm s r = pick (eqb (r .cell) 0 && allZero (r .pins)) (some s) none
+
+unfoldable pub gateForm : Record → Option Statement
+gateForm r =
+    pick (endsInZeros (r .pins))
+    (some (gate (record { cell = r .cell; line = r .line; pins = pinsBefore (r .pins) }))) none
+
+unfoldable pub recordForm : Record → Option Statement
+recordForm r =
+    pick (eqb (r .kind) 0) (markForm (input (r .line)) r)
+    (pick (eqb (r .kind) 1) (markForm (output (r .line)) r)
+    (pick (eqb (r .kind) 2) (gateForm r) none))
+
+unfoldable pub recordForms : List Record → List (Option Statement)
+recordForms [] = []
+recordForms (r ∷ rs) = recordForm r ∷ recordForms rs
+
+-- "Records follow the same checks" as a text's lines; "A refusal's line is then the record's place, from 1."
+unfoldable pub fromRecords : List Record → List Cell → Read (List Statement)
+fromRecords rs cells = admitted 1 cells [] (recordForms rs)
