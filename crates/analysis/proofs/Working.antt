@@ -20,12 +20,12 @@ use Rattle.cell_library.specs.Cells.{Cell}
 use Rattle.cell_library.specs.Layout.{libraryWords, librarySize, libraryAfter, Each}
 use Rattle.cell_library.specs.Library.{library}
 use Rattle.cell_library.specs.Sound as C
-use Rattle.cell_library.proofs.Laws.{library-sound, sound-fits}
-use Rattle.cell_library.proofs.Names.{each-map}
+use Rattle.cell_library.proofs.Laws.{library-sound}
 use Rattle.netlist.specs.Layout.{netlistWords, netlistSize, netlistAfter}
 use Rattle.netlist.specs.Netlist.{Statement}
-use Rattle.netlist.specs.Plain.{Suited, FewPins, doneRead}
+use Rattle.netlist.specs.Plain.{Suited, doneRead}
 use Rattle.netlist.specs.Plain as NR
+use Rattle.netlist.proofs.Laws.{sound-suited}
 use Rattle.netlist.specs.declared.Answer as NA
 use Rattle.netlist.specs.declared.Answer.the-variants as NV
 use Rattle.sweep.specs.Calculation.{analysed}
@@ -37,10 +37,6 @@ use Rattle.analysis.specs.Outcome.{Given, Lent, Accepted, Summary, readi
 use Rattle.analysis.proofs.Accepting.{refused-read}
 use Rattle.analysis.proofs.Checking.{Checked}
 use Rattle.analysis.proofs.Facts.{facts}
-
-suited : (cells : List Cell) → C.Sound cells → Suited cells
-unfolding FewPins
-suited cells s = record { fits = sound-fits cells s; narrow = each-map C.SoundCell FewPins (λ c h. h .header .most-pins) cells (s .each) }
 
 module _ (g : Given) (checked : Checked g) (before : Lent) where
   -- ---- the library
@@ -71,7 +67,7 @@ module _ (g : Given) (checked : Checked g) (before : Lent) where
   accepts-library n after (refused number line) e r t = absurd (refused-read (sym r))
   accepts-library n after (read cells) e r t =
       let s = library-sound (g .library) cells e in
-      record { cells = cells; reads = e; stands = t; sound = s; suits = suited cells s }
+      record { cells = cells; reads = e; stands = t; sound = s; suits = sound-suited cells s }
 
   pub library-accepted : (r : CA.Answer) (n : ℕ) (after : List ℕ) → CR.answerRead r ≡ countRead (library (g .library)) → r ≡ CV.Accepted n → after ≡ libraryAfter (library (g .library)) (before .library) → LibraryRead after
   unfolding CR.answerRead
