@@ -1,11 +1,15 @@
-# make run    builds the program and runs it on a bundled example, C17
+# make run    proves and builds the program, and runs it on a bundled example, C17
 # make test   passes all tests: its last line is 'N passed, 0 failed'
 # make bench  the archive and the second implementation side by side
+#
+# README says how long each takes the first time. What is proved stays proved until its files change.
 
 .PHONY: run test bench archive second clean
 
 run:
-	@rt check scoap >/dev/null || { rt check scoap; exit 1; }
+	@echo 'proving the program and the crates below it, one line for each:'
+	@tests/told target/log/run.out check scoap || { echo 'not proved: target/log/run.out has it whole'; exit 1; }
+	@echo 'target/bin/scoap on examples/c17:'
 	@cd examples/c17 && ../../target/bin/scoap
 
 test:
@@ -13,7 +17,7 @@ test:
 
 # The archive for C, and the programs that compare it with the second implementation.
 archive:
-	@rt staticlib analysis >/dev/null || { rt staticlib analysis; exit 1; }
+	@tests/told target/log/archive.out staticlib scoap_c || { echo 'not built: target/log/archive.out has it whole'; exit 1; }
 
 second: archive
 	@cd tests/second && cargo build -q --release --offline -j2

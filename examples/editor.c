@@ -2,7 +2,8 @@
  * An example of a schematic editor's side: it lends two texts and a buffer to the analyser and shows
  * the report, or says in words where the texts stop.
  *
- *     editor [LIBRARY NETLIST]
+ *     gcc -std=c99 -Iinclude -o editor examples/editor.c target/staticlib/libscoap_c.a
+ *     ./editor [LIBRARY NETLIST]
  *
  * Without names it shows a bundled example. Exit status: 0 accepted, 1 refused, 2 no texts to lend.
  */

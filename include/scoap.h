@@ -1,8 +1,8 @@
 /*
  * Goldstein's six numbers for every line of a netlist, for callers in C and C++.
  *
- * Link target/staticlib/libanalysis.a, which 'rt staticlib analysis' builds. The entry takes nothing
- * from the heap and less than SCOAP_STACK bytes of stack.
+ * Link target/staticlib/libscoap_c.a, which 'rt staticlib scoap_c' builds. The entry takes nothing from
+ * the heap and less than SCOAP_STACK bytes of stack.
  */
 #ifndef SCOAP_H
 #define SCOAP_H
@@ -35,28 +35,47 @@ extern "C" {
 /* The answers from here on are refusals: number times SCOAP_REFUSED plus line. */
 #define SCOAP_REFUSED 1000000u
 
-/* Why a pair of texts is refused. The number 1 needs a lent table and can't come from here. */
+/*
+ * Why a pair of texts is refused, in the words of README's table, to which tests/refusals holds them. The
+ * number 1 needs a lent table and can't come from here.
+ */
 enum scoap_refusal {
-    SCOAP_TEXT_TOO_LONG = 2,     /* a text above 65,535 bytes; line 0 */
+    /* a text has more than 65,535 bytes */
+    SCOAP_TEXT_TOO_LONG = 2,
 
-    SCOAP_LIBRARY_FORM = 3,      /* bad form; where an entry breaks off, the line after the last */
-    SCOAP_NAME_USED = 4,         /* a cell name used before */
-    SCOAP_PINS = 5,              /* not 1 to 8 pins */
-    SCOAP_GROUPS = 6,            /* wrong count of groups, or a group above 16 rows */
-    SCOAP_ROW_BITS = 7,          /* a row with a bit above its columns */
-    SCOAP_ROW_EMPTY = 8,         /* a CC or SC row that names no pin, or a CO or SO row that
-                                    doesn't observe the output */
-    SCOAP_ENTRIES = 9,           /* a 33rd entry */
+    /* bad form: a wrong word, a missing or empty field, a bad number or name, an M out of place, no
+       byte 10 at the end, an entry broken off */
+    SCOAP_LIBRARY_FORM = 3,
+    /* the name was used before */
+    SCOAP_NAME_USED = 4,
+    /* not 1 to 8 pins */
+    SCOAP_PINS = 5,
+    /* a wrong count of groups, or a group of more than 16 rows */
+    SCOAP_GROUPS = 6,
+    /* a row has a bit above its columns */
+    SCOAP_ROW_BITS = 7,
+    /* a CC or SC row names no pin, or a CO or SO row does not observe the output */
+    SCOAP_ROW_EMPTY = 8,
+    /* a 33rd entry */
+    SCOAP_ENTRIES = 9,
 
-    SCOAP_NETLIST_FORM = 10,     /* bad form */
-    SCOAP_LINE_NUMBER = 11,      /* a line number that is not 1 to 1,000 */
-    SCOAP_UNKNOWN_CELL = 12,     /* a gate of a cell that the library lacks */
-    SCOAP_PIN_COUNT = 13,        /* more or fewer pins than the cell has */
-    SCOAP_DRIVEN_TWICE = 14,     /* a line driven before, by an input or a gate */
-    SCOAP_OUTPUT_TWICE = 15,     /* a line marked output before */
-    SCOAP_GATES = 16,            /* a 1,001st gate; 14 always comes before it */
+    /* bad form */
+    SCOAP_NETLIST_FORM = 10,
+    /* a line number is not 1 to 1,000 */
+    SCOAP_LINE_NUMBER = 11,
+    /* the library has no such cell */
+    SCOAP_UNKNOWN_CELL = 12,
+    /* the count of pins differs from the cell's */
+    SCOAP_PIN_COUNT = 13,
+    /* the line is driven already, by an input or a gate */
+    SCOAP_DRIVEN_TWICE = 14,
+    /* the line is marked output already */
+    SCOAP_OUTPUT_TWICE = 15,
+    /* a 1,001st gate (14 or 11 comes first, so it is never met) */
+    SCOAP_GATES = 16,
 
-    SCOAP_REPORT_TOO_LONG = 17   /* the report is longer than its buffer; line 0 */
+    /* the report is longer than its buffer */
+    SCOAP_REPORT_TOO_LONG = 17
 };
 
 /*

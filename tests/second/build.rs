@@ -9,7 +9,7 @@ fn main() {
     println!("cargo:rerun-if-env-changed=SCOAP_ARCHIVE");
     let here = env::var("CARGO_MANIFEST_DIR").unwrap();
     let named = env::var("SCOAP_ARCHIVE")
-        .unwrap_or_else(|_| "../../target/staticlib/libanalysis.a".to_string());
+        .unwrap_or_else(|_| "../../target/staticlib/libscoap_c.a".to_string());
     let archive = Path::new(&here).join(named);
     // The archive's own change must link the programs anew.
     println!("cargo:rerun-if-changed={}", archive.display());

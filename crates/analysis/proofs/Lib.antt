@@ -1,9 +1,1 @@
-pub mod Facts
-pub mod Accepting
-pub mod Late
-pub mod Checking
-pub mod Keeping
-pub mod Concluding
-pub mod Working
-pub mod Entering
-pub mod Coding
+pub mod Reading

@@ -1,4 +1,1 @@
-pub mod Outcome
-pub mod Demands
-pub mod Figures
-pub mod Answer
+pub mod Netlist

@@ -9,7 +9,8 @@ use lib.ListN.{length, getD, drop, length-drop}
 use lib.Seq.{drop-drop, getD-drop}
 use borrow.Author.Tests.{leb-true, leb-false}
 use Rattle.text.specs.Lines.{fields, fieldsFrom, part, nextAfter}
-use Rattle.text.proofs.Laws.{by-test, fieldsFrom-start, fieldsFrom-step, fieldsFrom-end, nextAfter-within, nextAfter-past, part-within}
+use Rattle.reading.proofs.Laws.{by-test}
+use Rattle.text.proofs.Laws.{fieldsFrom-start, fieldsFrom-step, fieldsFrom-end, nextAfter-within, nextAfter-past}
 use Rattle.text.proofs.Steps.{part-past}
 
 drop-next : {A : Type 0} (x : A) (xs ys : List A) (i : ℕ) → x ∷ xs ≡ drop i ys → xs ≡ drop (i + 1) ys
@@ -19,15 +20,9 @@ drop-past : {A : Type 0} (ys : List A) (i : ℕ) → drop i ys ≡ [] → drop (
 drop-past ys i e = sym (drop-drop 1 i ys) ∙ ap (λ l. drop 1 l) e
 
 module _ (line : List ℕ) (at : ℕ) where
-  -- The cursor moves on by at least one, and not past one behind the end.
+  -- The cursor moves on by at least one.
   pub cursor-on : at ≤ length line → at < nextAfter line at (part 44 line at)
   cursor-on h = omega (arith, nextAfter-within line at (part 44 line at) h)
-
-  pub cursor-most : at ≤ length line + 1 → nextAfter line at (part 44 line at) ≤ length line + 1
-  cursor-most h =
-      by-test (leb at (length line))
-      (λ e. omega (arith, nextAfter-within line at (part 44 line at) (leb-true at (length line) e), part-within 44 line at (leb-true at (length line) e)))
-      (λ e. omega (arith, nextAfter-past line at (part 44 line at) (leb-false at (length line) e)))
 
   pub cursor-next : (i : ℕ) → fieldsFrom line at ≡ drop i (fields line) → fieldsFrom line (nextAfter line at (part 44 line at)) ≡ drop (i + 1) (fields line)
   cursor-next i e =

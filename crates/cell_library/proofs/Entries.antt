@@ -1,42 +1,46 @@
 -- What each line of an entry leaves: the reading behind it and the table that holds it, or its refusal number.
 -- Assumes nothing.
-use mathlib.Core.Bool.{Bool, true, false, _&&_}
+use mathlib.Core.Bool.{Bool, true, false}
 use mathlib.Core.List.{List, [], _∷_, _++_}
 use mathlib.Core.Path.{_≡_, refl, sym, ap, _∙_}
 use Prim.Native.Nat.{ℕ, _+_, _≤_, _<_}
 use native.Mathlib.Omega.{arith}
-use lib.Dec.{eqb}
 use lib.ListN.{length, getD, set, drop, length-append}
-use lib.Seq.{sets}
 use borrow.Author.Tests.{eq-eqb, ne-eqb, le-ltb}
-use Rattle.text.specs.Class.{pick}
+use Rattle.sizes.specs.Places.{groupPlace}
+use Rattle.sizes.specs.Sizes as Size
+use Rattle.reading.specs.Choice.{pick}
+use Rattle.reading.specs.Each.{Each}
+use Rattle.reading.specs.Numbers as No
+use Rattle.reading.specs.Refusal.{Read, refused, read, _>>=_, _>>_, form}
+use Rattle.reading.proofs.Laws.{by-test}
 use Rattle.text.specs.Lines.{sameBytes}
-use Rattle.text.specs.Bytes.{bytes}
-use Rattle.text.specs.Numeral.{decimal, nameForm}
-use Rattle.text.specs.Refusal.{Read, refused, read, _>>=_, _>>_, form}
-use Rattle.text.proofs.Laws.{by-test, and-left, and-right, nameForm-length}
+use Rattle.text.specs.Numeral.{decimal}
+use Rattle.text.proofs.Laws.{nameForm-length}
 use Rattle.cell_library.specs.Cells.{Group, Cell}
-use Rattle.cell_library.specs.Library.{Fields, holds, word, rowsForm, anyGroup, aboveSixteen, groupsOf, Word, CC, CO, SC, SO, wordBytes, groupCount, Place, outside, afterName, afterCC, afterCO, afterSC, afterSO, Reading, begun, withGroups, entryLine, libraryLine}
-use Rattle.cell_library.specs.Layout.{libraryWords, cellPlace, groupPlace, firstGroup, Fits, Each}
-use Rattle.cell_library.specs.Passes.{orZero, gather, stored, wordAt, rowNumber, nameFormed, headerIn, nameNumber, endFormed}
-use Rattle.cell_library.specs.Sound.{SoundGroup, SoundGroups, Sound, wordGroups, Unread, SoundEntry, SoundPlace, SoundReading}
-use Rattle.cell_library.specs.Walk.{placeCells, handWords, readingWords, placeNumber, placePins, Shows, Leaves}
+use Rattle.cell_library.specs.Library.{Fields, word, rowsForm, anyOf, aboveRows, groupsOf, Word, CC, CO, SC, SO, wordBytes, groupCount, wordLine, endLine, lineAfter, Place, outside, inside, Reading, begun, wordGroups, withGroups, rowLine, libraryLine}
+use Rattle.cell_library.specs.Layout.{libraryWords, firstGroup, LibraryHolds}
+use Rattle.cell_library.specs.Passes.{orZero, headerPut, rowsPut, wordAt, rowNumber, headerIn, nameNumber, endFormed}
+use Rattle.cell_library.specs.Sound.{SoundGroup, wordNumber, endNumber, wantedNumber, SoundEntry, SoundPlace, SoundReading}
+use Rattle.cell_library.specs.Walk.{placeCells, countedWords, readingWords, placeNumber, placePins, StateFits, Shows, Leaves}
+use Rattle.cell_library.specs.declared.lines.State.{State}
 use Rattle.cell_library.proofs.Laws.{rowLine-sound, libraryLine-sound, sound-fits}
-use Rattle.cell_library.proofs.Passes.{gather-groups, rowLine-number, nameLine-number, endAfter-formed, rowNumber-passes}
-use Rattle.cell_library.proofs.Stores.{space, partTable, stored-line, same-pins, header-stored, count-stored}
+use Rattle.cell_library.proofs.Passes.{gather, gather-groups, rowLine-number, nameLine-number, endAfter-formed, rowNumber-passes}
+use Rattle.cell_library.proofs.Places.{space, within-space}
+use Rattle.cell_library.proofs.Stores.{partTable, line-stored, same-pins, header-stored, count-stored}
 
 -- ---- what is left, by what the line comes to
 
-module _ (n : ℕ) (p c q k : ℕ) (table tail : List ℕ) where
-  pub leaves-read : (m : Read Reading) (r : Reading) → m ≡ read r → Shows r p c q k table tail → Leaves n m p c q k table tail
+module _ (n : ℕ) (t : State) (table past : List ℕ) where
+  leaves-read : (m : Read Reading) (r : Reading) → m ≡ read r → Shows r t table past → Leaves n m t table past
   unfolding Leaves
   leaves-read m r e s = rw e s
 
-  pub leaves-refused : (m : Read Reading) → m ≡ refused k n → (k ≡ 0 → ⊥) → Leaves n m p c q k table tail
+  leaves-refused : (m : Read Reading) → m ≡ refused (t .number) n → (t .number ≡ 0 → ⊥) → Leaves n m t table past
   unfolding Leaves
   leaves-refused m e h = rw e (refl, refl, h)
 
-  pub leaves-number : (m : Read Reading) → Leaves n m p c q k table tail → (k ≡ 0 → ⊥) → m ≡ refused k n
+  pub leaves-number : (m : Read Reading) → Leaves n m t table past → (t .number ≡ 0 → ⊥) → m ≡ refused (t .number) n
   unfolding Leaves
   leaves-number (refused i j) l h = rw (l .0, l .1)
   leaves-number (read r) l h = absurd (h (l .accepted))
@@ -45,67 +49,98 @@ module _ (n : ℕ) (p c q k : ℕ) (table tail : List ℕ) where
   pub record Onward (m : Read Reading) : Type 0 where
     pub reading : Reading
     pub same : m ≡ read reading
-    pub shows : Shows reading p c q k table tail
+    pub shows : Shows reading t table past
 
-  pub leaves-onward : (m : Read Reading) → Leaves n m p c q k table tail → k ≡ 0 → Onward m
+  pub leaves-onward : (m : Read Reading) → Leaves n m t table past → t .number ≡ 0 → Onward m
   unfolding Leaves
   leaves-onward (refused i j) l h = absurd (l .2 h)
   leaves-onward (read r) l h = record { reading = r; same = refl; shows = l }
 
 -- ---- places by their numbers
 
-pub outside-at : (p : Place) → placeNumber p ≡ 0 → p ≡ outside
+word-range : (w : Word) → (0 < wordNumber w) × (wordNumber w < endNumber)
+word-range CC = (omega arith, omega arith)
+word-range CO = (omega arith, omega arith)
+word-range SC = (omega arith, omega arith)
+word-range SO = (omega arith, omega arith)
+
+word-at : (w : Word) → wordAt (wordNumber w) ≡ w
+unfolding wordAt
+word-at CC = refl
+word-at CO = refl
+word-at SC = refl
+word-at SO = refl
+
+next-number : (w : Word) → wordNumber w + 1 ≡ wantedNumber (lineAfter w)
+unfolding lineAfter
+next-number CC = refl
+next-number CO = refl
+next-number SC = refl
+next-number SO = refl
+
+pub outside-at : (here : Place) → placeNumber here ≡ 0 → here ≡ outside
 unfolding placeNumber
 outside-at outside e = refl
-outside-at (afterName c) e = absurd (omega arith)
-outside-at (afterCC c) e = absurd (omega arith)
-outside-at (afterCO c) e = absurd (omega arith)
-outside-at (afterSC c) e = absurd (omega arith)
-outside-at (afterSO c) e = absurd (omega arith)
+outside-at (inside (wordLine w) c) e = absurd (omega (arith, word-range w .0))
+outside-at (inside endLine c) e = absurd (omega arith)
+
+pub record AtWord (here : Place) : Type 0 where
+  pub word : Word
+  pub cell : Cell
+  pub same : here ≡ inside (wordLine word) cell
+
+pub at-word : (here : Place) → 0 < placeNumber here → placeNumber here < endNumber → AtWord here
+unfolding placeNumber
+at-word outside lo hi = absurd (omega arith)
+at-word (inside (wordLine w) c) lo hi = record { word = w; cell = c; same = refl }
+at-word (inside endLine c) lo hi = absurd (omega arith)
+
+pub record AtEnd (here : Place) : Type 0 where
+  pub cell : Cell
+  pub same : here ≡ inside endLine cell
+
+pub at-end : (here : Place) → endNumber ≤ placeNumber here → AtEnd here
+unfolding placeNumber
+at-end outside h = absurd (omega arith)
+at-end (inside (wordLine w) c) h = absurd (omega (arith, word-range w .1))
+at-end (inside endLine c) h = record { cell = c; same = refl }
 
 -- ---- the name line
 
-module _ (n : ℕ) (cells : List Cell) (fs : Fields) where
-  name-refused : (k : ℕ) → k ≡ nameNumber cells fs → (k ≡ 0 → ⊥) → libraryLine n cells outside fs ≡ refused k n
-  unfolding libraryLine _>>=_ pick
-  name-refused k e h = rw (nameLine-number n cells fs, ← e, ne-eqb k 0 h)
-
-  name-read : nameNumber cells fs ≡ 0 → libraryLine n cells outside fs ≡ read (record { cells = cells; place = afterName (begun (headerIn fs)) })
-  unfolding libraryLine _>>=_ pick
-  name-read e = rw (nameLine-number n cells fs, eq-eqb (nameNumber cells fs) 0 e)
-
--- What `name_number` says of its table.
-abbrev NameSays : ℕ → Fields → List ℕ → Type 0
-NameSays k fs table = (cells : List Cell) (rest : List ℕ) → table ≡ libraryWords cells ++ rest → Fits cells → k ≡ nameNumber cells fs
-
-module _ (fs : Fields) (r : Reading) (tail : List ℕ) (n p c q z k : ℕ) (table : List ℕ) (shows : Shows r p c q z table tail) (out : p ≡ 0) (says : NameSays k fs table) where
+module _ (fs : Fields) (r : Reading) (past : List ℕ) (n : ℕ) (s : State) (table : List ℕ) (shows : Shows r s table past) (out : s .place ≡ 0) where
   is-outside : r .place ≡ outside
-  is-outside = outside-at (r .place) (sym (shows .in-place) ∙ out)
+  is-outside = outside-at (r .place) (sym (shows .place) ∙ out)
 
-  outside-held : table ≡ libraryWords (r .cells) ++ tail
-  unfolding readingWords placeCells handWords libraryWords
-  outside-held = shows .held ∙ rw is-outside
+  outside-words : table ≡ libraryWords (r .cells) ++ past
+  unfolding readingWords placeCells countedWords libraryWords
+  outside-words = shows .words ∙ rw is-outside
 
-  this-number : k ≡ nameNumber (r .cells) fs
-  this-number = says (r .cells) tail outside-held (sound-fits (r .cells) (shows .sound .before))
+  pub outside-holds : LibraryHolds table (r .cells)
+  outside-holds = record { past = past; words = outside-words; fits = sound-fits (r .cells) (shows .sound .cells) }
 
-  pub name-left-refused : (p′ c′ q′ : ℕ) (table′ : List ℕ) → (k ≡ 0 → ⊥) → Leaves n (libraryLine n (r .cells) (r .place) fs) p′ c′ q′ k table′ tail
-  name-left-refused p′ c′ q′ table′ h =
-      rw is-outside (leaves-refused n p′ c′ q′ k table′ tail (libraryLine n (r .cells) outside fs) (name-refused n (r .cells) fs k this-number h) h)
-
-  pub name-left-read : (table′ : List ℕ) (pins : ℕ) → k ≡ 0 → pins ≡ orZero (decimal (getD fs 2 [])) → table′ ≡ set (sets (set table (cellPlace c) (length (getD fs 1 []))) (cellPlace c + 1) (getD fs 1 [])) (cellPlace c + 9) pins → Leaves n (libraryLine n (r .cells) (r .place) fs) 1 c pins 0 table′ tail
-  unfolding readingWords placeCells placeNumber placePins SoundPlace headerIn begun
-  name-left-read table′ pins zeroed pins-are stored-as =
-      let after : Place = afterName (begun (headerIn fs)) in
-      let next : Reading = record { cells = r .cells; place = after } in
-      let reads : libraryLine n (r .cells) outside fs ≡ read next = name-read n (r .cells) fs (sym this-number ∙ zeroed) in
-      let known : SoundReading next = libraryLine-sound n (r .cells) outside fs next (shows .sound .before) tt reads in
-      let short : length (getD fs 1 []) ≤ 8 = nameForm-length (getD fs 1 []) (known .hand .0 .header .form) .1 in
-      let held : table′ ≡ handWords (length (r .cells)) (r .cells ++ (begun (headerIn fs) ∷ [])) ++ tail =
-      stored-as ∙ rw (outside-held, pins-are, shows .so-many) (header-stored (r .cells) tail (getD fs 1 []) (orZero (decimal (getD fs 2 []))) (known .hand .0 .space) short) in
+  pub name-refused : (t : State) (after : List ℕ) → t .number ≡ nameNumber (r .cells) fs → (t .number ≡ 0 → ⊥)
+      → Leaves n (libraryLine n (r .cells) (r .place) fs) t after past
+  unfolding libraryLine _>>=_ pick
+  name-refused t after e h =
       rw is-outside
-      (leaves-read n 1 c pins 0 table′ tail (libraryLine n (r .cells) outside fs) next reads
-      (record { in-place = refl; so-many = shows .so-many; has-pins = pins-are; accepted = refl; held = held; sound = known }))
+      (leaves-refused n t after past (libraryLine n (r .cells) outside fs)
+      (rw (nameLine-number n (r .cells) fs, ← e, ne-eqb (t .number) 0 h)) h)
+
+  pub name-read : (pins : ℕ) (after : List ℕ) → nameNumber (r .cells) fs ≡ 0 → pins ≡ orZero (decimal (getD fs 2 []))
+      → after ≡ headerPut (s .cells) (getD fs 1 []) pins table
+      → Leaves n (libraryLine n (r .cells) (r .place) fs) (record { place = 1; cells = s .cells; pins = pins; number = 0 }) after past
+  unfolding readingWords placeCells placeNumber placePins SoundPlace headerIn begun libraryLine _>>=_ pick
+  name-read pins after zeroed pins-are stored-as =
+      let c : Cell = begun (headerIn fs) in
+      let next : Reading = record { cells = r .cells; place = inside (wordLine CC) c } in
+      let reads : libraryLine n (r .cells) outside fs ≡ read next = rw (nameLine-number n (r .cells) fs, eq-eqb (nameNumber (r .cells) fs) 0 zeroed) in
+      let known : SoundReading next = libraryLine-sound n (r .cells) outside fs next (shows .sound .cells) tt reads in
+      let short : length (getD fs 1 []) ≤ Size.nameBytes = nameForm-length (getD fs 1 []) (known .entry .header .form) .1 in
+      let words : after ≡ countedWords (length (r .cells)) (r .cells ++ (c ∷ [])) ++ past =
+      stored-as ∙ rw (outside-words, pins-are, shows .cells) (header-stored (r .cells) past (getD fs 1 []) (orZero (decimal (getD fs 2 []))) (known .entry .space) short) in
+      rw is-outside
+      (leaves-read n _ after past (libraryLine n (r .cells) outside fs) next reads
+      (record { place = refl; cells = shows .cells; pins = pins-are; accepted = refl; words = words; sound = known }))
 
 -- ---- the row lines
 
@@ -113,196 +148,148 @@ number-formed : (w : Word) (n : ℕ) (fs : Fields) → 0 < length fs → rowNumb
 unfolding pick
 number-formed w n fs h e =
     by-test (rowsForm word (drop 1 fs)) (λ t. t)
-    (λ t. absurd (three (sameBytes (getD fs 0 []) (wordBytes w)) (rw t at (sym (rowNumber-passes w n fs h) ∙ e))))
+    (λ t. absurd (bad (sameBytes (getD fs 0 []) (wordBytes w)) (rw t at (sym (rowNumber-passes w n fs h) ∙ e))))
   where
-    three : (s : Bool) → pick {A = ℕ} s 3 3 ≡ 0 → ⊥
-    three true q = omega arith
-    three false q = omega arith
+    bad : (b : Bool) → pick {A = ℕ} b No.libraryForm No.libraryForm ≡ 0 → ⊥
+    bad true q = omega arith
+    bad false q = omega arith
 
-no-long : (w : Word) (n : ℕ) (gs : List Group) → Each (SoundGroup w n) gs → anyGroup aboveSixteen gs ≡ false
-unfolding Each anyGroup aboveSixteen
+no-long : (w : Word) (n : ℕ) (gs : List Group) → Each (SoundGroup w n) gs → anyOf aboveRows gs ≡ false
+unfolding Each anyOf aboveRows
 no-long w n [] e = refl
-no-long w n (g ∷ gs) e = rw (le-ltb 16 (length g) (e .0 .most-rows)) (no-long w n gs (e .1))
-
-within-space : (w : Word) (n : ℕ) → n ≤ 8 → groupCount w n ≤ space w
-unfolding groupCount space
-within-space CC n h = omega arith
-within-space CO n h = omega arith
-within-space SC n h = omega arith
-within-space SO n h = omega arith
+no-long w n (g ∷ gs) e = rw (le-ltb Size.rows (length g) (e .0 .most-rows)) (no-long w n gs (e .1))
 
 some-group : (w : Word) (n : ℕ) → 1 ≤ n → 1 ≤ groupCount w n
 unfolding groupCount
 some-group CC n h = omega arith
-some-group CO n h = omega arith
+some-group CO n h = h
 some-group SC n h = omega arith
-some-group SO n h = omega arith
+some-group SO n h = h
 
-without : (w : Word) (c : Cell) → Unread w c → withGroups w [] c ≡ c
-unfolding Unread wordGroups withGroups
-without CC c e = rw (← e)
-without CO c e = rw (← e)
-without SC c e = rw (← e)
-without SO c e = rw (← e)
+-- The groups of the word that an entry wants are still to come.
+without : (n : ℕ) (w : Word) (c : Cell) → SoundEntry n (wordLine w) c → withGroups w [] c ≡ c
+unfolding wordGroups withGroups
+without n CC c e = rw (← e .cc)
+without n CO c e = rw (← e .co)
+without n SC c e = rw (← e .sc)
+without n SO c e = rw (← e .so)
 
 some-row-field : (fs : Fields) → 1 ≤ length (groupsOf fs) → 0 < length fs
 unfolding groupsOf
 some-row-field [] h = absurd (omega arith)
 some-row-field (f ∷ fs) h = omega arith
 
--- A row line of word `w`, behind so many cells, with cell `c` in hand.
-module _ (n : ℕ) (cells : List Cell) (w : Word) (next : Cell → Place) (c : Cell) (fs : Fields) (some-field : 0 < length fs) where
-  entry-refused : (k : ℕ) → k ≡ rowNumber w (c .pins) fs → (k ≡ 0 → ⊥) → entryLine n cells w next c fs ≡ refused k n
-  unfolding entryLine _>>=_ pick
-  entry-refused k e h = rw (rowLine-number n w (c .pins) fs, ← e, ne-eqb k 0 h)
-
-  entry-read : rowNumber w (c .pins) fs ≡ 0 → entryLine n cells w next c fs ≡ read (record { cells = cells; place = next (withGroups w (groupsOf (drop 1 fs)) c) })
-  unfolding entryLine _>>=_ pick
-  entry-read e = rw (rowLine-number n w (c .pins) fs, eq-eqb (rowNumber w (c .pins) fs) 0 e)
-
-  line-groups : rowNumber w (c .pins) fs ≡ 0 → SoundGroups w (c .pins) (groupsOf (drop 1 fs))
+-- A row line of word `w` behind so many cells, of cell `c`.
+module _ (n : ℕ) (cells : List Cell) (w : Word) (c : Cell) (fs : Fields) where
+  entry-line : rowNumber w (c .pins) fs ≡ 0 → rowLine n w (c .pins) fs ≡ read (groupsOf (drop 1 fs))
   unfolding pick
-  line-groups e = rowLine-sound w (c .pins) n fs (groupsOf (drop 1 fs)) (rowLine-number n w (c .pins) fs ∙ rw (eq-eqb (rowNumber w (c .pins) fs) 0 e))
+  entry-line e = rowLine-number n w (c .pins) fs ∙ rw (eq-eqb (rowNumber w (c .pins) fs) 0 e)
 
-  entry-stored : (table tail : List ℕ) → rowNumber w (c .pins) fs ≡ 0 → SoundEntry (length cells) c → Unread w c → table ≡ handWords (length cells) (cells ++ (c ∷ [])) ++ tail → stored (groupPlace (length cells) (firstGroup w)) 0 true (drop 1 fs) table ≡ handWords (length cells) (cells ++ (withGroups w (groupsOf (drop 1 fs)) c ∷ [])) ++ tail
+  entry-stored : (past : List ℕ) → 0 < length fs → rowNumber w (c .pins) fs ≡ 0 → SoundEntry (length cells) (wordLine w) c
+      → rowsPut (record { place = groupPlace (length cells) (firstGroup w); rows = 0; joined = true }) (drop 1 fs) (countedWords (length cells) (cells ++ (c ∷ [])) ++ past)
+      ≡ countedWords (length cells) (cells ++ (withGroups w (groupsOf (drop 1 fs)) c ∷ [])) ++ past
   unfolding partTable
-  entry-stored table tail e known unread held =
+  entry-stored past some-field e known =
       let rows = drop 1 fs in
-      let groups = line-groups e in
-      let pins = known .header .most-pins in
+      let groups = rowLine-sound w (c .pins) n fs (groupsOf rows) (entry-line e) in
       let some-rows : 0 < length rows = some-row-field rows (omega (arith, groups .count, some-group w (c .pins) (known .header .some-pin))) in
-      let gathered : gather [] [] true rows ≡ groupsOf rows = gather-groups rows some-rows (number-formed w (c .pins) fs some-field e) in
-      let fits : length (gather [] [] true rows) ≤ space w = rw gathered (omega (arith, groups .count, within-space w (c .pins) pins)) in
-      let short : anyGroup aboveSixteen (gather [] [] true rows) ≡ false = rw gathered (no-long w (c .pins) (groupsOf rows) (groups .groups)) in
-      ap (λ (t : List ℕ). stored (groupPlace (length cells) (firstGroup w)) 0 true rows t) (held ∙ ap (λ (x : Cell). handWords (length cells) (cells ++ (x ∷ [])) ++ tail) (sym (without w c unread)))
-      ∙ stored-line (length cells) cells w c tail (known .space) rows fits short
-      ∙ ap (λ (gs : List Group). handWords (length cells) (cells ++ (withGroups w gs c ∷ [])) ++ tail) gathered
+      let all : gather [] [] true rows ≡ groupsOf rows = gather-groups rows some-rows (number-formed w (c .pins) fs some-field e) in
+      let fits : length (gather [] [] true rows) ≤ space w = rw all (omega (arith, groups .count, within-space w (c .pins) (known .header .most-pins))) in
+      let short : anyOf aboveRows (gather [] [] true rows) ≡ false = rw all (no-long w (c .pins) (groupsOf rows) (groups .groups)) in
+      ap (λ (x : Cell). rowsPut (record { place = groupPlace (length cells) (firstGroup w); rows = 0; joined = true }) rows (countedWords (length cells) (cells ++ (x ∷ [])) ++ past)) (sym (without (length cells) w c known))
+      ∙ line-stored (length cells) cells w c past (known .space) rows fits short
+      ∙ ap (λ (gs : List Group). countedWords (length cells) (cells ++ (withGroups w gs c ∷ [])) ++ past) all
 
-  -- What the line leaves, where the reader's place `here` wants it and `next` stands behind it.
-  module _ (here : Place) (line-is : libraryLine n cells here fs ≡ entryLine n cells w next c fs) (p : ℕ) (cells-are : (x : Cell) → placeCells cells (next x) ≡ cells ++ (x ∷ [])) (number-is : (x : Cell) → p + 1 ≡ placeNumber (next x)) (pins-are : (x : Cell) → placePins (next x) ≡ x .pins) where
-    entry-left : (table table′ tail : List ℕ) → rowNumber w (c .pins) fs ≡ 0 → Sound cells → SoundPlace (length cells) here → SoundEntry (length cells) c → Unread w c → table ≡ handWords (length cells) (cells ++ (c ∷ [])) ++ tail → table′ ≡ stored (groupPlace (length cells) (firstGroup w)) 0 true (drop 1 fs) table → Leaves n (libraryLine n cells here fs) (p + 1) (length cells) (c .pins) 0 table′ tail
-    unfolding readingWords
-    entry-left table table′ tail e before hand known unread held now =
-        let grown = withGroups w (groupsOf (drop 1 fs)) c in
-        let after : Reading = record { cells = cells; place = next grown } in
-        let reads : libraryLine n cells here fs ≡ read after = line-is ∙ entry-read e in
-        leaves-read n (p + 1) (length cells) (c .pins) 0 table′ tail (libraryLine n cells here fs) after reads
-        (record {
-          in-place = number-is grown;
-          so-many = refl;
-          has-pins = sym (pins-are grown ∙ same-pins w (groupsOf (drop 1 fs)) c);
-          accepted = refl;
-          held = now ∙ entry-stored table tail e known unread held ∙ ap (λ (xs : List Cell). handWords (length cells) xs ++ tail) (sym (cells-are grown));
-          sound = libraryLine-sound n cells here fs after before hand reads;
-        })
+module _ (fs : Fields) (some-field : 0 < length fs) (r : Reading) (past : List ℕ) (n : ℕ) (s : State) (table : List ℕ) (shows : Shows r s table past) (at : AtWord (r .place)) where
+  abbrev w : Word
+  w = at .word
 
--- The number of a row line at a place that wants one.
-row-refused : (n : ℕ) (cells : List Cell) (here : Place) (fs : Fields) (p q k : ℕ) → 0 < length fs → p ≡ placeNumber here → q ≡ placePins here → 0 < p → p < 5 → k ≡ rowNumber (wordAt p) q fs → (k ≡ 0 → ⊥) → libraryLine n cells here fs ≡ refused k n
-unfolding placeNumber placePins libraryLine wordAt
-row-refused n cells outside fs p q k s ep eq lo hi e h = absurd (omega arith)
-row-refused n cells (afterName c) fs p q k s ep eq lo hi e h = entry-refused n cells CC afterCC c fs s k (e ∙ rw (ep, eq)) h
-row-refused n cells (afterCC c) fs p q k s ep eq lo hi e h = entry-refused n cells CO afterCO c fs s k (e ∙ rw (ep, eq)) h
-row-refused n cells (afterCO c) fs p q k s ep eq lo hi e h = entry-refused n cells SC afterSC c fs s k (e ∙ rw (ep, eq)) h
-row-refused n cells (afterSC c) fs p q k s ep eq lo hi e h = entry-refused n cells SO afterSO c fs s k (e ∙ rw (ep, eq)) h
-row-refused n cells (afterSO c) fs p q k s ep eq lo hi e h = absurd (omega arith)
+  abbrev c : Cell
+  c = at .cell
 
-row-read : (n : ℕ) (cells : List Cell) (here : Place) (fs : Fields) (p q m : ℕ) (table table′ tail : List ℕ) → 0 < length fs → p ≡ placeNumber here → q ≡ placePins here → m ≡ length cells → 0 < p → p < 5 → rowNumber (wordAt p) q fs ≡ 0 → Sound cells → SoundPlace (length cells) here → table ≡ handWords (length cells) (placeCells cells here) ++ tail → table′ ≡ stored (groupPlace m (firstGroup (wordAt p))) 0 true (drop 1 fs) table → Leaves n (libraryLine n cells here fs) (p + 1) m q 0 table′ tail
-unfolding placeNumber placePins placeCells wordAt SoundPlace libraryLine
-row-read n cells outside fs p q m table table′ tail s ep eq em lo hi e before hand held now = absurd (omega arith)
-row-read n cells (afterName c) fs p q m table table′ tail s ep eq em lo hi e before hand held now =
-    rw (ep, eq, em) (entry-left n cells CC afterCC c fs s (afterName c) refl 1 (λ x. refl) (λ x. refl) (λ x. refl) table table′ tail (rw (ep, eq) at e) before hand (hand .0) (hand .1) held (rw (ep, em) at now))
-row-read n cells (afterCC c) fs p q m table table′ tail s ep eq em lo hi e before hand held now =
-    rw (ep, eq, em) (entry-left n cells CO afterCO c fs s (afterCC c) refl 2 (λ x. refl) (λ x. refl) (λ x. refl) table table′ tail (rw (ep, eq) at e) before hand (hand .0) (hand .2) held (rw (ep, em) at now))
-row-read n cells (afterCO c) fs p q m table table′ tail s ep eq em lo hi e before hand held now =
-    rw (ep, eq, em) (entry-left n cells SC afterSC c fs s (afterCO c) refl 3 (λ x. refl) (λ x. refl) (λ x. refl) table table′ tail (rw (ep, eq) at e) before hand (hand .0) (hand .3) held (rw (ep, em) at now))
-row-read n cells (afterSC c) fs p q m table table′ tail s ep eq em lo hi e before hand held now =
-    rw (ep, eq, em) (entry-left n cells SO afterSO c fs s (afterSC c) refl 4 (λ x. refl) (λ x. refl) (λ x. refl) table table′ tail (rw (ep, eq) at e) before hand (hand .0) (hand .4) held (rw (ep, em) at now))
-row-read n cells (afterSO c) fs p q m table table′ tail s ep eq em lo hi e before hand held now = absurd (omega arith)
+  this-place : s .place ≡ wordNumber w
+  unfolding placeNumber
+  this-place = shows .place ∙ ap placeNumber (at .same)
+
+  this-word : wordAt (s .place) ≡ w
+  this-word = ap wordAt this-place ∙ word-at w
+
+  these-pins : s .pins ≡ c .pins
+  unfolding placePins
+  these-pins = shows .pins ∙ ap placePins (at .same)
+
+  known : SoundEntry (length (r .cells)) (wordLine w) c
+  unfolding SoundPlace
+  known = rw (at .same) at (shows .sound .entry)
+
+  pub row-refused : (t : State) (after : List ℕ) → t .number ≡ rowNumber (wordAt (s .place)) (s .pins) fs → (t .number ≡ 0 → ⊥)
+      → Leaves n (libraryLine n (r .cells) (r .place) fs) t after past
+  unfolding libraryLine _>>=_ pick
+  row-refused t after e h =
+      let number : t .number ≡ rowNumber w (c .pins) fs = e ∙ rw (this-word, these-pins) in
+      rw (at .same)
+      (leaves-refused n t after past (libraryLine n (r .cells) (inside (wordLine w) c) fs)
+      (rw (rowLine-number n w (c .pins) fs, ← number, ne-eqb (t .number) 0 h)) h)
+
+  pub row-read : (after : List ℕ) → rowNumber (wordAt (s .place)) (s .pins) fs ≡ 0
+      → after ≡ rowsPut (record { place = groupPlace (s .cells) (firstGroup (wordAt (s .place))); rows = 0; joined = true }) (drop 1 fs) table
+      → Leaves n (libraryLine n (r .cells) (r .place) fs) (record { place = s .place + 1; cells = s .cells; pins = s .pins; number = 0 }) after past
+  unfolding readingWords placeCells placeNumber placePins SoundPlace libraryLine _>>=_
+  row-read after e now =
+      let number : rowNumber w (c .pins) fs ≡ 0 = rw (this-word, these-pins) at e in
+      let grown = withGroups w (groupsOf (drop 1 fs)) c in
+      let next : Reading = record { cells = r .cells; place = inside (lineAfter w) grown } in
+      let reads : libraryLine n (r .cells) (inside (wordLine w) c) fs ≡ read next = rw (entry-line n (r .cells) w c fs number) in
+      let held : table ≡ countedWords (length (r .cells)) (r .cells ++ (c ∷ [])) ++ past = shows .words ∙ ap (λ (p : Place). countedWords (length (r .cells)) (placeCells (r .cells) p) ++ past) (at .same) in
+      rw (at .same)
+      (leaves-read n _ after past (libraryLine n (r .cells) (inside (wordLine w) c) fs) next reads
+      (record {
+        place = ap (λ (p : ℕ). p + 1) this-place ∙ next-number w;
+        cells = shows .cells;
+        pins = these-pins ∙ sym (same-pins w (groupsOf (drop 1 fs)) c);
+        accepted = refl;
+        words = now ∙ rw (this-word, shows .cells, held) (entry-stored n (r .cells) w c fs past some-field number known);
+        sound = libraryLine-sound n (r .cells) (inside (wordLine w) c) fs next (shows .sound .cells) known reads;
+      }))
 
 -- ---- the end line
 
-library-hand : (cells : List Cell) (tail : List ℕ) → libraryWords cells ++ tail ≡ handWords (length cells) cells ++ tail
-unfolding libraryWords handWords
-library-hand cells tail = refl
+module _ (fs : Fields) (r : Reading) (past : List ℕ) (n : ℕ) (s : State) (table : List ℕ) (shows : Shows r s table past) (ending : AtEnd (r .place)) where
+  pub end-refused : (t : State) (after : List ℕ) → t .number ≡ No.libraryForm → endFormed fs ≡ false
+      → Leaves n (libraryLine n (r .cells) (r .place) fs) t after past
+  unfolding libraryLine form _>>_ pick
+  end-refused t after e h =
+      rw (ending .same)
+      (leaves-refused n t after past (libraryLine n (r .cells) (inside endLine (ending .cell)) fs) (rw (endAfter-formed fs, h, e)) (λ z. omega arith))
 
-end-refused : (n : ℕ) (cells : List Cell) (here : Place) (fs : Fields) → placeNumber here ≡ 5 → endFormed fs ≡ false → libraryLine n cells here fs ≡ refused 3 n
-unfolding placeNumber libraryLine form _>>_ pick
-end-refused n cells outside fs e h = absurd (omega arith)
-end-refused n cells (afterName c) fs e h = absurd (omega arith)
-end-refused n cells (afterCC c) fs e h = absurd (omega arith)
-end-refused n cells (afterCO c) fs e h = absurd (omega arith)
-end-refused n cells (afterSC c) fs e h = absurd (omega arith)
-end-refused n cells (afterSO c) fs e h = rw (endAfter-formed fs, h)
-
-end-read : (n : ℕ) (cells : List Cell) (c : Cell) (fs : Fields) (m : ℕ) (table table′ tail : List ℕ) → endFormed fs ≡ true → m ≡ length cells → Sound cells → SoundPlace (length cells) (afterSO c) → table ≡ handWords (length cells) (cells ++ (c ∷ [])) ++ tail → table′ ≡ set table 0 (m + 1) → Leaves n (libraryLine n cells (afterSO c) fs) 0 (m + 1) 0 0 table′ tail
-unfolding placeNumber placePins placeCells readingWords libraryLine form _>>_ pick
-end-read n cells c fs m table table′ tail h em before hand held now =
-    let after : Reading = record { cells = cells ++ (c ∷ []); place = outside } in
-    let reads : libraryLine n cells (afterSO c) fs ≡ read after = rw (endAfter-formed fs, h) in
-    leaves-read n 0 (m + 1) 0 0 table′ tail (libraryLine n cells (afterSO c) fs) after reads
-    (record {
-      in-place = refl;
-      so-many = rw em (sym (length-append cells (c ∷ [])));
-      has-pins = refl;
-      accepted = refl;
-      held = now ∙ rw (held, em) (count-stored cells c tail ∙ library-hand (cells ++ (c ∷ [])) tail);
-      sound = libraryLine-sound n cells (afterSO c) fs after before hand reads;
-    })
-
-end-left : (n : ℕ) (cells : List Cell) (here : Place) (fs : Fields) (m : ℕ) (table table′ tail : List ℕ) → placeNumber here ≡ 5 → endFormed fs ≡ true → m ≡ length cells → Sound cells → SoundPlace (length cells) here → table ≡ handWords (length cells) (placeCells cells here) ++ tail → table′ ≡ set table 0 (m + 1) → Leaves n (libraryLine n cells here fs) 0 (m + 1) 0 0 table′ tail
-unfolding placeNumber placeCells
-end-left n cells outside fs m table table′ tail e h em before hand held now = absurd (omega arith)
-end-left n cells (afterName c) fs m table table′ tail e h em before hand held now = absurd (omega arith)
-end-left n cells (afterCC c) fs m table table′ tail e h em before hand held now = absurd (omega arith)
-end-left n cells (afterCO c) fs m table table′ tail e h em before hand held now = absurd (omega arith)
-end-left n cells (afterSC c) fs m table table′ tail e h em before hand held now = absurd (omega arith)
-end-left n cells (afterSO c) fs m table table′ tail e h em before hand held now = end-read n cells c fs m table table′ tail h em before hand held now
-
--- ---- the same, by what the reader's numbers and the table show
-
-pub formed-name : (fs : Fields) → nameFormed fs ≡ true → length (getD fs 1 []) ≤ 8
-unfolding nameFormed
-formed-name fs e =
-    nameForm-length (getD fs 1 [])
-    (and-left (nameForm (getD fs 1 [])) (holds (decimal (getD fs 2 [])))
-    (and-right (sameBytes (getD fs 0 []) (bytes "Name")) (nameForm (getD fs 1 []) && holds (decimal (getD fs 2 [])))
-    (and-right (eqb (length fs) 3) (sameBytes (getD fs 0 []) (bytes "Name") && (nameForm (getD fs 1 []) && holds (decimal (getD fs 2 [])))) e)))
-    .1
-
-module _ (fs : Fields) (some-field : 0 < length fs) (r : Reading) (tail : List ℕ) (n p c q z : ℕ) (table : List ℕ) (shows : Shows r p c q z table tail) where
-  pub row-left-refused : (k p′ c′ q′ : ℕ) (table′ : List ℕ) → 0 < p → p < 5 → k ≡ rowNumber (wordAt p) q fs → (k ≡ 0 → ⊥) → Leaves n (libraryLine n (r .cells) (r .place) fs) p′ c′ q′ k table′ tail
-  row-left-refused k p′ c′ q′ table′ lo hi e h =
-      leaves-refused n p′ c′ q′ k table′ tail (libraryLine n (r .cells) (r .place) fs) (row-refused n (r .cells) (r .place) fs p q k some-field (shows .in-place) (shows .has-pins) lo hi e h) h
-
-  pub row-left-read : (k : ℕ) (table′ : List ℕ) → 0 < p → p < 5 → k ≡ rowNumber (wordAt p) q fs → k ≡ 0 → table′ ≡ stored (groupPlace c (firstGroup (wordAt p))) 0 true (drop 1 fs) table → Leaves n (libraryLine n (r .cells) (r .place) fs) (p + 1) c q 0 table′ tail
-  unfolding readingWords
-  row-left-read k table′ lo hi e zeroed now =
-      row-read n (r .cells) (r .place) fs p q c table table′ tail some-field (shows .in-place) (shows .has-pins) (shows .so-many) lo hi (sym e ∙ zeroed) (shows .sound .before) (shows .sound .hand) (shows .held) now
-
-  pub end-left-refused : (p′ c′ q′ : ℕ) (table′ : List ℕ) → p ≡ 5 → endFormed fs ≡ false → Leaves n (libraryLine n (r .cells) (r .place) fs) p′ c′ q′ 3 table′ tail
-  end-left-refused p′ c′ q′ table′ five e =
-      leaves-refused n p′ c′ q′ 3 table′ tail (libraryLine n (r .cells) (r .place) fs) (end-refused n (r .cells) (r .place) fs (sym (shows .in-place) ∙ five) e) (λ q. omega arith)
-
-  pub end-left-read : (table′ : List ℕ) → p ≡ 5 → endFormed fs ≡ true → table′ ≡ set table 0 (c + 1) → Leaves n (libraryLine n (r .cells) (r .place) fs) 0 (c + 1) 0 0 table′ tail
-  unfolding readingWords
-  end-left-read table′ five e now =
-      end-left n (r .cells) (r .place) fs c table table′ tail (sym (shows .in-place) ∙ five) e (shows .so-many) (shows .sound .before) (shows .sound .hand) (shows .held) now
+  pub end-read : (after : List ℕ) → endFormed fs ≡ true → after ≡ set table 0 (s .cells + 1)
+      → Leaves n (libraryLine n (r .cells) (r .place) fs) (record { place = 0; cells = s .cells + 1; pins = 0; number = 0 }) after past
+  unfolding placeNumber placePins placeCells readingWords countedWords libraryWords SoundPlace libraryLine form _>>_ pick
+  end-read after h now =
+      let c = ending .cell in
+      let next : Reading = record { cells = r .cells ++ (c ∷ []); place = outside } in
+      let reads : libraryLine n (r .cells) (inside endLine c) fs ≡ read next = rw (endAfter-formed fs, h) in
+      let held : table ≡ countedWords (length (r .cells)) (r .cells ++ (c ∷ [])) ++ past = shows .words ∙ ap (λ (p : Place). countedWords (length (r .cells)) (placeCells (r .cells) p) ++ past) (ending .same) in
+      rw (ending .same)
+      (leaves-read n _ after past (libraryLine n (r .cells) (inside endLine c) fs) next reads
+      (record {
+        place = refl;
+        cells = rw (shows .cells) (sym (length-append (r .cells) (c ∷ [])));
+        pins = refl;
+        accepted = refl;
+        words = now ∙ rw (held, shows .cells) (count-stored (r .cells) c past);
+        sound = libraryLine-sound n (r .cells) (inside endLine c) fs next (shows .sound .cells) (rw (ending .same) at (shows .sound .entry)) reads;
+      }))
 
 -- The numbers that the reader's state has are small.
-pub most-pins : (p : Place) (n : ℕ) → SoundPlace n p → placePins p ≤ 8
+pub state-fits : (r : Reading) (s : State) (table past : List ℕ) → Shows r s table past → StateFits s
 unfolding SoundPlace placePins
-most-pins outside n s = omega arith
-most-pins (afterName c) n s = s .0 .header .most-pins
-most-pins (afterCC c) n s = s .0 .header .most-pins
-most-pins (afterCO c) n s = s .0 .header .most-pins
-most-pins (afterSC c) n s = s .0 .header .most-pins
-most-pins (afterSO c) n s = s .0 .header .most-pins
-
-pub place-most : (p : Place) → placeNumber p ≤ 5
-unfolding placeNumber
-place-most outside = omega arith
-place-most (afterName c) = omega arith
-place-most (afterCC c) = omega arith
-place-most (afterCO c) = omega arith
-place-most (afterSC c) = omega arith
-place-most (afterSO c) = omega arith
+state-fits r s table past shows =
+    record {
+      cells = omega (arith, shows .cells, shows .sound .cells .few);
+      pins = omega (arith, shows .pins, most (r .place) (shows .sound .entry));
+    }
+  where
+    most : (p : Place) → SoundPlace (length (r .cells)) p → placePins p ≤ Size.pins
+    most outside e = omega arith
+    most (inside wanted c) e = e .header .most-pins

@@ -1,6 +1,6 @@
+pub mod Bounds
 pub mod Cursors
 pub mod Entries
-pub mod Figures
 pub mod Laws
 pub mod Names
 pub mod Passes

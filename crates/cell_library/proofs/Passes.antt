@@ -1,40 +1,39 @@
 -- The passes over a line tied to the definitions of the library text.
 -- Assumes nothing.
-use mathlib.Core.Bool.{Bool, true, false, not, _&&_, _||_}
+use mathlib.Core.Bool.{Bool, true, false, not, _&&_, _||_, or-false, or-assoc}
 use mathlib.Core.List.{List, [], _∷_, _++_, append-assoc}
 use mathlib.Core.Option.{Option, none, some}
 use mathlib.Core.Path.{_≡_, refl, sym, ap, _∙_}
 use Prim.Native.Nat.{ℕ, zero, suc, _+_, _*_, _≤_, _<_}
 use native.Mathlib.Omega.{arith}
-use native.Mathlib.Numerals.{add-one}
 use lib.Dec.{leb, ltb, eqb}
 use lib.ListN.{length, getD, drop, length-append}
 use borrow.Author.Tests.{eq-eqb, ne-eqb, lt-ltb, ltb-true, eqb-true}
+use Rattle.sizes.specs.Sizes as Size
+use Rattle.reading.specs.Numbers as No
 use Rattle.text.specs.Bytes.{bytes}
-use Rattle.text.specs.Class.{pick}
+use Rattle.reading.specs.Choice.{pick}
 use Rattle.text.specs.Lines.{sameBytes, part, fieldsFrom, nextAfter}
 use Rattle.text.specs.Numeral.{numeral, decimal, nameForm, value, wellFormed}
-use Rattle.text.specs.Refusal.{Read, refused, read, _>>=_, _>>_, weigh, form}
-use Rattle.text.proofs.Laws.{by-test, and-left, and-right, numeral-good, numeral-bad, fieldsFrom-step, fieldsFrom-end}
+use Rattle.reading.specs.Refusal.{Read, refused, read, _>>=_, _>>_, weigh, form}
+use Rattle.reading.proofs.Laws.{by-test, clash, and-left, and-right}
+use Rattle.text.proofs.Laws.{numeral-good, numeral-bad, fieldsFrom-step, fieldsFrom-end}
 use Rattle.cell_library.specs.Cells.{Row, rowOf, Group, Cell}
-use Rattle.cell_library.specs.Library.{Fields, mostDigits, holds, isRow, isJoin, Before, word, row, join, mayJoin, mayEnd, rowsForm, joinFirst, withRow, groupsOf, anyGroup, anyRow, aboveSixteen, above, namesNone, observesNot, Word, CC, CO, SC, SO, wordBytes, groupCount, columnCount, idle, rowsAfter, rowLine, Header, headerOf, nameAfter, endAfter, nameUsed, pinsBad, nameLine}
-use Rattle.cell_library.specs.Layout.{firstGroup}
-use Rattle.cell_library.specs.Passes.{orZero, rowValue, beforeOf, placed, fieldBad, anyField, gather, sixth, wordAt, setting, rowNumber, nameFormed, headerIn, nameNumber, endFormed}
-
-true-false : {A : Type 0} → _≡_ {A = Bool} true false → A
-true-false e = let z : _≡_ {A = ℕ} 0 1 = cc in absurd (omega arith)
+use Rattle.cell_library.specs.Library.{Fields, holds, isRow, isJoin, Before, word, row, join, mayJoin, mayEnd, rowsForm, joinFirst, withRow, groupsOf, anyOf, aboveRows, above, namesNone, observesNot, Word, CC, CO, SC, SO, wordBytes, groupCount, columnCount, idle, rowsAfter, rowLine, Header, headerOf, nameAfter, endAfter, nameUsed, pinsBad, nameLine}
+use Rattle.cell_library.specs.Passes.{orZero, rowValue, beforeOf, placed, fieldBad, anyField, groupsWrong, noGroups, wordAt, setting, rowNumber, nameFormed, headerIn, nameNumber, endFormed}
+use Rattle.cell_library.specs.declared.rows.Tally.{Tally}
 
 -- ---- a field
 
 pub row-value : (f : List ℕ) → isRow f ≡ true → rowValue f ≡ value 8 0 f
 unfolding isRow rowValue holds orZero
-row-value f e = by-test (wellFormed 8 mostDigits f) good bad
+row-value f e = by-test (wellFormed 8 Size.rowDigits f) good bad
   where
-    good : wellFormed 8 mostDigits f ≡ true → orZero (numeral 8 mostDigits f) ≡ value 8 0 f
-    good h = ap orZero (numeral-good 8 mostDigits f h)
+    good : wellFormed 8 Size.rowDigits f ≡ true → orZero (numeral 8 Size.rowDigits f) ≡ value 8 0 f
+    good h = ap orZero (numeral-good 8 Size.rowDigits f h)
 
-    bad : wellFormed 8 mostDigits f ≡ false → orZero (numeral 8 mostDigits f) ≡ value 8 0 f
-    bad h = true-false (sym e ∙ ap holds (numeral-bad 8 mostDigits f h))
+    bad : wellFormed 8 Size.rowDigits f ≡ false → orZero (numeral 8 Size.rowDigits f) ≡ value 8 0 f
+    bad h = clash (holds (numeral 8 Size.rowDigits f)) e (ap holds (numeral-bad 8 Size.rowDigits f h))
 
 -- ---- form
 
@@ -83,44 +82,41 @@ module _ (b : Before) (f : List ℕ) (fs : Fields) where
       let both : (isRow f && rowsForm row fs) ≡ true = rw e at h in
       (and-left (isRow f) (rowsForm row fs) both, and-right (isRow f) (rowsForm row fs) both)
 
-pub or-false : (a b : Bool) → (a || b) ≡ false → (a ≡ false) × (b ≡ false)
-or-false true b e = true-false e
-or-false false b e = (refl, e)
-
-or-assoc : (a b c : Bool) → ((a || b) || c) ≡ (a || (b || c))
-or-assoc true b c = refl
-or-assoc false b c = refl
-
-or-none : (a : Bool) → (a || false) ≡ a
-or-none true = refl
-or-none false = refl
-
 -- ---- a test of every row
 
-withRow-any : (p : Row → Bool) (j : Bool) (r : Row) (gs : List Group) → anyGroup (anyRow p) (withRow j r gs) ≡ (p r || anyGroup (anyRow p) gs)
-unfolding withRow anyGroup anyRow
-withRow-any p false r gs = ap (λ (t : Bool). t || anyGroup (anyRow p) gs) (or-none (p r))
-withRow-any p true r [] = ap (λ (t : Bool). t || false) (or-none (p r))
-withRow-any p true r (g ∷ gs) = or-assoc (p r) (anyRow p g) (anyGroup (anyRow p) gs)
+withRow-any : (p : Row → Bool) (j : Bool) (r : Row) (gs : List Group) → anyOf (anyOf p) (withRow j r gs) ≡ (p r || anyOf (anyOf p) gs)
+unfolding withRow anyOf
+withRow-any p false r gs = ap (λ (t : Bool). t || anyOf (anyOf p) gs) (or-false (p r))
+withRow-any p true r [] = ap (λ (t : Bool). t || false) (or-false (p r))
+withRow-any p true r (g ∷ gs) = or-assoc (p r) (anyOf p g) (anyOf (anyOf p) gs)
 
-any-step : (p : Row → Bool) (b : Before) (f : List ℕ) (fs : Fields) → rowsForm b (f ∷ fs) ≡ true → ((b : Before) → rowsForm b fs ≡ true → anyGroup (anyRow p) (groupsOf fs) ≡ anyField p fs) → anyGroup (anyRow p) (groupsOf (f ∷ fs)) ≡ anyField p (f ∷ fs)
+any-step : (p : Row → Bool) (b : Before) (f : List ℕ) (fs : Fields) → rowsForm b (f ∷ fs) ≡ true → ((b : Before) → rowsForm b fs ≡ true → anyOf (anyOf p) (groupsOf fs) ≡ anyField p fs) → anyOf (anyOf p) (groupsOf (f ∷ fs)) ≡ anyField p (f ∷ fs)
 unfolding groupsOf anyField fieldBad pick
 any-step p b f fs h rest = by-test (isJoin f) joined single
   where
-    joined : isJoin f ≡ true → anyGroup (anyRow p) (pick (isJoin f) (groupsOf fs) (withRow (joinFirst fs) (rowOf (value 8 0 f)) (groupsOf fs))) ≡ (pick (isJoin f) false (p (rowOf (rowValue f))) || anyField p fs)
+    joined : isJoin f ≡ true → anyOf (anyOf p) (pick (isJoin f) (groupsOf fs) (withRow (joinFirst fs) (rowOf (value 8 0 f)) (groupsOf fs))) ≡ (pick (isJoin f) false (p (rowOf (rowValue f))) || anyField p fs)
     joined e = rw e (rest join (form-join b f fs e h .1))
 
-    single : isJoin f ≡ false → anyGroup (anyRow p) (pick (isJoin f) (groupsOf fs) (withRow (joinFirst fs) (rowOf (value 8 0 f)) (groupsOf fs))) ≡ (pick (isJoin f) false (p (rowOf (rowValue f))) || anyField p fs)
+    single : isJoin f ≡ false → anyOf (anyOf p) (pick (isJoin f) (groupsOf fs) (withRow (joinFirst fs) (rowOf (value 8 0 f)) (groupsOf fs))) ≡ (pick (isJoin f) false (p (rowOf (rowValue f))) || anyField p fs)
     single e =
         rw (e, row-value f (form-row b f fs e h .0), withRow-any p (joinFirst fs) (rowOf (value 8 0 f)) (groupsOf fs), rest row (form-row b f fs e h .1))
 
 -- A test of every row of the groups is the test of every field.
-pub any-fields : (p : Row → Bool) (b : Before) (fs : Fields) → rowsForm b fs ≡ true → anyGroup (anyRow p) (groupsOf fs) ≡ anyField p fs
-unfolding groupsOf anyField anyGroup
+pub any-fields : (p : Row → Bool) (b : Before) (fs : Fields) → rowsForm b fs ≡ true → anyOf (anyOf p) (groupsOf fs) ≡ anyField p fs
+unfolding groupsOf anyField anyOf
 any-fields p b [] h = refl
 any-fields p b (f ∷ fs) h = any-step p b f fs h (λ b′ h′. any-fields p b′ fs h′)
 
 -- ---- the groups, from the left
+
+-- The groups of a line from where `done` are whole and `part` is open, with or without an M just passed.
+unfoldable pub gather : List Group → Group → Bool → Fields → List Group
+gather done part joined [] = done ++ (part ∷ [])
+gather done part joined (f ∷ fs) =
+    pick (isJoin f) (gather done part true fs)
+    (pick joined
+    (gather done (part ++ (rowOf (rowValue f) ∷ [])) false fs)
+    (gather (done ++ (part ∷ [])) (rowOf (rowValue f) ∷ []) false fs))
 
 -- Rows in front of the first group.
 prepend : Group → List Group → List Group
@@ -144,7 +140,7 @@ lastOf : Bool → Before
 lastOf true = join
 lastOf false = row
 
--- What the fields still to come make of the group in hand.
+-- What the fields still to come make of the open group.
 ahead : Bool → Group → Fields → List Group
 ahead true part fs = prepend part (groupsOf fs)
 ahead false part fs = pick (joinFirst fs) (prepend part (groupsOf fs)) (part ∷ groupsOf fs)
@@ -164,12 +160,12 @@ module _ (f : List ℕ) (fs : Fields) (rest : (done : List Group) (part : Group)
 
   gather-join : (done : List Group) (part : Group) (j : Bool) → rowsForm (lastOf j) (f ∷ fs) ≡ true → isJoin f ≡ true → gather done part j (f ∷ fs) ≡ done ++ ahead j part (f ∷ fs)
   unfolding gather ahead lastOf groupsOf joinFirst pick mayJoin
-  gather-join done part true h e = true-false (sym (form-join join f fs e h .0))
+  gather-join done part true h e = clash false (form-join join f fs e h .0) refl
   gather-join done part false h e = rw e (rest done part true (form-join row f fs e h .1))
 
 gather-ahead : (done : List Group) (part : Group) (j : Bool) (fs : Fields) → rowsForm (lastOf j) fs ≡ true → gather done part j fs ≡ done ++ ahead j part fs
 unfolding gather ahead lastOf rowsForm mayEnd joinFirst groupsOf pick
-gather-ahead done part true [] h = true-false (sym h)
+gather-ahead done part true [] h = clash false h refl
 gather-ahead done part false [] h = refl
 gather-ahead done part j (f ∷ fs) h =
     by-test (isJoin f)
@@ -186,7 +182,7 @@ gather-first f fs e h =
 
 word-first : (f : List ℕ) (fs : Fields) → rowsForm word (f ∷ fs) ≡ true → isJoin f ≡ false
 unfolding mayJoin
-word-first f fs h = by-test (isJoin f) (λ e. true-false (sym (form-join word f fs e h .0))) (λ e. e)
+word-first f fs h = by-test (isJoin f) (λ e. clash false (form-join word f fs e h .0) refl) (λ e. e)
 
 pub gather-groups : (fs : Fields) → 0 < length fs → rowsForm word fs ≡ true → gather [] [] true fs ≡ groupsOf fs
 unfolding gather pick
@@ -197,47 +193,71 @@ gather-groups (f ∷ fs) some-field h =
 
 -- ---- refusal 6
 
-six : ℕ → List Group → Bool
-six want gs = not (eqb (length gs) want) || anyGroup aboveSixteen gs
+wrong : ℕ → List Group → Bool
+wrong want gs = not (eqb (length gs) want) || anyOf aboveRows gs
 
-pub any-last : (p : Group → Bool) (gs : List Group) (g : Group) → anyGroup p (gs ++ (g ∷ [])) ≡ (anyGroup p gs || p g)
-unfolding anyGroup
-any-last p [] g = or-none (p g)
-any-last p (h ∷ gs) g = ap (λ (t : Bool). p h || t) (any-last p gs g) ∙ sym (or-assoc (p h) (anyGroup p gs) (p g))
+pub any-append : {A : Type 0} (p : A → Bool) (xs ys : List A) → anyOf p (xs ++ ys) ≡ (anyOf p xs || anyOf p ys)
+unfolding anyOf
+any-append p [] ys = refl
+any-append p (x ∷ xs) ys = ap (λ (t : Bool). p x || t) (any-append p xs ys) ∙ sym (or-assoc (p x) (anyOf p xs) (anyOf p ys))
 
-pub length-last : {A : Type 0} (xs : List A) (x : A) → length (xs ++ (x ∷ [])) ≡ suc (length xs)
-length-last xs x = length-append xs (x ∷ []) ∙ add-one (length xs)
+any-last : (gs : List Group) (g : Group) → anyOf aboveRows (gs ++ (g ∷ [])) ≡ (anyOf aboveRows gs || aboveRows g)
+unfolding anyOf
+any-last gs g = any-append aboveRows gs (g ∷ []) ∙ ap (λ (t : Bool). anyOf aboveRows gs || t) (or-false (aboveRows g))
 
-longer : (a : Bool) (n : ℕ) → ((a || ltb 16 n) || ltb 16 (suc n)) ≡ (a || ltb 16 (suc n))
+longer : (a : Bool) (n : ℕ) → ((a || ltb Size.rows n) || ltb Size.rows (n + 1)) ≡ (a || ltb Size.rows (n + 1))
 longer true n = refl
 longer false n =
-    by-test (ltb 16 n)
-    (λ e. rw (e, lt-ltb 16 (suc n) (omega (arith, ltb-true 16 n e))))
+    by-test (ltb Size.rows n)
+    (λ e. rw (e, lt-ltb Size.rows (n + 1) (omega (arith, ltb-true Size.rows n e))))
     (λ e. rw e)
 
-module _ (want : ℕ) (f : List ℕ) (fs : Fields) (done : List Group) (part : Group) (rest : (done : List Group) (part : Group) (j : Bool) → sixth want (suc (length done)) (length part) j (anyGroup aboveSixteen done || ltb 16 (length part)) fs ≡ six want (gather done part j fs)) where
-  six-step : (j t : Bool) → pick t (sixth want (suc (length done)) (length part) true (anyGroup aboveSixteen done || ltb 16 (length part)) fs) (pick j (sixth want (suc (length done)) (suc (length part)) false ((anyGroup aboveSixteen done || ltb 16 (length part)) || ltb 16 (suc (length part))) fs) (sixth want (suc (suc (length done))) 1 false (anyGroup aboveSixteen done || ltb 16 (length part)) fs)) ≡ six want (pick t (gather done part true fs) (pick j (gather done (part ++ (rowOf (rowValue f) ∷ [])) false fs) (gather (done ++ (part ∷ [])) (rowOf (rowValue f) ∷ []) false fs)))
-  unfolding pick aboveSixteen
-  six-step j true = rest done part true
-  six-step true false =
-      let r = rowOf (rowValue f) in
-      rw (longer (anyGroup aboveSixteen done) (length part))
-      (rw (length-last part r) at (rest done (part ++ (r ∷ [])) false))
-  six-step false false =
-      let r = rowOf (rowValue f) in
-      rw (length-last done part, any-last aboveSixteen done part, or-none (anyGroup aboveSixteen done || ltb 16 (length part))) at (rest (done ++ (part ∷ [])) (r ∷ []) false)
+-- The tally of groups that are whole, and of one more.
+abbrev tally : List Group → Group → Bool → Tally
+tally done part j =
+    record { groups = length done + 1; rows = length part; joined = j; long = anyOf aboveRows done || ltb Size.rows (length part) }
 
-sixth-gather : (want : ℕ) (fs : Fields) (done : List Group) (part : Group) (j : Bool) → sixth want (suc (length done)) (length part) j (anyGroup aboveSixteen done || ltb 16 (length part)) fs ≡ six want (gather done part j fs)
-unfolding sixth gather six aboveSixteen
-sixth-gather want [] done part j = rw (length-last done part, any-last aboveSixteen done part)
-sixth-gather want (f ∷ fs) done part j = six-step want f fs done part (λ d p i. sixth-gather want fs d p i) j (isJoin f)
+-- The groups that a field leads to, by whether it is an M and whether it follows one.
+abbrev pub onward : List ℕ → Fields → List Group → Group → Bool → Bool → List Group
+onward f fs done part t j =
+    pick t (gather done part true fs)
+    (pick j (gather done (part ++ (rowOf (rowValue f) ∷ [])) false fs)
+    (gather (done ++ (part ∷ [])) (rowOf (rowValue f) ∷ []) false fs))
 
-pub six-fields : (want : ℕ) (fs : Fields) → rowsForm word fs ≡ true → sixth want 0 0 false false fs ≡ (not (eqb (length (groupsOf fs)) want) || anyGroup aboveSixteen (groupsOf fs))
-unfolding sixth six groupsOf anyGroup pick
-six-fields want [] h = refl
-six-fields want (f ∷ fs) h =
+module _ (want : ℕ) (f : List ℕ) (fs : Fields) (done : List Group) (part : Group)
+    (rest : (done : List Group) (part : Group) (j : Bool) → groupsWrong want (tally done part j) fs ≡ wrong want (gather done part j fs)) where
+  abbrev more : Tally
+  more = record { groups = length done + 1; rows = length part + 1; joined = false; long = tally done part false .long || ltb Size.rows (length part + 1) }
+
+  abbrev new : Tally
+  new = record { groups = length done + 1 + 1; rows = 1; joined = false; long = tally done part false .long }
+
+  wrong-step : (j t : Bool)
+      → pick t (groupsWrong want (tally done part true) fs) (pick j (groupsWrong want more fs) (groupsWrong want new fs))
+      ≡ wrong want (onward f fs done part t j)
+  unfolding pick aboveRows
+  wrong-step j true = rest done part true
+  wrong-step true false =
+      let r = rowOf (rowValue f) in
+      rw (longer (anyOf aboveRows done) (length part)) (rw (length-append part (r ∷ [])) at (rest done (part ++ (r ∷ [])) false))
+  wrong-step false false =
+      let r = rowOf (rowValue f) in
+      rw (length-append done (part ∷ []), any-last done part, or-false (anyOf aboveRows done || ltb Size.rows (length part)))
+      at (rest (done ++ (part ∷ [])) (r ∷ []) false)
+
+wrong-gather : (want : ℕ) (fs : Fields) (done : List Group) (part : Group) (j : Bool)
+    → groupsWrong want (tally done part j) fs ≡ wrong want (gather done part j fs)
+unfolding groupsWrong gather wrong aboveRows
+wrong-gather want [] done part j = rw (length-append done (part ∷ []), any-last done part)
+wrong-gather want (f ∷ fs) done part j = wrong-step want f fs done part (λ d p i. wrong-gather want fs d p i) j (isJoin f)
+
+wrong-fields : (want : ℕ) (fs : Fields) → rowsForm word fs ≡ true
+    → groupsWrong want noGroups fs ≡ (not (eqb (length (groupsOf fs)) want) || anyOf aboveRows (groupsOf fs))
+unfolding groupsWrong wrong groupsOf anyOf pick
+wrong-fields want [] h = refl
+wrong-fields want (f ∷ fs) h =
     let e : isJoin f ≡ false = word-first f fs h in
-    rw e (sixth-gather want fs [] (rowOf (rowValue f) ∷ []) false ∙ ap (six want) (rw e at (gather-first f fs e h)))
+    rw e (wrong-gather want fs [] (rowOf (rowValue f) ∷ []) false ∙ ap (wrong want) (rw e at (gather-first f fs e h)))
 
 -- ---- the lines by their refusal numbers
 
@@ -257,7 +277,7 @@ rowLine-number line w n (f ∷ fs) = by-test (sameBytes f (wordBytes w) && rowsF
     good : (sameBytes f (wordBytes w) && rowsForm word fs) ≡ true → rowLine line w n (f ∷ fs) ≡ pick (eqb (rowNumber w n (f ∷ fs)) 0) (read (groupsOf fs)) (refused (rowNumber w n (f ∷ fs)) line)
     good e =
         rw e
-        (weighed line 6 7 8 (not (eqb (length (groupsOf fs)) (groupCount w n)) || anyGroup aboveSixteen (groupsOf fs)) (anyGroup (anyRow (above (columnCount w n))) (groupsOf fs)) (anyGroup (anyRow (idle w n)) (groupsOf fs)) (groupsOf fs) (omega arith) (omega arith) (omega arith))
+        (weighed line No.groupsBad No.bitAbove No.rowIdle (not (eqb (length (groupsOf fs)) (groupCount w n)) || anyOf aboveRows (groupsOf fs)) (anyOf (anyOf (above (columnCount w n))) (groupsOf fs)) (anyOf (anyOf (idle w n)) (groupsOf fs)) (groupsOf fs) (omega arith) (omega arith) (omega arith))
 
     bad : (sameBytes f (wordBytes w) && rowsForm word fs) ≡ false → rowLine line w n (f ∷ fs) ≡ pick (eqb (rowNumber w n (f ∷ fs)) 0) (read (groupsOf fs)) (refused (rowNumber w n (f ∷ fs)) line)
     bad e = rw e refl
@@ -270,7 +290,7 @@ header-in true name true (some n) e = rw e
 header-in true name false none e = refl
 header-in true name false (some n) e = rw e
 
-nameAfter-formed : (fs : Fields) → nameAfter fs ≡ pick (nameFormed fs) (some (headerIn fs)) none
+pub nameAfter-formed : (fs : Fields) → nameAfter fs ≡ pick (nameFormed fs) (some (headerIn fs)) none
 unfolding nameAfter nameFormed headerIn pick
 nameAfter-formed [] = refl
 nameAfter-formed (f ∷ []) = refl
@@ -278,17 +298,26 @@ nameAfter-formed (f ∷ (name ∷ [])) = refl
 nameAfter-formed (f ∷ (name ∷ (n ∷ []))) = header-in (sameBytes f (bytes "Name")) name (nameForm name) (decimal n) refl
 nameAfter-formed (f ∷ (name ∷ (n ∷ (x ∷ xs)))) = rw (ne-eqb (suc (suc (suc (suc (length xs))))) 3 (λ e. omega arith))
 
+-- A name line of good form has a name of good form.
+pub formed-name : (fs : Fields) → nameFormed fs ≡ true → nameForm (getD fs 1 []) ≡ true
+unfolding nameFormed
+formed-name fs e =
+    let named = nameForm (getD fs 1 []) in
+    let counted = holds (decimal (getD fs 2 [])) in
+    let first = sameBytes (getD fs 0 []) (bytes "Name") in
+    and-left named counted (and-right first (named && counted) (and-right (eqb (length fs) 3) (first && (named && counted)) e))
+
 pub nameLine-number : (line : ℕ) (cells : List Cell) (fs : Fields) → nameLine line cells fs ≡ pick (eqb (nameNumber cells fs) 0) (read (headerIn fs)) (refused (nameNumber cells fs) line)
 unfolding nameLine nameNumber form _>>=_ pick
 nameLine-number line cells fs = rw (nameAfter-formed fs) (by-test (nameFormed fs) good bad)
   where
     formed : Read Header
-    formed = form 3 line (pick (nameFormed fs) (some (headerIn fs)) none) >>= (λ (h : Header). weigh line ((4, nameUsed (h .name) cells) ∷ (5, pinsBad (h .pins)) ∷ (9, leb 32 (length cells)) ∷ []) >> read h)
+    formed = form No.libraryForm line (pick (nameFormed fs) (some (headerIn fs)) none) >>= (λ (h : Header). weigh line ((No.nameUsed, nameUsed (h .name) cells) ∷ (No.pinsBad, pinsBad (h .pins)) ∷ (No.cellsMany, leb Size.cells (length cells)) ∷ []) >> read h)
 
     good : nameFormed fs ≡ true → formed ≡ pick (eqb (nameNumber cells fs) 0) (read (headerIn fs)) (refused (nameNumber cells fs) line)
     good e =
         rw e
-        (weighed line 4 5 9 (nameUsed ((headerIn fs) .name) cells) (pinsBad ((headerIn fs) .pins)) (leb 32 (length cells)) (headerIn fs) (omega arith) (omega arith) (omega arith))
+        (weighed line No.nameUsed No.pinsBad No.cellsMany (nameUsed ((headerIn fs) .name) cells) (pinsBad ((headerIn fs) .pins)) (leb Size.cells (length cells)) (headerIn fs) (omega arith) (omega arith) (omega arith))
 
     bad : nameFormed fs ≡ false → formed ≡ pick (eqb (nameNumber cells fs) 0) (read (headerIn fs)) (refused (nameNumber cells fs) line)
     bad e = rw e refl
@@ -334,13 +363,13 @@ module _ (p : Row → Bool) (s : List ℕ) (at : ℕ) where
   unfolding anyField
   any-ended h = rw (fieldsFrom-end s at h)
 
-module _ (s : List ℕ) (at want groups rows : ℕ) (joined long : Bool) where
-  pub sixth-turn : at ≤ length s → sixth want groups rows joined long (fieldsFrom s at) ≡ sixth want groups rows joined long (part 44 s at ∷ fieldsFrom s (nextAfter s at (part 44 s at)))
-  sixth-turn h = rw (fieldsFrom-step s at h) refl
+module _ (s : List ℕ) (at want : ℕ) (t : Tally) where
+  pub wrong-turn : at ≤ length s → groupsWrong want t (fieldsFrom s at) ≡ groupsWrong want t (part 44 s at ∷ fieldsFrom s (nextAfter s at (part 44 s at)))
+  wrong-turn h = rw (fieldsFrom-step s at h) refl
 
-  pub sixth-ended : length s < at → sixth want groups rows joined long (fieldsFrom s at) ≡ (not (eqb groups want) || long)
-  unfolding sixth
-  sixth-ended h = rw (fieldsFrom-end s at h)
+  pub wrong-ended : length s < at → groupsWrong want t (fieldsFrom s at) ≡ (not (eqb (t .groups) want) || t .long)
+  unfolding groupsWrong
+  wrong-ended h = rw (fieldsFrom-end s at h)
 
 -- ---- places and their words
 
@@ -387,13 +416,6 @@ idle-by CO n r = refl
 idle-by SC n r = refl
 idle-by SO n r = refl
 
-pub first-most : (w : Word) → firstGroup w < 13
-unfolding firstGroup
-first-most CC = omega arith
-first-most CO = omega arith
-first-most SC = omega arith
-first-most SO = omega arith
-
 -- ---- the number of a row line, from its passes
 
 pub any-same : (p q : Row → Bool) (fs : Fields) → ((r : Row) → p r ≡ q r) → anyField p fs ≡ anyField q fs
@@ -411,25 +433,25 @@ row-formed w (f ∷ fs) h = go (sameBytes f (wordBytes w) && rowsForm word fs)
     go false = refl
 
 module _ (w : Word) (n : ℕ) (fs : Fields) (some-field : 0 < length fs) where
-  abbrev passes : Bool → Bool → ℕ
+  abbrev pub passes : Bool → Bool → ℕ
   passes s t =
       pick s
       (pick t
-      (pick (sixth (groupCount w n) 0 0 false false (drop 1 fs)) 6
-      (pick (anyField (above (columnCount w n)) (drop 1 fs)) 7
-      (pick (anyField (idle w n) (drop 1 fs)) 8 0)))
-      3)
-      3
+      (pick (groupsWrong (groupCount w n) noGroups (drop 1 fs)) No.groupsBad
+      (pick (anyField (above (columnCount w n)) (drop 1 fs)) No.bitAbove
+      (pick (anyField (idle w n) (drop 1 fs)) No.rowIdle 0)))
+      No.libraryForm)
+      No.libraryForm
 
   pub rowNumber-passes : rowNumber w n fs ≡ passes (sameBytes (getD fs 0 []) (wordBytes w)) (rowsForm word (drop 1 fs))
   unfolding rowNumber pick
   rowNumber-passes = rw (row-formed w fs some-field) (by-test (rowsForm word (drop 1 fs)) good bad)
     where
       weights : Bool → ℕ
-      weights t = pick t (pick (not (eqb (length (groupsOf (drop 1 fs))) (groupCount w n)) || anyGroup aboveSixteen (groupsOf (drop 1 fs))) 6 (pick (anyGroup (anyRow (above (columnCount w n))) (groupsOf (drop 1 fs))) 7 (pick (anyGroup (anyRow (idle w n)) (groupsOf (drop 1 fs))) 8 0))) 3
+      weights t = pick t (pick (not (eqb (length (groupsOf (drop 1 fs))) (groupCount w n)) || anyOf aboveRows (groupsOf (drop 1 fs))) No.groupsBad (pick (anyOf (anyOf (above (columnCount w n))) (groupsOf (drop 1 fs))) No.bitAbove (pick (anyOf (anyOf (idle w n)) (groupsOf (drop 1 fs))) No.rowIdle 0))) No.libraryForm
 
       either : (s : Bool) → rowsForm word (drop 1 fs) ≡ true → weights (s && true) ≡ passes s true
-      either true h = rw (six-fields (groupCount w n) (drop 1 fs) h, ← any-fields (above (columnCount w n)) word (drop 1 fs) h, ← any-fields (idle w n) word (drop 1 fs) h)
+      either true h = rw (wrong-fields (groupCount w n) (drop 1 fs) h, ← any-fields (above (columnCount w n)) word (drop 1 fs) h, ← any-fields (idle w n) word (drop 1 fs) h)
       either false h = refl
 
       none-formed : (s : Bool) → weights (s && false) ≡ passes s false

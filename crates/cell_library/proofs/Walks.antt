@@ -1,135 +1,100 @@
 -- The walk over the lines of a library text: what each line and the text's end make of the reading so far.
 -- Assumes nothing.
-use mathlib.Core.List.{List, [], _∷_, _++_, append-nil}
+use mathlib.Core.List.{List, [], _∷_, _++_}
 use mathlib.Core.Path.{_≡_, refl, sym, ap, _∙_}
-use Prim.Native.Nat.{ℕ, zero, suc, _+_, _≤_, _<_, min}
+use Prim.Native.Nat.{ℕ, zero, suc, _+_, _*_, _≤_, _<_, min}
 use native.Mathlib.Numerals.{add-one}
 use native.Mathlib.Omega.{arith}
 use lib.ListN.{length, drop, replicate}
-use lib.Seq.{drop-at, drop-length}
+use lib.Seq.{drop-at}
+use Rattle.sizes.specs.Sizes as Size
 use Rattle.table.specs.Blocks.{fitted, blocks, cleared}
+use Rattle.reading.specs.Numbers as No
+use Rattle.reading.specs.Refusal.{Read, refused, read, _>>=_, form}
 use Rattle.text.specs.Lines.{fields, part, nextAfter, linesFrom}
-use Rattle.text.specs.Refusal.{Read, refused, read, _>>=_, form}
 use Rattle.text.proofs.Laws.{linesFrom-start, linesFrom-end, linesFrom-line, linesFrom-unended}
-use Rattle.cell_library.specs.Answer.{countRead}
 use Rattle.cell_library.specs.Cells.{Cell}
-use Rattle.cell_library.specs.Library.{Place, outside, afterName, afterCC, afterCO, afterSC, afterSO, Reading, libraryLine, libraryEnd, libraryFrom, library}
-use Rattle.cell_library.specs.Layout.{libraryWords, librarySize}
-use Rattle.cell_library.specs.Walk.{placeCells, handWords, readingWords, placeNumber, placePins, Shows, Leaves}
+use Rattle.cell_library.specs.Library.{Place, outside, inside, Reading, libraryLine, libraryEnd, libraryFrom, library}
+use Rattle.cell_library.specs.Layout.{libraryWords}
+use Rattle.cell_library.specs.Walk.{placeCells, countedWords, readingWords, placeNumber, placePins, Shows, Leaves}
+use Rattle.cell_library.specs.declared.lines.State.{State}
 use Rattle.cell_library.proofs.Entries.{leaves-number, leaves-onward, outside-at}
-use Rattle.cell_library.proofs.Laws.{refused-read, start-sound}
+use Rattle.cell_library.proofs.Laws.{start-sound}
 use Rattle.cell_library.proofs.Places.{length-libraryWords}
 
 -- There is a reading that the reader's numbers and the table show, and from which the rest of the text decides.
-pub record Walked (text tail : List ℕ) (at line p c q k : ℕ) (table : List ℕ) : Type 0 where
+pub record Walked (text past : List ℕ) (at line : ℕ) (s : State) (table : List ℕ) : Type 0 where
   pub reading : Reading
-  pub shows : Shows reading p c q k table tail
+  pub shows : Shows reading s table past
   pub same : library text ≡ libraryFrom line reading (linesFrom text at)
 
-pub walk-start : (text tail table : List ℕ) → table ≡ libraryWords [] ++ tail → Walked text tail 0 1 0 0 0 0 table
-unfolding library readingWords placeCells handWords libraryWords placeNumber placePins
-walk-start text tail table held =
+pub walk-start : (text past table : List ℕ) → table ≡ libraryWords [] ++ past → Walked text past 0 1 (record { place = 0; cells = 0; pins = 0; number = 0 }) table
+unfolding library readingWords placeCells countedWords libraryWords placeNumber placePins
+walk-start text past table held =
     record {
       reading = record { cells = []; place = outside };
-      shows = record { in-place = refl; so-many = refl; has-pins = refl; accepted = refl; held = held; sound = start-sound };
+      shows = record { place = refl; cells = refl; pins = refl; accepted = refl; words = held; sound = start-sound };
       same = ap (libraryFrom 1 (record { cells = []; place = outside })) (sym (linesFrom-start text));
     }
 
-inside-end : (line : ℕ) (cells : List Cell) (place : Place) → (placeNumber place ≡ 0 → ⊥) → libraryEnd line cells place ≡ refused 3 line
+inside-end : (line : ℕ) (cells : List Cell) (place : Place) → (placeNumber place ≡ 0 → ⊥) → libraryEnd line cells place ≡ refused No.libraryForm line
 unfolding libraryEnd placeNumber
 inside-end line cells outside h = absurd (h refl)
-inside-end line cells (afterName c) h = refl
-inside-end line cells (afterCC c) h = refl
-inside-end line cells (afterCO c) h = refl
-inside-end line cells (afterSC c) h = refl
-inside-end line cells (afterSO c) h = refl
+inside-end line cells (inside wanted c) h = refl
 
-bind-on : {A B : Type 0} (m : Read A) (a : A) (f : A → Read B) → m ≡ read a → (m >>= f) ≡ f a
-unfolding _>>=_
-bind-on m a f e = rw e
-
-module _ (text tail : List ℕ) (at line p c q k : ℕ) (table : List ℕ) (walked : Walked text tail at line p c q k table) where
+module _ (text past : List ℕ) (at line : ℕ) (s : State) (table : List ℕ) (walked : Walked text past at line s table) where
   -- A last line without byte 10.
-  pub walk-unended : at < length text → at + length (part 10 text at) ≡ length text → library text ≡ refused 3 line
+  pub walk-unended : at < length text → at + length (part 10 text at) ≡ length text → library text ≡ refused No.libraryForm line
   unfolding libraryFrom form _>>=_
   walk-unended h e = walked .same ∙ rw (linesFrom-unended text at h e)
 
-  line-step : at + length (part 10 text at) < length text → library text ≡ (libraryLine line (walked .reading .cells) (walked .reading .place) (fields (part 10 text at)) >>= (λ (next : Reading). libraryFrom (suc line) next (linesFrom text (nextAfter text at (part 10 text at)))))
+  abbrev this : Read Reading
+  this = libraryLine line (walked .reading .cells) (walked .reading .place) (fields (part 10 text at))
+
+  line-step : at + length (part 10 text at) < length text → library text ≡ (this >>= (λ (next : Reading). libraryFrom (suc line) next (linesFrom text (nextAfter text at (part 10 text at)))))
   unfolding libraryFrom form _>>=_
   line-step h = walked .same ∙ rw (linesFrom-line text at h)
 
-  pub walk-refused : at + length (part 10 text at) < length text → (p′ c′ q′ k′ : ℕ) (table′ : List ℕ) → Leaves line (libraryLine line (walked .reading .cells) (walked .reading .place) (fields (part 10 text at))) p′ c′ q′ k′ table′ tail → (k′ ≡ 0 → ⊥) → library text ≡ refused k′ line
-  unfolding _>>=_
-  walk-refused h p′ c′ q′ k′ table′ left n =
-      line-step h ∙ rw (leaves-number line p′ c′ q′ k′ table′ tail (libraryLine line (walked .reading .cells) (walked .reading .place) (fields (part 10 text at))) left n)
+  module _ (h : at + length (part 10 text at) < length text) (t : State) (after : List ℕ) (left : Leaves line this t after past) where
+    pub walk-refused : (t .number ≡ 0 → ⊥) → library text ≡ refused (t .number) line
+    unfolding _>>=_
+    walk-refused n = line-step h ∙ rw (leaves-number line t after past this left n)
 
-  pub walk-on : at + length (part 10 text at) < length text → (p′ c′ q′ k′ : ℕ) (table′ : List ℕ) → Leaves line (libraryLine line (walked .reading .cells) (walked .reading .place) (fields (part 10 text at))) p′ c′ q′ k′ table′ tail → k′ ≡ 0 → Walked text tail (nextAfter text at (part 10 text at)) (line + 1) p′ c′ q′ k′ table′
-  unfolding _>>=_
-  walk-on h p′ c′ q′ k′ table′ left zeroed =
-      let on = leaves-onward line p′ c′ q′ k′ table′ tail (libraryLine line (walked .reading .cells) (walked .reading .place) (fields (part 10 text at))) left zeroed in
-      record {
-        reading = on .reading;
-        shows = on .shows;
-        same = line-step h ∙ bind-on (libraryLine line (walked .reading .cells) (walked .reading .place) (fields (part 10 text at))) (on .reading) _ (on .same) ∙ ap (λ (n : ℕ). libraryFrom n (on .reading) (linesFrom text (nextAfter text at (part 10 text at)))) (sym (add-one line));
-      }
+    pub walk-on : t .number ≡ 0 → Walked text past (nextAfter text at (part 10 text at)) (line + 1) t after
+    unfolding _>>=_
+    walk-on zeroed =
+        let on = leaves-onward line t after past this left zeroed in
+        let rest = linesFrom text (nextAfter text at (part 10 text at)) in
+        record {
+          reading = on .reading;
+          shows = on .shows;
+          same = line-step h ∙ ap (λ (m : Read Reading). m >>= (λ (next : Reading). libraryFrom (suc line) next rest)) (on .same) ∙ ap (λ (n : ℕ). libraryFrom n (on .reading) rest) (sym (add-one line));
+        }
 
   at-end : length text ≤ at → library text ≡ libraryEnd line (walked .reading .cells) (walked .reading .place)
   unfolding libraryFrom
   at-end h = walked .same ∙ rw (linesFrom-end text at h)
 
-  pub walk-broken : length text ≤ at → (p ≡ 0 → ⊥) → library text ≡ refused 3 line
-  walk-broken h n = at-end h ∙ inside-end line (walked .reading .cells) (walked .reading .place) (λ e. n (walked .shows .in-place ∙ e))
+  pub walk-broken : length text ≤ at → (s .place ≡ 0 → ⊥) → library text ≡ refused No.libraryForm line
+  walk-broken h n = at-end h ∙ inside-end line (walked .reading .cells) (walked .reading .place) (λ e. n (walked .shows .place ∙ e))
 
-  pub walk-done : length text ≤ at → p ≡ 0 → (library text ≡ read (walked .reading .cells)) × (table ≡ libraryWords (walked .reading .cells) ++ tail)
-  unfolding libraryEnd readingWords placeCells handWords libraryWords
+  pub walk-done : length text ≤ at → s .place ≡ 0 → (library text ≡ read (walked .reading .cells)) × (table ≡ libraryWords (walked .reading .cells) ++ past)
+  unfolding libraryEnd readingWords placeCells countedWords libraryWords
   walk-done h e =
-      let out : walked .reading .place ≡ outside = outside-at (walked .reading .place) (sym (walked .shows .in-place) ∙ e) in
-      (at-end h ∙ rw out, walked .shows .held ∙ rw out)
+      let out : walked .reading .place ≡ outside = outside-at (walked .reading .place) (sym (walked .shows .place) ∙ e) in
+      (at-end h ∙ rw out, walked .shows .words ∙ rw out)
 
 -- ---- the table before the first line, and behind the last
 
-filled : (k m : ℕ) → k ≡ suc m → replicate {A = ℕ} k 0 ≡ 0 ∷ fitted 0 m []
+filled : (m : ℕ) → replicate {A = ℕ} m 0 ≡ fitted 0 m []
 unfolding fitted
-filled k zero e = rw e
-filled k (suc m) e = ap (λ (n : ℕ). replicate {A = ℕ} n 0) e ∙ ap (λ (l : List ℕ). 0 ∷ l) (filled (suc m) m refl)
+filled zero = refl
+filled (suc m) = ap (λ (l : List ℕ). 0 ∷ l) (filled m)
 
-published : librarySize ≡ suc 21440
-unfolding librarySize
-published = refl
-
-cleared-to : (n m : ℕ) (xs : List ℕ) → n ≡ suc m → n ≤ length xs → cleared n xs ≡ (0 ∷ fitted 0 m []) ++ drop n xs
-unfolding cleared
-cleared-to n m xs e h = let all : min n (length xs) ≡ n = omega arith in rw (all, filled n m e)
-
-cleared-empty : (xs : List ℕ) → librarySize ≤ length xs → cleared librarySize xs ≡ libraryWords [] ++ drop librarySize xs
-unfolding libraryWords blocks
-cleared-empty xs h = cleared-to librarySize 21440 xs size h
-  where
-    size : librarySize ≡ suc 21440
-    size = published
+pub cleared-empty : (xs : List ℕ) → Size.library ≤ length xs → cleared Size.library xs ≡ libraryWords [] ++ drop Size.library xs
+unfolding libraryWords blocks cleared
+cleared-empty xs h = let all : min Size.library (length xs) ≡ Size.library = omega arith in rw (all, ← filled (Size.cells * Size.cellWords)) refl
 
 -- What stands past the published size of a table that holds cells.
-pub past-size : (cells : List Cell) (tail : List ℕ) → drop librarySize (libraryWords cells ++ tail) ≡ tail
-past-size cells tail = drop-at (libraryWords cells) tail librarySize (length-libraryWords cells)
-
-pub cleared-whole : (xs : List ℕ) (n : ℕ) → length xs ≡ n → cleared (length xs) xs ≡ replicate n 0
-unfolding cleared
-cleared-whole xs n e =
-    let all : min (length xs) (length xs) ≡ length xs = omega arith in
-    rw (all, drop-length xs, e) (append-nil (replicate n 0))
-
--- ---- an answer, and the library that it is of
-
-pub accepted-of : {C : Type 0} (m : Read (List Cell)) (n : ℕ) → _≡_ {A = Read ℕ} (read n) (countRead m) → ((cells : List Cell) → m ≡ read cells → C) → C
-unfolding countRead
-accepted-of (refused k l) n e on = refused-read k l n (sym e)
-accepted-of (read cells) n e on = on cells refl
-
-pub refused-of : (m : Read (List Cell)) (k l : ℕ) → _≡_ {A = Read ℕ} (refused k l) (countRead m) → m ≡ refused k l
-unfolding countRead
-refused-of (refused i j) k l e = cc
-refused-of (read cells) k l e = refused-read k l (length cells) e
-
--- The code's own number for the published size.
-pub cleared-size : (xs : List ℕ) → librarySize ≤ length xs → cleared 21441 xs ≡ libraryWords [] ++ drop librarySize xs
-cleared-size xs h = ap (λ (n : ℕ). cleared n xs) (sym published) ∙ cleared-empty xs h
+pub past-size : (cells : List Cell) (past : List ℕ) → drop Size.library (libraryWords cells ++ past) ≡ past
+past-size cells past = drop-at (libraryWords cells) past Size.library (length-libraryWords cells)

@@ -4,7 +4,7 @@ use mathlib.Core.Bool.{Bool}
 use mathlib.Core.List.{List, [], _∷_, _++_}
 use Prim.Native.Nat.{ℕ, zero, suc, _+_, _*_, _-_, _/_, _%_, _^_}
 use lib.Dec.{eqb}
-use Rattle.text.specs.Class.{pick, class-open}
+use Rattle.reading.specs.Choice.{pick, choice-open}
 
 -- "A row is an octal number .. Bit 0 is the depth (0 or 1)." The columns above it are held apart from the depth, so that
 -- a column's bit here is one less than its bit in the row.
@@ -65,5 +65,5 @@ named n (c ∷ cs) columns = pick (bit columns (bitOf n c)) (c ∷ named n cs co
 
 -- Opens the page's definitions, where a figure computes with them.
 unfoldable pub cells-open : ℕ
-unfolding class-open rowOf bitOf pinColumns settingColumns observingColumns bit named
+unfolding choice-open rowOf bitOf pinColumns settingColumns observingColumns bit named
 cells-open = 0

@@ -3,7 +3,7 @@
 use mathlib.Core.Bool.{Bool, true, not}
 use Prim.Native.Nat.{_/_, _%_}
 use lib.Dec.{leb, eqb}
-use Rattle.text.specs.Class.{pick}
+use Rattle.reading.specs.Choice.{pick}
 use Rattle.cell_library.specs.Cells.{Row}
 use Rattle.cell_library.specs.declared.rows.Fault.{Fault}
 use Rattle.cell_library.specs.declared.rows.Fault.the-variants.{From, Empty, Without}

@@ -3,77 +3,76 @@
 -- Assumes nothing.
 use mathlib.Core.Bool.{Bool, true, _&&_}
 use mathlib.Core.List.{List, [], _∷_, _++_}
+use mathlib.Core.Path.{_≡_}
 use Prim.Native.Nat.{ℕ, suc, _+_, _*_, _≤_}
 use lib.Dec.{eqb}
 use lib.ListN.{length, getD, replicate, drop}
+use Rattle.sizes.specs.Places.{cellPlace}
+use Rattle.sizes.specs.Sizes as Size
 use Rattle.table.specs.Blocks.{fitted, blocks}
-use Rattle.text.specs.Refusal.{Read, refused, read}
+use Rattle.reading.specs.Each.{Each}
+use Rattle.reading.specs.Refusal.{Read, refused, read}
 use Rattle.cell_library.specs.Cells.{Row, Group, Cell}
 use Rattle.cell_library.specs.Library.{Word, CC, CO, SC, SO}
 
--- Two numbers a row, the depth apart from the columns; 33 a group, its count of rows first, for up to 16 rows.
+-- Two numbers a row, the depth apart from the columns; a group has its count of rows first, then its rows.
 unfoldable pub rowWords : Row → List ℕ
 rowWords r = r .depth ∷ r .columns ∷ []
 
 unfoldable pub groupWords : Group → List ℕ
-groupWords g = length g ∷ fitted 0 32 (blocks rowWords g)
+groupWords g = length g ∷ fitted 0 (Size.rows * Size.rowWords) (blocks rowWords g)
 
--- The 20 groups of a cell, filled up with groups of no row: CC 2, SC 2, CO 8, SO 8.
+-- The groups of a cell, filled up with groups of no row: two of CC, two of SC, one for each pin of CO and of SO.
 unfoldable pub cellGroups : Cell → List Group
-cellGroups c = fitted [] 2 (c .cc) ++ (fitted [] 2 (c .sc) ++ (fitted [] 8 (c .co) ++ fitted [] 8 (c .so)))
+cellGroups c = fitted [] 2 (c .cc) ++ (fitted [] 2 (c .sc) ++ (fitted [] Size.pins (c .co) ++ fitted [] Size.pins (c .so)))
 
--- The place of a word's first group among the 20.
+-- The place of a word's first group among them.
 unfoldable pub firstGroup : Word → ℕ
-firstGroup CC = 0
-firstGroup SC = 2
-firstGroup CO = 4
-firstGroup SO = 12
+firstGroup CC = Size.ccGroup
+firstGroup SC = Size.scGroup
+firstGroup CO = Size.coGroup
+firstGroup SO = Size.soGroup
 
--- 670 numbers a cell: the length of its name, its name filled up to 8 bytes, its pins, its groups.
+-- A cell: the length of its name, its name filled up, its pins, its groups.
 unfoldable pub cellWords : Cell → List ℕ
-cellWords c = length (c .name) ∷ (fitted 0 8 (c .name) ++ (c .pins ∷ blocks groupWords (cellGroups c)))
+cellWords c = length (c .name) ∷ (fitted 0 Size.nameBytes (c .name) ++ (c .pins ∷ blocks groupWords (cellGroups c)))
 
--- The count of cells, then 32 cells: 21,441 numbers, the published size.
-unfoldable pub librarySize : ℕ
-librarySize = 21441
-
+-- The count of cells, then the cells: the published size.
 unfoldable pub libraryWords : List Cell → List ℕ
-libraryWords cells = length cells ∷ fitted 0 21440 (blocks cellWords cells)
-
--- Where a cell starts, and a group of it.
-unfoldable pub cellPlace : ℕ → ℕ
-cellPlace k = 1 + k * 670
-
-unfoldable pub groupPlace : ℕ → ℕ → ℕ
-groupPlace k g = 1 + k * 670 + 10 + g * 33
+libraryWords cells = length cells ∷ fitted 0 (Size.cells * Size.cellWords) (blocks cellWords cells)
 
 -- What reading leaves in the lent table: all zero after a refusal; else the cells in the published size, and what stood
 -- past it.
 unfoldable pub libraryAfter : Read (List Cell) → List ℕ → List ℕ
 libraryAfter (refused number line) before = replicate (length before) 0
-libraryAfter (read cells) before = libraryWords cells ++ drop librarySize before
+libraryAfter (read cells) before = libraryWords cells ++ drop Size.library before
 
--- ---- names in the table
+-- ---- what a table holds
 
--- What holds of each element of a list.
-unfoldable pub Each : {A : Type 0} → (A → Type 0) → List A → Type 0
-Each P [] = Unit {0}
-Each P (x ∷ xs) = P x × Each P xs
-
--- A name that the layout has space for.
+-- A name, and pins, that the layout has space for.
 unfoldable pub ShortName : Cell → Type 0
-ShortName c = length (c .name) ≤ 8
+ShortName c = length (c .name) ≤ Size.nameBytes
 
--- Cells that the layout holds whole: "A library has at most 32 entries", names of at most 8 bytes. Each library that was
--- read is such.
+unfoldable pub FewPins : Cell → Type 0
+FewPins c = c .pins ≤ Size.pins
+
+-- Cells that the layout holds whole: "A library has at most 32 entries", names of at most 8 bytes, at most 8 pins. Each
+-- library that was read is such.
 pub record Fits (cells : List Cell) : Type 0 where
-  pub few : length cells ≤ 32
+  pub few : length cells ≤ Size.cells
   pub short : Each ShortName cells
+  pub narrow : Each FewPins cells
+
+-- A table that holds the cells in its published size.
+pub record LibraryHolds (table : List ℕ) (cells : List Cell) : Type 0 where
+  pub past : List ℕ
+  pub words : table ≡ libraryWords cells ++ past
+  pub fits : Fits cells
 
 -- Whether these bytes stand in a table from a place on.
 unfoldable pub bytesAt : List ℕ → List ℕ → ℕ → Bool
 bytesAt [] table at = true
-bytesAt (b ∷ f) table at = eqb (getD table at 0) b && bytesAt f table (suc at)
+bytesAt (b ∷ f) table at = eqb b (getD table at 0) && bytesAt f table (suc at)
 
 -- Whether a cell of the table has this name, byte for byte.
 unfoldable pub nameAt : List ℕ → List ℕ → ℕ → Bool

@@ -6,11 +6,13 @@ use mathlib.Core.Option.{Option, none, some}
 use Prim.Native.Nat.{ℕ, suc, _+_, _*_, _^_}
 use lib.Dec.{leb, ltb, eqb}
 use lib.ListN.{length}
+use Rattle.sizes.specs.Sizes as Size
+use Rattle.reading.specs.Numbers as No
 use Rattle.text.specs.Bytes.{bytes, bytes-open}
-use Rattle.text.specs.Class.{pick}
+use Rattle.reading.specs.Choice.{pick}
 use Rattle.text.specs.Lines.{lines, sameBytes, lines-open}
 use Rattle.text.specs.Numeral.{numeral, value, decimal, nameForm, numeral-open}
-use Rattle.text.specs.Refusal.{Read, refused, read, _>>=_, _>>_, weigh, form, refusal-open}
+use Rattle.reading.specs.Refusal.{Read, refused, read, _>>=_, _>>_, weigh, form, refusal-open}
 use Rattle.cell_library.specs.Cells.{Row, rowOf, Group, Cell, bit, cells-open}
 
 -- A line by its fields.
@@ -19,16 +21,13 @@ Fields = List (List ℕ)
 
 -- ---- the rows of a line
 
--- "1 to 7 digits"
-unfoldable pub mostDigits : ℕ
-mostDigits = 7
-
 unfoldable pub holds : {A : Type 0} → Option A → Bool
 holds none = false
 holds (some a) = true
 
+-- "A row is an octal number without leading zeros (0 itself is well formed), 1 to 7 digits."
 unfoldable pub isRow : List ℕ → Bool
-isRow f = holds (numeral 8 mostDigits f)
+isRow f = holds (numeral 8 Size.rowDigits f)
 
 unfoldable pub isJoin : List ℕ → Bool
 isJoin f = sameBytes f (bytes "M")
@@ -69,17 +68,13 @@ groupsOf (f ∷ fs) = pick (isJoin f) (groupsOf fs) (withRow (joinFirst fs) (row
 
 -- ---- refusals 6, 7 and 8, of the groups of a line
 
-unfoldable pub anyGroup : (Group → Bool) → List Group → Bool
-anyGroup p [] = false
-anyGroup p (g ∷ gs) = p g || anyGroup p gs
-
-unfoldable pub anyRow : (Row → Bool) → Group → Bool
-anyRow p [] = false
-anyRow p (r ∷ rs) = p r || anyRow p rs
+unfoldable pub anyOf : {A : Type 0} → (A → Bool) → List A → Bool
+anyOf p [] = false
+anyOf p (x ∷ xs) = p x || anyOf p xs
 
 -- "a group above 16 rows"
-unfoldable pub aboveSixteen : Group → Bool
-aboveSixteen g = ltb 16 (length g)
+unfoldable pub aboveRows : Group → Bool
+aboveRows g = ltb Size.rows (length g)
 
 -- "a row with a bit above its columns": a CC or SC row has 2n columns, a CO or SO row three more.
 unfoldable pub above : ℕ → Row → Bool
@@ -130,11 +125,11 @@ rowsAfter w (f ∷ fs) = pick (sameBytes f (wordBytes w) && rowsForm word fs) (s
 
 unfoldable pub rowLine : ℕ → Word → ℕ → Fields → Read (List Group)
 rowLine line w n fs = do
-  gs ← form 3 line (rowsAfter w fs)
+  gs ← form No.libraryForm line (rowsAfter w fs)
   weigh line
-      ((6, not (eqb (length gs) (groupCount w n)) || anyGroup aboveSixteen gs)
-      ∷ (7, anyGroup (anyRow (above (columnCount w n))) gs)
-      ∷ (8, anyGroup (anyRow (idle w n)) gs)
+      ((No.groupsBad, not (eqb (length gs) (groupCount w n)) || anyOf aboveRows gs)
+      ∷ (No.bitAbove, anyOf (anyOf (above (columnCount w n))) gs)
+      ∷ (No.rowIdle, anyOf (anyOf (idle w n)) gs)
       ∷ [])
   read gs
 
@@ -170,22 +165,33 @@ nameUsed name cells = ltb (cellNamed name cells) (length cells)
 
 -- "5 pins not 1 to 8"
 unfoldable pub pinsBad : ℕ → Bool
-pinsBad n = not (leb 1 n && leb n 8)
+pinsBad n = not (leb 1 n && leb n Size.pins)
 
 unfoldable pub nameLine : ℕ → List Cell → Fields → Read Header
 nameLine line cells fs = do
-  h ← form 3 line (nameAfter fs)
+  h ← form No.libraryForm line (nameAfter fs)
   weigh line
-      ((4, nameUsed (h .name) cells)
-      ∷ (5, pinsBad (h .pins))
-      ∷ (9, leb 32 (length cells))
+      ((No.nameUsed, nameUsed (h .name) cells)
+      ∷ (No.pinsBad, pinsBad (h .pins))
+      ∷ (No.cellsMany, leb Size.cells (length cells))
       ∷ [])
   read h
 
--- "The six lines of an entry stand in the order shown": what is read of the entry at hand, and the line that it wants next.
+-- "The six lines of an entry stand in the order shown": the line that an entry wants behind its Name line.
+pub data Wanted : Type 0 where
+  wordLine : Word → Wanted
+  endLine : Wanted
+
+unfoldable pub lineAfter : Word → Wanted
+lineAfter CC = wordLine CO
+lineAfter CO = wordLine SC
+lineAfter SC = wordLine SO
+lineAfter SO = endLine
+
+-- Outside an entry, or in one that wants a line, with what is read of its cell.
 pub data Place : Type 0 where
   outside : Place
-  afterName afterCC afterCO afterSC afterSO : Cell → Place
+  inside : Wanted → Cell → Place
 
 pub record Reading : Type 0 where
   pub cells : List Cell
@@ -194,42 +200,39 @@ pub record Reading : Type 0 where
 unfoldable pub begun : Header → Cell
 begun h = record { name = h .name; pins = h .pins; cc = []; co = []; sc = []; so = [] }
 
+-- The groups of a cell that stand behind a word, and the cell with others in their place.
+unfoldable pub wordGroups : Word → Cell → List Group
+wordGroups CC c = c .cc
+wordGroups CO c = c .co
+wordGroups SC c = c .sc
+wordGroups SO c = c .so
+
 unfoldable pub withGroups : Word → List Group → Cell → Cell
 withGroups CC gs c = record { name = c .name; pins = c .pins; cc = gs; co = c .co; sc = c .sc; so = c .so }
 withGroups CO gs c = record { name = c .name; pins = c .pins; cc = c .cc; co = gs; sc = c .sc; so = c .so }
 withGroups SC gs c = record { name = c .name; pins = c .pins; cc = c .cc; co = c .co; sc = gs; so = c .so }
 withGroups SO gs c = record { name = c .name; pins = c .pins; cc = c .cc; co = c .co; sc = c .sc; so = gs }
 
-unfoldable pub entryLine : ℕ → List Cell → Word → (Cell → Place) → Cell → Fields → Read Reading
-entryLine line cells w next c fs = do
-  gs ← rowLine line w (c .pins) fs
-  read (record { cells = cells; place = next (withGroups w gs c) })
-
 unfoldable pub libraryLine : ℕ → List Cell → Place → Fields → Read Reading
 libraryLine line cells outside fs = do
   h ← nameLine line cells fs
-  read (record { cells = cells; place = afterName (begun h) })
-libraryLine line cells (afterName c) fs = entryLine line cells CC afterCC c fs
-libraryLine line cells (afterCC c) fs = entryLine line cells CO afterCO c fs
-libraryLine line cells (afterCO c) fs = entryLine line cells SC afterSC c fs
-libraryLine line cells (afterSC c) fs = entryLine line cells SO afterSO c fs
-libraryLine line cells (afterSO c) fs = do
-  form 3 line (endAfter fs)
+  read (record { cells = cells; place = inside (wordLine CC) (begun h) })
+libraryLine line cells (inside (wordLine w) c) fs = do
+  gs ← rowLine line w (c .pins) fs
+  read (record { cells = cells; place = inside (lineAfter w) (withGroups w gs c) })
+libraryLine line cells (inside endLine c) fs = do
+  form No.libraryForm line (endAfter fs)
   read (record { cells = cells ++ (c ∷ []); place = outside })
 
 -- "An entry broken off by the end is 3 at the line after the last."
 unfoldable pub libraryEnd : ℕ → List Cell → Place → Read (List Cell)
 libraryEnd line cells outside = read cells
-libraryEnd line cells (afterName c) = refused 3 line
-libraryEnd line cells (afterCC c) = refused 3 line
-libraryEnd line cells (afterCO c) = refused 3 line
-libraryEnd line cells (afterSC c) = refused 3 line
-libraryEnd line cells (afterSO c) = refused 3 line
+libraryEnd line cells (inside wanted c) = refused No.libraryForm line
 
 unfoldable pub libraryFrom : ℕ → Reading → List (Option Fields) → Read (List Cell)
 libraryFrom line r [] = libraryEnd line (r .cells) (r .place)
 libraryFrom line r (l ∷ ls) = do
-  fs ← form 3 line l
+  fs ← form No.libraryForm line l
   next ← libraryLine line (r .cells) (r .place) fs
   libraryFrom (suc line) next ls
 
@@ -239,5 +242,5 @@ library t = libraryFrom 1 (record { cells = []; place = outside }) (lines t)
 
 -- Opens the page's definitions, where a figure computes with them.
 unfoldable pub library-open : ℕ
-unfolding bytes-open lines-open numeral-open refusal-open cells-open mostDigits holds isRow isJoin mayJoin mayEnd rowsForm joinFirst withRow groupsOf anyGroup anyRow aboveSixteen above namesNone observesNot wordBytes groupCount columnCount idle rowsAfter rowLine headerOf nameAfter endAfter cellNamed nameUsed pinsBad nameLine begun withGroups entryLine libraryLine libraryEnd libraryFrom library
+unfolding bytes-open lines-open numeral-open refusal-open cells-open holds isRow isJoin mayJoin mayEnd rowsForm joinFirst withRow groupsOf anyOf aboveRows above namesNone observesNot wordBytes groupCount columnCount idle rowsAfter rowLine headerOf nameAfter endAfter cellNamed nameUsed pinsBad nameLine lineAfter begun wordGroups withGroups libraryLine libraryEnd libraryFrom library
 library-open = 0

@@ -2,60 +2,65 @@
 -- Assumes nothing.
 use mathlib.Core.List.{List, [], _∷_, _++_}
 use mathlib.Core.Path.{_≡_}
-use Prim.Native.Nat.{ℕ}
+use Prim.Native.Nat.{ℕ, _*_, _≤_}
 use lib.ListN.{length}
+use Rattle.sizes.specs.Sizes as Size
 use Rattle.table.specs.Blocks.{fitted, blocks}
-use Rattle.text.specs.Refusal.{Read, refused, read}
+use Rattle.reading.specs.Refusal.{Read, refused, read}
+use Rattle.text.specs.Lines.{fields}
 use Rattle.cell_library.specs.Cells.{Cell}
-use Rattle.cell_library.specs.Library.{Place, outside, afterName, afterCC, afterCO, afterSC, afterSO, Reading}
+use Rattle.cell_library.specs.Library.{Place, outside, inside, Reading, libraryLine}
 use Rattle.cell_library.specs.Layout.{cellWords}
-use Rattle.cell_library.specs.Sound.{SoundReading}
+use Rattle.cell_library.specs.Sound.{wantedNumber, SoundReading}
+use Rattle.cell_library.specs.declared.lines.State.{State}
 
--- The cells of which the table holds something: those read, and the one in hand.
+-- ---- the table
+
+-- The cells of which the table holds something: those read, and the one that is being read.
 unfoldable pub placeCells : List Cell → Place → List Cell
 placeCells cells outside = cells
-placeCells cells (afterName c) = cells ++ (c ∷ [])
-placeCells cells (afterCC c) = cells ++ (c ∷ [])
-placeCells cells (afterCO c) = cells ++ (c ∷ [])
-placeCells cells (afterSC c) = cells ++ (c ∷ [])
-placeCells cells (afterSO c) = cells ++ (c ∷ [])
+placeCells cells (inside wanted c) = cells ++ (c ∷ [])
 
--- A table that counts so many cells and holds these: the cell in hand is not counted before its End line.
-unfoldable pub handWords : ℕ → List Cell → List ℕ
-handWords n cells = n ∷ fitted 0 21440 (blocks cellWords cells)
+-- A table that counts so many cells and holds these: a cell is not counted before its End line.
+unfoldable pub countedWords : ℕ → List Cell → List ℕ
+countedWords n cells = n ∷ fitted 0 (Size.cells * Size.cellWords) (blocks cellWords cells)
 
 unfoldable pub readingWords : Reading → List ℕ
-readingWords r = handWords (length (r .cells)) (placeCells (r .cells) (r .place))
+readingWords r = countedWords (length (r .cells)) (placeCells (r .cells) (r .place))
 
--- The place as a number, from 0 outside an entry to 5 before its End line.
+-- ---- the reader's numbers
+
 unfoldable pub placeNumber : Place → ℕ
 placeNumber outside = 0
-placeNumber (afterName c) = 1
-placeNumber (afterCC c) = 2
-placeNumber (afterCO c) = 3
-placeNumber (afterSC c) = 4
-placeNumber (afterSO c) = 5
+placeNumber (inside wanted c) = wantedNumber wanted
 
--- The pins of the cell in hand; 0 where there is none.
+-- The pins of the cell that is being read; 0 where there is none.
 unfoldable pub placePins : Place → ℕ
 placePins outside = 0
-placePins (afterName c) = c .pins
-placePins (afterCC c) = c .pins
-placePins (afterCO c) = c .pins
-placePins (afterSC c) = c .pins
-placePins (afterSO c) = c .pins
+placePins (inside wanted c) = c .pins
 
--- ---- what the reader's numbers and the table say of a reading
+-- Numbers that the tables have space for.
+pub record StateFits (s : State) : Type 0 where
+  pub cells : s .cells ≤ Size.cells
+  pub pins : s .pins ≤ Size.pins
 
-pub record Shows (r : Reading) (place cells pins number : ℕ) (table tail : List ℕ) : Type 0 where
-  pub in-place : place ≡ placeNumber (r .place)
-  pub so-many : cells ≡ length (r .cells)
-  pub has-pins : pins ≡ placePins (r .place)
-  pub accepted : number ≡ 0
-  pub held : table ≡ readingWords r ++ tail
+-- What the reader's numbers and the table show of a reading.
+pub record Shows (r : Reading) (s : State) (table past : List ℕ) : Type 0 where
+  pub place : s .place ≡ placeNumber (r .place)
+  pub cells : s .cells ≡ length (r .cells)
+  pub pins : s .pins ≡ placePins (r .place)
+  pub accepted : s .number ≡ 0
+  pub words : table ≡ readingWords r ++ past
   pub sound : SoundReading r
 
+-- ---- a line
+
 -- What a line leaves: its refusal number, or the reading behind it.
-unfoldable pub Leaves : ℕ → Read Reading → (place cells pins number : ℕ) (table tail : List ℕ) → Type 0
-Leaves line (refused k m) place cells pins number table tail = (number ≡ k) × (m ≡ line) × (number ≡ 0 → ⊥)
-Leaves line (read r) place cells pins number table tail = Shows r place cells pins number table tail
+unfoldable pub Leaves : ℕ → Read Reading → State → (table past : List ℕ) → Type 0
+Leaves line (refused k m) t table past = (t .number ≡ k) × (m ≡ line) × (t .number ≡ 0 → ⊥)
+Leaves line (read r) t table past = Shows r t table past
+
+-- A line read at a state and into a table, of every reading that they show.
+abbrev pub LineReads : (s t : State) (line table after : List ℕ) → Type 0
+LineReads s t line table after = (r : Reading) (past : List ℕ) (n : ℕ) → Shows r s table past
+    → Leaves n (libraryLine n (r .cells) (r .place) (fields line)) t after past

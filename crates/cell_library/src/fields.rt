@@ -10,7 +10,7 @@ use text::field;
 
 // The cursor of field n, from 0; past the line's end where the line has fewer fields.
 pub fn cursor(line: &[u8], n: u32) -> usize
-    ensures { λ r. ⌜ (r ≤ length (now (line .entry)) + 1) × (fieldsFrom (now (line .entry)) r ≡ drop n (fields (now (line .entry)))) ⌝ }
+    ensures { λ r. ⌜ fieldsFrom (now (line .entry)) r ≡ drop n (fields (now (line .entry))) ⌝ }
 {
     let mut at: usize = 0;
     let mut i: u32 = 0;

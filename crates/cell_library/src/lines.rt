@@ -1,56 +1,55 @@
-// The lines of an entry: what refuses each, and what each leaves in the table.
+// The lines of a library text one after another: what refuses each, and what each leaves in the table.
 ghost use mathlib.Core.Path.{_≡_};
 ghost use mathlib.Core.Bool.{true};
-ghost use mathlib.Core.List.{List, _++_};
-ghost use Prim.Native.Nat.{ℕ, _≤_, _<_};
-ghost use lib.ListN.{length};
+ghost use mathlib.Core.List.{List, [], _++_};
+ghost use Prim.Native.Nat.{_≤_, _<_};
+ghost use lib.ListN.{length, drop};
+ghost use Rattle.sizes.specs.Sizes as Size;
+ghost use Rattle.reading.specs.Refusal.{read};
+ghost use Rattle.reading.specs.Verdict.{verdictRead, doneRead};
 ghost use Rattle.text.specs.Lines.{fields};
 ghost use Rattle.text.specs.Numeral.{decimal};
 ghost use Rattle.cell_library.specs.Cells.{Cell};
-ghost use Rattle.cell_library.specs.Library.{holds, libraryLine, Reading};
-ghost use Rattle.cell_library.specs.Layout.{libraryWords, Fits};
+ghost use Rattle.cell_library.specs.Library.{holds, library};
+ghost use Rattle.cell_library.specs.Layout.{libraryWords, LibraryHolds};
 ghost use Rattle.cell_library.specs.Passes.{orZero, nameFormed, nameNumber, endFormed};
-ghost use Rattle.cell_library.specs.Walk.{Shows, Leaves};
-use crate::count;
+ghost use Rattle.cell_library.specs.Sound.{endNumber};
+ghost use Rattle.cell_library.specs.Walk.{StateFits, LineReads};
+use crate::cells::count;
+use crate::cells::find;
 use crate::fields::cursor;
 use crate::fields::fields_are;
 use crate::fields::nth;
-use crate::find;
 use crate::rows::row_number;
 use crate::store::put_header;
 use crate::store::put_rows;
 use crate::store::word_place;
+use reading::Refusal;
+use reading::Verdict;
 use table::put;
 use text::Numeral;
+use text::after;
 use text::decimal;
 use text::is_name;
 use text::same;
 
-const MOST_CELLS: u32 = 32;
+const MOST_CELLS: u32 = sizes::CELLS as u32;
 
-const MOST_PINS: u32 = 8;
+const MOST_PINS: u32 = sizes::PINS as u32;
 // Places of an entry: outside it, before its CC line, and before its End line.
 const OUTSIDE: u32 = 0;
 
-const AFTER_NAME: u32 = 1;
+const CC_LINE: u32 = 1;
 
-const AFTER_SO: u32 = 5;
-// The refusal numbers of a name line and an end line.
-const BAD_FORM: u32 = 3;
+const END_LINE: u32 = 5;
 
-const NAME_USED: u32 = 4;
-
-const BAD_PINS: u32 = 5;
-
-const TOO_MANY: u32 = 9;
-
-// Where the reader stands: the place in an entry, the cells read, the pins of the cell in hand, and the number that refuses
-// the line just read, or 0.
-pub struct State {
-    pub place: u32,
-    pub cells: u32,
-    pub pins: u32,
-    pub number: u32,
+// Where the reader stands: the place in an entry, the cells read, the pins of the cell being read, and the number that
+// refuses the line just read, or 0.
+struct State {
+    place: u32,
+    cells: u32,
+    pins: u32,
+    number: u32,
 }
 
 fn is_decimal(f: &[u8]) -> bool
@@ -92,30 +91,33 @@ fn name_form(line: &[u8]) -> bool
 
 // The number that refuses a name line behind the cells of a table, the lowest that holds, or 0.
 fn name_number(line: &[u8], table: &[u32]) -> u32
-    ensures { λ r. ⌜ (r ≡ 0 → nameFormed (fields (now (line .entry))) ≡ true) × ((cells : List Cell) (rest : List ℕ) → now (table .entry) ≡ libraryWords cells ++ rest → Fits cells → r ≡ nameNumber cells (fields (now (line .entry)))) ⌝ }
+    ensures formed { λ r. ⌜ (r ≡ 0 → nameFormed (fields (now (line .entry))) ≡ true) ⌝ }
+    ensures numbered { λ r. ⌜ ((cells : List Cell) → LibraryHolds (now (table .entry)) cells
+        → r ≡ nameNumber cells (fields (now (line .entry)))) ⌝ }
 {
     if !name_form(line) {
-        return BAD_FORM;
+        return reading::LIBRARY_FORM;
     }
     let n = count(table);
     if find(table, nth(line, 1)) < n {
-        return NAME_USED;
+        return reading::NAME_USED;
     }
     let pins = decimal_value(nth(line, 2));
     if pins < 1 {
-        return BAD_PINS;
+        return reading::PINS_BAD;
     }
     if MOST_PINS < pins {
-        return BAD_PINS;
+        return reading::PINS_BAD;
     }
     if MOST_CELLS <= n {
-        return TOO_MANY;
+        return reading::CELLS_MANY;
     }
     0
 }
 
 fn name_line(line: &[u8], table: &mut [u32], s: State) -> State
-    ensures { λ t. ⌜ ((r : Reading) (tail : List ℕ) (n : ℕ) → Shows r (s .place) (s .cells) (s .pins) (s .number) (now (table .entry)) tail → s .place ≡ 0 → Leaves n (libraryLine n (r .cells) (r .place) (fields (now (line .entry)))) (t .place) (t .cells) (t .pins) (t .number) (now (table .exit)) tail) ⌝ }
+    requires { ⌜ (s .place ≡ 0) × StateFits s ⌝ }
+    ensures { λ t. ⌜ LineReads s t (now (line .entry)) (now (table .entry)) (now (table .exit)) ⌝ }
 {
     let number = name_number(line, table);
     if number != 0 {
@@ -130,7 +132,7 @@ fn name_line(line: &[u8], table: &mut [u32], s: State) -> State
     let pins = decimal_value(nth(line, 2));
     put_header(table, cells, nth(line, 1), pins);
     State {
-        place: AFTER_NAME,
+        place: CC_LINE,
         cells,
         pins,
         number: 0,
@@ -138,8 +140,8 @@ fn name_line(line: &[u8], table: &mut [u32], s: State) -> State
 }
 
 fn row_line(line: &[u8], table: &mut [u32], s: State) -> State
-    requires { ⌜ (length (now line) ≤ 65535) × (s .pins ≤ 8) × (s .cells < 1000) × (s .place < 5) ⌝ }
-    ensures { λ t. ⌜ ((r : Reading) (tail : List ℕ) (n : ℕ) → Shows r (s .place) (s .cells) (s .pins) (s .number) (now (table .entry)) tail → 0 < s .place → Leaves n (libraryLine n (r .cells) (r .place) (fields (now (line .entry)))) (t .place) (t .cells) (t .pins) (t .number) (now (table .exit)) tail) ⌝ }
+    requires { ⌜ (0 < s .place) × (s .place < endNumber) × StateFits s × (length (now line) ≤ Size.textBytes) ⌝ }
+    ensures { λ t. ⌜ LineReads s t (now (line .entry)) (now (table .entry)) (now (table .exit)) ⌝ }
 {
     let place = s.place;
     let cells = s.cells;
@@ -163,9 +165,18 @@ fn row_line(line: &[u8], table: &mut [u32], s: State) -> State
     }
 }
 
+fn end_form(line: &[u8]) -> bool
+    ensures { λ r. ⌜ r ≡ endFormed (fields (now (line .entry))) ⌝ }
+{
+    if !fields_are(line, 1) {
+        return false;
+    }
+    same(nth(line, 0), b"End")
+}
+
 fn end_line(line: &[u8], table: &mut [u32], s: State) -> State
-    requires { ⌜ s .cells < 1000 ⌝ }
-    ensures { λ t. ⌜ ((r : Reading) (tail : List ℕ) (n : ℕ) → Shows r (s .place) (s .cells) (s .pins) (s .number) (now (table .entry)) tail → s .place ≡ 5 → Leaves n (libraryLine n (r .cells) (r .place) (fields (now (line .entry)))) (t .place) (t .cells) (t .pins) (t .number) (now (table .exit)) tail) ⌝ }
+    requires { ⌜ (endNumber ≤ s .place) × StateFits s ⌝ }
+    ensures { λ t. ⌜ LineReads s t (now (line .entry)) (now (table .entry)) (now (table .exit)) ⌝ }
 {
     let cells = s.cells;
     if !end_form(line) {
@@ -173,7 +184,7 @@ fn end_line(line: &[u8], table: &mut [u32], s: State) -> State
             place: s.place,
             cells,
             pins: s.pins,
-            number: BAD_FORM,
+            number: reading::LIBRARY_FORM,
         };
     }
     put(table, 0, cells + 1);
@@ -185,25 +196,59 @@ fn end_line(line: &[u8], table: &mut [u32], s: State) -> State
     }
 }
 
-fn end_form(line: &[u8]) -> bool
-    ensures { λ r. ⌜ r ≡ endFormed (fields (now (line .entry))) ⌝ }
-{
-    if !fields_are(line, 1) {
-        return false;
-    }
-    same(nth(line, 0), b"End")
-}
-
 // One line of the text, by the place at which the reader stands.
-pub fn read_line(line: &[u8], table: &mut [u32], s: State) -> State
-    requires { ⌜ (length (now line) ≤ 65535) × (s .pins ≤ 8) × (s .cells < 1000) ⌝ }
-    ensures { λ t. ⌜ ((r : Reading) (tail : List ℕ) (n : ℕ) → Shows r (s .place) (s .cells) (s .pins) (s .number) (now (table .entry)) tail → Leaves n (libraryLine n (r .cells) (r .place) (fields (now (line .entry)))) (t .place) (t .cells) (t .pins) (t .number) (now (table .exit)) tail) ⌝ }
+fn read_line(line: &[u8], table: &mut [u32], s: State) -> State
+    requires { ⌜ StateFits s × (length (now line) ≤ Size.textBytes) ⌝ }
+    ensures { λ t. ⌜ LineReads s t (now (line .entry)) (now (table .entry)) (now (table .exit)) ⌝ }
 {
     if s.place == OUTSIDE {
         return name_line(line, table, s);
     }
-    if s.place < AFTER_SO {
+    if s.place < END_LINE {
         return row_line(line, table, s);
     }
     end_line(line, table, s)
+}
+
+// The lines of the text, into a table that holds no cell.
+pub fn read_lines(text: &[u8], table: &mut [u32]) -> Verdict
+    requires { ⌜ (length (now text) ≤ Size.textBytes) × (now table ≡ libraryWords [] ++ drop Size.library (now table)) ⌝ }
+    ensures answered { λ r. ⌜ verdictRead r ≡ doneRead (library (now (text .entry))) ⌝ }
+    ensures filled { λ _. ⌜ ((cells : List Cell) → library (now (text .entry)) ≡ read cells
+        → now (table .exit) ≡ libraryWords cells ++ drop Size.library (now (table .entry))) ⌝ }
+{
+    let n = text.len();
+    let mut at: usize = 0;
+    let mut number: usize = 1;
+    let mut s = State {
+        place: OUTSIDE,
+        cells: 0,
+        pins: 0,
+        number: 0,
+    };
+    while at < n {
+        let l = text::line(text, at);
+        if at + l.len() == n {
+            return Verdict::Refused(Refusal {
+                number: reading::LIBRARY_FORM,
+                line: number,
+            });
+        }
+        s = read_line(l, table, s);
+        if s.number != 0 {
+            return Verdict::Refused(Refusal {
+                number: s.number,
+                line: number,
+            });
+        }
+        at = after(text, at, l);
+        number += 1;
+    }
+    if s.place != OUTSIDE {
+        return Verdict::Refused(Refusal {
+            number: reading::LIBRARY_FORM,
+            line: number,
+        });
+    }
+    Verdict::Accepted
 }

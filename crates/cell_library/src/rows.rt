@@ -1,15 +1,14 @@
 // Row lines: whether they have the form, and what refuses them, one pass over the line for each number.
 ghost use mathlib.Core.Path.{_≡_};
-ghost use mathlib.Core.Bool.{true, false};
-ghost use mathlib.Core.List.{_∷_};
-ghost use Prim.Native.Nat.{ℕ, _+_, _*_, _^_, _≤_, _<_};
-ghost use lib.Dec.{eqb};
+ghost use Prim.Native.Nat.{_^_, _≤_, _<_};
 ghost use lib.ListN.{length};
-ghost use Rattle.text.specs.Class.{pick};
+ghost use Rattle.sizes.specs.Sizes as Size;
 ghost use Rattle.text.specs.Lines.{fields, fieldsFrom, sameBytes};
 ghost use Rattle.cell_library.specs.Cells.{Row, rowOf};
-ghost use Rattle.cell_library.specs.Library.{Fields, isRow, isJoin, word, rowsForm, wordBytes, groupCount, columnCount, above, idle};
-ghost use Rattle.cell_library.specs.Passes.{rowValue, placed, fieldBad, anyField, sixth, wordAt, setting, rowNumber};
+ghost use Rattle.cell_library.specs.Library.{isRow, isJoin, word, rowsForm, wordBytes, groupCount, columnCount};
+ghost use Rattle.cell_library.specs.Library.{above, idle};
+ghost use Rattle.cell_library.specs.Passes.{rowValue, placed, fieldBad, anyField, Counted, noGroups, groupsWrong};
+ghost use Rattle.cell_library.specs.Passes.{wordAt, setting, rowNumber};
 ghost use Rattle.cell_library.specs.Faults.{faulty};
 use crate::fields::cursor;
 use crate::fields::nth;
@@ -19,10 +18,7 @@ use text::field;
 use text::octal;
 use text::same;
 
-// The most digits of a row, and the most rows of a group.
-const DIGITS: usize = 7;
-
-const MOST_ROWS: u32 = 16;
+const MOST_ROWS: u32 = sizes::ROWS as u32;
 // What stands before a field: the line's word, a row, or an M; or a field out of place.
 const WORD: u32 = 0;
 
@@ -31,14 +27,6 @@ const ROW: u32 = 1;
 const JOIN: u32 = 2;
 
 const OUT_OF_PLACE: u32 = 3;
-// The refusal numbers of a row line.
-const BAD_FORM: u32 = 3;
-
-const BAD_GROUPS: u32 = 6;
-
-const BIT_ABOVE: u32 = 7;
-
-const IDLE_ROW: u32 = 8;
 
 pub fn is_join(f: &[u8]) -> bool
     ensures { λ r. ⌜ r ≡ isJoin (now (f .entry)) ⌝ }
@@ -49,7 +37,7 @@ pub fn is_join(f: &[u8]) -> bool
 fn is_row(f: &[u8]) -> bool
     ensures { λ r. ⌜ r ≡ isRow (now (f .entry)) ⌝ }
 {
-    let v = octal(f, DIGITS);
+    let v = octal(f, sizes::ROW_DIGITS);
     match v {
         Numeral::Value(_) => true,
         Numeral::Bad => false,
@@ -60,7 +48,7 @@ fn is_row(f: &[u8]) -> bool
 pub fn row_value(f: &[u8]) -> u32
     ensures { λ r. ⌜ r ≡ rowValue (now (f .entry)) ⌝ }
 {
-    let v = octal(f, DIGITS);
+    let v = octal(f, sizes::ROW_DIGITS);
     match v {
         Numeral::Value(x) => x,
         Numeral::Bad => 0,
@@ -113,8 +101,8 @@ struct Tally {
 }
 
 fn counted(t: Tally, f: &[u8]) -> Tally
-    requires { ⌜ (t .groups < 1000000) × (t .rows < 1000000) ⌝ }
-    ensures { λ r. ⌜ (r .groups ≤ t .groups + 1) × (r .rows ≤ t .rows + 1) × ((want : ℕ) (fs : Fields) → sixth want (r .groups) (r .rows) (r .joined) (r .long) fs ≡ sixth want (t .groups) (t .rows) (t .joined) (t .long) (now (f .entry) ∷ fs)) ⌝ }
+    requires { ⌜ (t .groups ≤ Size.textBytes) × (t .rows ≤ Size.textBytes) ⌝ }
+    ensures { λ r. ⌜ Counted t r (now (f .entry)) ⌝ }
 {
     if is_join(f) {
         return Tally {
@@ -142,8 +130,8 @@ fn counted(t: Tally, f: &[u8]) -> Tally
 
 // Whether the groups from a cursor on are not so many, or one has too many rows.
 fn groups_bad(line: &[u8], from: usize, want: u32) -> bool
-    requires { ⌜ length (now line) ≤ 65535 ⌝ }
-    ensures { λ r. ⌜ r ≡ sixth want 0 0 false false (fieldsFrom (now (line .entry)) from) ⌝ }
+    requires { ⌜ length (now line) ≤ Size.textBytes ⌝ }
+    ensures { λ r. ⌜ r ≡ groupsWrong want noGroups (fieldsFrom (now (line .entry)) from) ⌝ }
 {
     let n = line.len();
     let mut at = from;
@@ -262,7 +250,7 @@ fn group_count(place: u32, pins: u32) -> u32
 
 // A bit above the columns of a word.
 fn bit_above(place: u32, pins: u32) -> Fault
-    requires { ⌜ pins ≤ 8 ⌝ }
+    requires { ⌜ pins ≤ Size.pins ⌝ }
     ensures { λ r. ⌜ ((x : Row) → faulty r x ≡ above (columnCount (wordAt place) pins) x) ⌝ }
 {
     if sets_output(place) {
@@ -273,7 +261,7 @@ fn bit_above(place: u32, pins: u32) -> Fault
 
 // No pin named, or the output not observed.
 fn row_idle(place: u32, pins: u32) -> Fault
-    requires { ⌜ pins ≤ 8 ⌝ }
+    requires { ⌜ pins ≤ Size.pins ⌝ }
     ensures { λ r. ⌜ ((x : Row) → faulty r x ≡ idle (wordAt place) pins x) ⌝ }
 {
     if sets_output(place) {
@@ -282,37 +270,26 @@ fn row_idle(place: u32, pins: u32) -> Fault
     Fault::Without(power(2 * pins + 2))
 }
 
-// What a row has against it by a refusal number.
-fn fault_of(number: u32, place: u32, pins: u32) -> Fault
-    requires { ⌜ pins ≤ 8 ⌝ }
-    ensures { λ r. ⌜ ((x : Row) → faulty r x ≡ pick (eqb number 7) (above (columnCount (wordAt place) pins) x) (idle (wordAt place) pins x)) ⌝ }
-{
-    if number == 7 {
-        return bit_above(place, pins);
-    }
-    row_idle(place, pins)
-}
-
 // The number that refuses a row line, the lowest that holds, or 0.
 pub fn row_number(line: &[u8], place: u32, pins: u32) -> u32
-    requires { ⌜ (length (now line) ≤ 65535) × (pins ≤ 8) ⌝ }
+    requires { ⌜ (length (now line) ≤ Size.textBytes) × (pins ≤ Size.pins) ⌝ }
     ensures { λ r. ⌜ r ≡ rowNumber (wordAt place) pins (fields (now (line .entry))) ⌝ }
 {
     if !is_word(nth(line, 0), place) {
-        return BAD_FORM;
+        return reading::LIBRARY_FORM;
     }
     let from = cursor(line, 1);
     if !rows_form(line, from) {
-        return BAD_FORM;
+        return reading::LIBRARY_FORM;
     }
     if groups_bad(line, from, group_count(place, pins)) {
-        return BAD_GROUPS;
+        return reading::GROUPS_BAD;
     }
-    if any_fault(line, from, fault_of(BIT_ABOVE, place, pins)) {
-        return BIT_ABOVE;
+    if any_fault(line, from, bit_above(place, pins)) {
+        return reading::BIT_ABOVE;
     }
-    if any_fault(line, from, fault_of(IDLE_ROW, place, pins)) {
-        return IDLE_ROW;
+    if any_fault(line, from, row_idle(place, pins)) {
+        return reading::ROW_IDLE;
     }
     0
 }

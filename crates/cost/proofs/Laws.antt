@@ -1,6 +1,6 @@
 -- The laws of costs that other crates cite. Each holds for every number, also for one above never, unless it says otherwise.
 -- Assumes nothing.
-use mathlib.Core.Bool.{Bool, true, false}
+use mathlib.Core.Bool.{or-true, _||_}
 use mathlib.Core.Logic.{_⊎_, inl, inr}
 use mathlib.Core.Path.{_≡_, refl, sym, _∙_}
 use Prim.Native.Nat.{ℕ, _+_, _≤_, _<_, min, max}
@@ -9,28 +9,24 @@ use native.Mathlib.Nat.{max-comm, add-comm}
 use native.Mathlib.Omega.{arith}
 use lib.Dec.{leb, ltb, eqb}
 use borrow.Author.Tests.{le-leb, lt-leb, lt-ltb, le-ltb, eq-eqb, ne-eqb}
-use Rattle.cost.specs.Order.{standing, pickStanding}
+use Rattle.reading.specs.Choice.{pick}
+use Rattle.cost.specs.Order.{standing}
 use Rattle.cost.specs.declared.Standing.the-variants as Standing
-use Rattle.cost.specs.Cost.{most, over, never, counted, isNever, isOver, or, pick, _⊕_, lesser, capped}
+use Rattle.cost.specs.Cost.{most, over, never, counted, isNever, isOver, _⊕_, lesser, capped}
 
 -- ---- document 01's three cases of the sum
 
-or-true : (t : Bool) → or t true ≡ true
-unfolding or
-or-true true = refl
-or-true false = refl
-
 -- "A sum is never if a term is never"
 pub sum-never : (a b : ℕ) → (never ≤ a) ⊎ (never ≤ b) → a ⊕ b ≡ never
-unfolding _⊕_ isNever or pick
+unfolding _⊕_ isNever pick
 sum-never a b (inl h) = rw (le-leb never a h)
 sum-never a b (inr h) = rw (le-leb never b h, or-true (leb never a))
 
 -- "otherwise over if .. the exact sum exceeds 999,999,999"
 past-most : (a b : ℕ) → a < never → b < never → most < a + b → a ⊕ b ≡ over
-unfolding _⊕_ isNever or pick
+unfolding _⊕_ isNever pick
 past-most a b ha hb h =
-    rw (lt-leb never a ha, lt-leb never b hb, lt-ltb most (a + b) h, or-true (or (isOver a) (isOver b)))
+    rw (lt-leb never a ha, lt-leb never b hb, lt-ltb most (a + b) h, or-true (isOver a || isOver b))
 
 -- "otherwise over if a term is over or the exact sum exceeds 999,999,999"
 pub sum-over : (a b : ℕ) → a < never → b < never → (a ≡ over) ⊎ ((b ≡ over) ⊎ (most < a + b)) → a ⊕ b ≡ over
@@ -40,7 +36,7 @@ sum-over a b ha hb (inr (inr h)) = past-most a b ha hb h
 
 -- "otherwise exact"
 pub sum-exact : (a b : ℕ) → a + b ≤ most → a ⊕ b ≡ a + b
-unfolding _⊕_ isNever isOver or pick
+unfolding _⊕_ isNever isOver pick
 sum-exact a b h =
     let na : a < never = omega arith in
     let nb : b < never = omega arith in
@@ -80,9 +76,6 @@ sum-right a b = rw (sum-form a b) (omega arith)
 pub sum-zero : (a : ℕ) → a ≤ never → a ⊕ 0 ≡ a
 sum-zero a h = rw (sum-form a 0) (omega arith)
 
-pub zero-sum : (a : ℕ) → a ≤ never → 0 ⊕ a ≡ a
-zero-sum a h = sum-comm 0 a ∙ sum-zero a h
-
 -- monotony
 mono-cases : (a b c d : ℕ) → a ≤ c → b ≤ d → Dec (never ≤ c) → Dec (never ≤ d) → a ⊕ b ≤ c ⊕ d
 mono-cases a b c d h k (yes p) q = rw (sum-never c d (inl p)) (sum-bound a b)
@@ -119,14 +112,14 @@ capped-sum a b = sym (sum-below (min a over) (min b over) (omega arith) (omega a
 -- ---- how a cost stands to another, from the test that tells
 
 pub stands-lower : (a b : ℕ) → counted a < counted b → Standing.Lower ≡ standing a b
-unfolding standing pickStanding
+unfolding standing pick
 stands-lower a b h = rw (lt-ltb (counted a) (counted b) h)
 
 pub stands-same : (a b : ℕ) → counted a ≡ counted b → Standing.Same ≡ standing a b
-unfolding standing pickStanding
+unfolding standing pick
 stands-same a b h = rw (le-ltb (counted a) (counted b) (omega arith), eq-eqb (counted a) (counted b) h)
 
 pub stands-higher : (a b : ℕ) → counted b < counted a → Standing.Higher ≡ standing a b
-unfolding standing pickStanding
+unfolding standing pick
 stands-higher a b h =
     rw (le-ltb (counted a) (counted b) (omega arith), ne-eqb (counted a) (counted b) (omega arith))

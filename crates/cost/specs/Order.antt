@@ -1,8 +1,8 @@
 -- How a cost "compares with" another, and what each case of the code's answers stands for.
 -- Assumes nothing.
-use mathlib.Core.Bool.{Bool, true, false}
 use Prim.Native.Nat.{ℕ}
 use lib.Dec.{ltb, eqb}
+use Rattle.reading.specs.Choice.{pick}
 use Rattle.cost.specs.Cost.{counted, lesser}
 use Rattle.cost.specs.declared.Standing.{Standing}
 use Rattle.cost.specs.declared.Standing.the-variants as Standing
@@ -11,15 +11,11 @@ use Rattle.cost.specs.declared.SpatialOrder.the-variants as SpatialOrder
 use Rattle.cost.specs.declared.TemporalOrder.{TemporalOrder}
 use Rattle.cost.specs.declared.TemporalOrder.the-variants as TemporalOrder
 
-unfoldable pub pickStanding : Bool → Standing → Standing → Standing
-pickStanding true a b = a
-pickStanding false a b = b
-
 -- "They are ordered so": by their numbers.
 unfoldable pub standing : ℕ → ℕ → Standing
 standing a b =
-    pickStanding (ltb (counted a) (counted b)) Standing.Lower
-    (pickStanding (eqb (counted a) (counted b)) Standing.Same Standing.Higher)
+    pick (ltb (counted a) (counted b)) Standing.Lower
+    (pick (eqb (counted a) (counted b)) Standing.Same Standing.Higher)
 
 -- "each time a new cost is handed back": how a cost stands to another, and the lesser of the two.
 pub record Compared : Type 0 where

@@ -1,8 +1,9 @@
+pub mod Bounds
 pub mod Causes
-pub mod Figures
 pub mod Forms
 pub mod Laws
 pub mod Outcomes
 pub mod Places
 pub mod Reading
 pub mod Storing
+pub mod Weighing

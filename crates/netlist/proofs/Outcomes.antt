@@ -2,6 +2,7 @@
 -- Assumes nothing.
 use mathlib.Core.Bool.{Bool, true, false, not, _||_}
 use mathlib.Core.List.{List, [], _∷_, _++_}
+use mathlib.Core.Logic.{inl, inr, ⊎-elim}
 use mathlib.Core.Option.{Option, none, some}
 use mathlib.Core.Path.{_≡_, refl, sym, ap, _∙_}
 use Prim.Native.Nat.{ℕ, zero, suc, _+_, _≤_, _<_, min}
@@ -9,125 +10,166 @@ use native.Mathlib.Nat.{not-suc-le-zero, le-of-suc-le-suc}
 use native.Mathlib.Omega.{arith}
 use lib.Dec.{leb, eqb}
 use lib.ListN.{length, getD, set, take}
-use borrow.Author.Tests.{le-leb, lt-leb, ne-eqb, eqb-true, leb-false}
+use lib.Seq.{take-all}
+use borrow.Author.Needs.{needs}
+use borrow.Author.Tests.{le-leb, lt-leb, eq-eqb, ne-eqb, eqb-true, eqb-false, leb-false, not-true, not-false}
+use Rattle.sizes.specs.Places.{driverPlace, mentionPlace}
+use Rattle.sizes.specs.Sizes as Size
 use Rattle.table.specs.Blocks.{fitted}
 use Rattle.table.proofs.Places.{length-fitted}
-use Rattle.text.specs.Class.{pick}
-use Rattle.text.proofs.Laws.{by-test}
+use Rattle.reading.specs.Choice.{pick}
+use Rattle.reading.specs.Each.{Each}
+use Rattle.reading.specs.Numbers as No
+use Rattle.reading.proofs.Laws.{by-test, clash, or-left}
 use Rattle.cell_library.specs.Cells.{Cell}
-use Rattle.cell_library.specs.Layout.{Each}
-use Rattle.netlist.specs.declared.Plain.{Plain}
-use Rattle.netlist.specs.Netlist.{Gate, Statement, input, output, gate, driven, gatesOf, lineBad, anyLineBad, pinsAt}
-use Rattle.netlist.specs.Layout.{gateWords, netlistWords, driverPlace, outputPlace, mentionPlace}
-use Rattle.netlist.specs.Plain.{FewPins, Suited, GateSaid, Says, lowest, gateCause, refusalOf, extended, wordsAfter, mentionAll, gateStored}
+use Rattle.cell_library.specs.Layout.{FewPins, Fits}
+use Rattle.netlist.specs.declared.RawStatement.{RawStatement}
+use Rattle.netlist.specs.Lowest.{lowest}
+use Rattle.netlist.specs.Netlist.{
+  Gate,
+  Mark,
+  input,
+  output,
+  Statement,
+  mark,
+  gate,
+  kindOf,
+  gateKind,
+  driven,
+  linesOf,
+  gatesOf,
+  lineBad,
+  anyLineBad,
+  unknownCell,
+  pinsAt,
+  countDiffers,
+}
+use Rattle.netlist.specs.Layout.{gateWords, netlistWords, NetlistHolds}
+use Rattle.netlist.specs.Admitting.{
+  IsMark,
+  IsGate,
+  StandsFor,
+  gateCause,
+  refusalOf,
+  extended,
+  wordsAfter,
+  Decided,
+  markPlace,
+  markNumber,
+  mentionAll,
+  gateStored,
+  gateAdded,
+}
 use Rattle.netlist.proofs.Places.{netlist-count, driver-word, output-word}
-use Rattle.netlist.proofs.Causes.{clash, eqb-comm, lineBad-range, or-left, driver-none, driver-some, output-none, output-some, input-cause, output-cause, gate-causes, gate-cause}
-use Rattle.netlist.proofs.Storing.{stored-input, stored-output, stored-gate}
+use Rattle.netlist.proofs.Weighing.{lowest-none}
+use Rattle.netlist.proofs.Causes.{lineBad-range, taken, markWord, word-taken, mark-cause, gate-causes}
+use Rattle.netlist.proofs.Storing.{stored-mark, stored-gate}
 
--- What the answer says, and what it leaves.
-abbrev pub Outcome : List Cell → List Statement → List ℕ → Option Statement → ℕ → List ℕ → Type 0
-Outcome cells ss tail w r after = (r ≡ refusalOf cells ss w) × (after ≡ wordsAfter r ss w ++ tail)
+number-some : (m : Mark) → markNumber m ≡ 0 → ⊥
+number-some input e = omega arith
+number-some output e = omega arith
 
-module _ (cells : List Cell) (ss : List Statement) (tail table : List ℕ) (held : table ≡ netlistWords ss ++ tail) where
-  pub form-10 : Outcome cells ss tail none 10 table
-  unfolding refusalOf wordsAfter pick
-  form-10 = (refl, held)
+module _ (cells : List Cell) {table : List ℕ} {ss : List Statement} (holds : NetlistHolds table ss) where
+  -- A statement that is refused leaves the table as it was.
+  refuses : (w : Option Statement) (number : ℕ) → (number ≡ 0 → ⊥) → number ≡ refusalOf cells ss w
+      → Decided cells ss w (holds .past) number table
+  unfolding wordsAfter pick
+  refuses w number h e = record { answers = e; leaves = rw (ne-eqb number 0 h) (holds .words) }
 
-  at-driver : (l : ℕ) → lineBad l ≡ false → getD table l 0 ≡ Rattle.netlist.specs.Layout.driverWord ss l
-  unfolding driverPlace
-  at-driver l good = rw held (driver-word ss tail l (lineBad-range l good .0) (lineBad-range l good .1))
+  admits : (s : Statement) (after : List ℕ) → 0 ≡ refusalOf cells ss (some s)
+      → after ≡ netlistWords (ss ++ (s ∷ [])) ++ holds .past
+      → Decided cells ss (some s) (holds .past) 0 after
+  unfolding wordsAfter extended pick
+  admits s after e h = record { answers = e; leaves = h }
 
-  at-output : (l : ℕ) → lineBad l ≡ false → getD table (1000 + l) 0 ≡ Rattle.netlist.specs.Layout.outputWord ss l
-  unfolding outputPlace
-  at-output l good = rw held (output-word ss tail l (lineBad-range l good .0) (lineBad-range l good .1))
+  pub form-bad : Decided cells ss none (holds .past) No.netlistForm table
+  unfolding refusalOf
+  form-bad = refuses none No.netlistForm (λ e. omega arith) refl
 
-  pub at-count : getD table 0 0 ≡ length (gatesOf ss)
-  at-count = rw held (netlist-count ss tail)
+  -- ---- a mark
 
-  pub driven-yes : (l : ℕ) → lineBad l ≡ false → (getD table l 0 ≡ 0 → ⊥) → driven l ss ≡ true
-  driven-yes l good h = driver-some ss l (λ e. h (at-driver l good ∙ e))
+  module _ (m : Mark) (l : ℕ) (good : lineBad l ≡ false) where
+    at-mark : getD table (markPlace m l) 0 ≡ markWord m ss l
+    unfolding markWord
+    at-mark = rw (holds .words) (go m)
+      where
+        go : (k : Mark) → getD (netlistWords ss ++ holds .past) (markPlace k l) 0 ≡ markWord k ss l
+        go input = driver-word ss (holds .past) l (lineBad-range l good .0) (lineBad-range l good .1)
+        go output = output-word ss (holds .past) l (lineBad-range l good .0) (lineBad-range l good .1)
 
-  pub driven-no : (l : ℕ) → lineBad l ≡ false → getD table l 0 ≡ 0 → driven l ss ≡ false
-  driven-no l good h = driver-none ss l (sym (at-driver l good) ∙ h)
+    -- The word of a mark, as a test.
+    is-taken : (getD table (markPlace m l) 0 ≡ 0 → ⊥) → taken m ss l ≡ true
+    is-taken h = not-false (taken m ss l) (sym (word-taken m ss l) ∙ ne-eqb (markWord m ss l) 0 (λ e. h (at-mark ∙ e)))
 
-  module _ (l : ℕ) where
-    pub input-11 : lineBad l ≡ true → Outcome cells ss tail (some (input l)) 11 table
-    unfolding refusalOf wordsAfter pick
-    input-11 bad = (rw (input-cause cells ss l, bad), held)
+    is-free : getD table (markPlace m l) 0 ≡ 0 → taken m ss l ≡ false
+    is-free h = not-true (taken m ss l) (sym (word-taken m ss l) ∙ eq-eqb (markWord m ss l) 0 (sym at-mark ∙ h))
 
-    pub input-14 : lineBad l ≡ false → (getD table l 0 ≡ 0 → ⊥) → Outcome cells ss tail (some (input l)) 14 table
-    unfolding refusalOf wordsAfter pick
-    input-14 good h = (rw (input-cause cells ss l, good, driven-yes l good h), held)
+    pub mark-second : (getD table (markPlace m l) 0 ≡ 0 → ⊥)
+        → Decided cells ss (some (mark m l)) (holds .past) (markNumber m) table
+    unfolding refusalOf pick
+    mark-second h = refuses (some (mark m l)) (markNumber m) (number-some m) (rw (mark-cause cells ss m l, good, is-taken h))
 
-    pub input-0 : lineBad l ≡ false → getD table l 0 ≡ 0 → Outcome cells ss tail (some (input l)) 0 (set (set table l 1) (mentionPlace l) 1)
-    unfolding refusalOf wordsAfter extended mentionAll pick
-    input-0 good h = (
-      rw (input-cause cells ss l, good, driven-no l good h),
-      ap (λ (t : List ℕ). mentionAll (l ∷ []) (set t l 1)) held ∙ stored-input ss tail l good,
-    )
+    pub mark-admitted : getD table (markPlace m l) 0 ≡ 0
+        → Decided cells ss (some (mark m l)) (holds .past) 0 (set (set table (markPlace m l) 1) (mentionPlace l) 1)
+    unfolding refusalOf mentionAll pick
+    mark-admitted h =
+        admits (mark m l) _ (rw (mark-cause cells ss m l, good, is-free h))
+        (ap (λ (t : List ℕ). mentionAll (l ∷ []) (set t (markPlace m l) 1)) (holds .words)
+        ∙ stored-mark ss (holds .past) m l good)
 
-    pub output-11 : lineBad l ≡ true → Outcome cells ss tail (some (output l)) 11 table
-    unfolding refusalOf wordsAfter pick
-    output-11 bad = (rw (output-cause cells ss l, bad), held)
-
-    pub output-15 : lineBad l ≡ false → (getD table (1000 + l) 0 ≡ 0 → ⊥) → Outcome cells ss tail (some (output l)) 15 table
-    unfolding refusalOf wordsAfter pick
-    output-15 good h = (rw (output-cause cells ss l, good, output-some ss l (λ e. h (at-output l good ∙ e))), held)
-
-    pub output-0 : lineBad l ≡ false → getD table (1000 + l) 0 ≡ 0 → Outcome cells ss tail (some (output l)) 0 (set (set table (1000 + l) 1) (mentionPlace l) 1)
-    unfolding refusalOf wordsAfter extended mentionAll pick
-    output-0 good h = (
-      rw (output-cause cells ss l, good, output-none ss l (sym (at-output l good) ∙ h)),
-      ap (λ (t : List ℕ). mentionAll (l ∷ []) (set t (1000 + l) 1)) held ∙ stored-output ss tail l good,
-    )
+  pub mark-bad : (m : Mark) (l : ℕ) → lineBad l ≡ true → Decided cells ss (some (mark m l)) (holds .past) No.lineBad table
+  unfolding refusalOf pick
+  mark-bad m l bad = refuses (some (mark m l)) No.lineBad (λ e. omega arith) (rw (mark-cause cells ss m l, bad))
 
 -- ---- a gate's own causes
 
--- The tests of the code. That of the count of pins speaks of a known cell only.
-pub gate-flags : (cells : List Cell) (g : Gate) (p : Plain) → GateSaid g p → (differs : Bool) → (p .cell < length cells → differs ≡ not (eqb (pinsAt cells (p .cell)) (p .count)))
-    → lowest ((11, (lineBad (p .line) || p .bad)) ∷ (12, leb (length cells) (p .cell)) ∷ (13, differs) ∷ []) ≡ gateCause cells g
-unfolding lowest pick
-gate-flags cells g p said differs h =
-    sym (gate-cause cells g ∙ rw (← said .line, ← said .bad, ← said .cell, ← said .count, eqb-comm (p .count) (pinsAt cells (p .cell))) (by-test (leb (length cells) (p .cell)) past known))
-  where
-    past : leb (length cells) (p .cell) ≡ true
-        → _≡_ {A = ℕ} (pick (lineBad (p .line) || p .bad) 11 (pick (leb (length cells) (p .cell)) 12 (pick (not (eqb (pinsAt cells (p .cell)) (p .count))) 13 0)))
-        (pick (lineBad (p .line) || p .bad) 11 (pick (leb (length cells) (p .cell)) 12 (pick differs 13 0)))
-    past t = rw t
+eqb-comm : (m n : ℕ) → eqb m n ≡ eqb n m
+eqb-comm m n =
+    by-test (eqb m n)
+    (λ t. t ∙ sym (eq-eqb n m (sym (eqb-true m n t))))
+    (λ t. t ∙ sym (ne-eqb n m (λ e. eqb-false m n t (sym e))))
 
-    known : leb (length cells) (p .cell) ≡ false
-        → _≡_ {A = ℕ} (pick (lineBad (p .line) || p .bad) 11 (pick (leb (length cells) (p .cell)) 12 (pick (not (eqb (pinsAt cells (p .cell)) (p .count))) 13 0)))
-        (pick (lineBad (p .line) || p .bad) 11 (pick (leb (length cells) (p .cell)) 12 (pick differs 13 0)))
-    known t = rw (h (leb-false (length cells) (p .cell) t))
+-- The tests of the code. That of the count of pins speaks of a known cell only.
+pub gate-flags : (cells : List Cell) (g : Gate) (p : RawStatement) → IsGate g p → (bad unknown differs : Bool)
+    → bad ≡ (lineBad (p .line) || p .bad) → unknown ≡ leb (length cells) (p .cell)
+    → (p .cell < length cells → differs ≡ not (eqb (pinsAt cells (p .cell)) (p .count)))
+    → lowest ((No.lineBad, bad) ∷ (No.cellUnknown, unknown) ∷ (No.pinsDiffer, differs) ∷ []) ≡ gateCause cells g
+unfolding gateCause lowest linesOf anyLineBad unknownCell countDiffers pick
+gate-flags cells g p is bad unknown differs b u h =
+    by-test (leb (length cells) (p .cell))
+    (λ t. rw (b, u, ← is .line, ← is .bad, ← is .cell, t))
+    (λ t. rw (
+      b,
+      u,
+      ← is .line,
+      ← is .bad,
+      ← is .cell,
+      ← is .count,
+      h (leb-false (length cells) (p .cell) t),
+      eqb-comm (p .count) (pinsAt cells (p .cell)),
+    ))
 
 -- What a gate with no cause of its own is known to be.
-pub record Whole (cells : List Cell) (g : Gate) : Type 0 where
-  pub lines : (lineBad (g .line) || anyLineBad (g .pins)) ≡ false
-  pub known : g .cell < length cells
-  pub count : length (g .pins) ≡ pinsAt cells (g .cell)
+record Whole (cells : List Cell) (g : Gate) : Type 0 where
+  lines : anyLineBad (g .line ∷ g .pins) ≡ false
+  known : g .cell < length cells
+  count : length (g .pins) ≡ pinsAt cells (g .cell)
 
-pub gate-whole : (cells : List Cell) (g : Gate) → gateCause cells g ≡ 0 → Whole cells g
-unfolding pick
+gate-whole : (cells : List Cell) (g : Gate) → gateCause cells g ≡ 0 → Whole cells g
+unfolding gateCause linesOf unknownCell countDiffers Each
 gate-whole cells g h =
-    go (lineBad (g .line) || anyLineBad (g .pins)) (leb (length cells) (g .cell)) (eqb (length (g .pins)) (pinsAt cells (g .cell))) refl refl refl
-    (sym (gate-cause cells g) ∙ h)
-  where
-    go : (a b c : Bool) → (lineBad (g .line) || anyLineBad (g .pins)) ≡ a → leb (length cells) (g .cell) ≡ b → eqb (length (g .pins)) (pinsAt cells (g .cell)) ≡ c
-        → _≡_ {A = ℕ} (pick a 11 (pick b 12 (pick (not c) 13 0))) 0 → Whole cells g
-    go true b c ea eb ec z = absurd (omega arith)
-    go false true c ea eb ec z = absurd (omega arith)
-    go false false true ea eb ec z =
-        record { lines = ea; known = leb-false (length cells) (g .cell) eb; count = eqb-true (length (g .pins)) (pinsAt cells (g .cell)) ec }
-    go false false false ea eb ec z = absurd (omega arith)
+    let none = lowest-none _ (search needs) h in
+    record {
+      lines = none .0;
+      known = leb-false (length cells) (g .cell) (none .1 .0);
+      count = eqb-true (length (g .pins)) (pinsAt cells (g .cell)) (not-false _ (none .1 .1 .0));
+    }
 
-pinsAt-few : (cells : List Cell) (k : ℕ) → Each FewPins cells → pinsAt cells k ≤ 8
+pinsAt-few : (cells : List Cell) (k : ℕ) → Each FewPins cells → pinsAt cells k ≤ Size.pins
 unfolding Each FewPins pinsAt
 pinsAt-few [] k e = omega arith
 pinsAt-few (c ∷ cells) zero e = e .0
 pinsAt-few (c ∷ cells) (suc k) e = pinsAt-few cells k (e .1)
-
-pub whole-narrow : (cells : List Cell) (g : Gate) → Whole cells g → Suited cells → length (g .pins) ≤ 8
-whole-narrow cells g whole suited = rw (whole .count) (pinsAt-few cells (g .cell) (suited .narrow))
 
 take-fitted : (n k : ℕ) (xs : List ℕ) → n ≤ k → length xs ≡ n → take n (fitted 0 k xs) ≡ xs
 unfolding fitted
@@ -137,73 +179,102 @@ take-fitted (suc n) zero xs h e = absurd (not-suc-le-zero h)
 take-fitted (suc n) (suc k) [] h e = absurd (omega arith)
 take-fitted (suc n) (suc k) (x ∷ xs) h e = ap (λ (l : List ℕ). x ∷ l) (take-fitted n k xs (le-of-suc-le-suc h) (omega arith))
 
-module _ (cells : List Cell) (ss : List Statement) (tail table : List ℕ) (held : table ≡ netlistWords ss ++ tail) (g : Gate) where
-  pub gate-own : (n : ℕ) → n ≡ gateCause cells g → (n ≡ 0 → ⊥) → Outcome cells ss tail (some (gate g)) n table
-  unfolding refusalOf wordsAfter pick
+module _ (cells : List Cell) {table : List ℕ} {ss : List Statement} (holds : NetlistHolds table ss) (g : Gate) where
+  pub gate-own : (n : ℕ) → n ≡ gateCause cells g → (n ≡ 0 → ⊥) → Decided cells ss (some (gate g)) (holds .past) n table
+  unfolding refusalOf pick
   gate-own n e h =
-      let some-cause : eqb (gateCause cells g) 0 ≡ false = ne-eqb (gateCause cells g) 0 (λ z. h (e ∙ z)) in
-      (rw (gate-causes cells ss g, some-cause) e, rw (ne-eqb n 0 h) held)
+      refuses cells holds (some (gate g)) n h (rw (gate-causes cells ss g, ne-eqb (gateCause cells g) 0 (λ z. h (e ∙ z))) e)
 
   module _ (none : 0 ≡ gateCause cells g) where
     whole : Whole cells g
     whole = gate-whole cells g (sym none)
 
     good : lineBad (g .line) ≡ false
+    unfolding anyLineBad
     good = or-left (lineBad (g .line)) (anyLineBad (g .pins)) (whole .lines)
 
-    pub gate-14 : (getD table (g .line) 0 ≡ 0 → ⊥) → Outcome cells ss tail (some (gate g)) 14 table
-    unfolding refusalOf wordsAfter pick
-    gate-14 h = (rw (gate-causes cells ss g, ← none, driven-yes cells ss tail table held (g .line) good h), held)
+    pub gate-driven : (getD table (driverPlace (g .line)) 0 ≡ 0 → ⊥)
+        → Decided cells ss (some (gate g)) (holds .past) No.drivenBefore table
+    unfolding refusalOf taken pick
+    gate-driven h =
+        refuses cells holds (some (gate g)) No.drivenBefore (λ e. omega arith)
+        (rw (gate-causes cells ss g, ← none, is-taken cells holds input (g .line) good h))
 
-    module _ (free : getD table (g .line) 0 ≡ 0) where
-      pub gate-16 : 1000 ≤ getD table 0 0 → Outcome cells ss tail (some (gate g)) 16 table
-      unfolding refusalOf wordsAfter pick
-      gate-16 h =
-          let full : 1000 ≤ length (gatesOf ss) = rw (at-count cells ss tail table held) at h in
-          (rw (gate-causes cells ss g, ← none, driven-no cells ss tail table held (g .line) good free, le-leb 1000 (length (gatesOf ss)) full), held)
+    module _ (free : getD table (driverPlace (g .line)) 0 ≡ 0) where
+      undriven : driven (g .line) ss ≡ false
+      unfolding taken
+      undriven = is-free cells holds input (g .line) good free
 
-      pub gate-admitted : (p : Plain) → GateSaid g p → Suited cells → getD table 0 0 < 1000
-          → Outcome cells ss tail (some (gate g)) 0
-          (set (gateStored (getD table 0 0) (p .cell) (p .line) (p .pins) (mentionAll (take (min (p .count) 8) (p .pins)) (set (set table (p .line) 2) (mentionPlace (p .line)) 1))) 0 (getD table 0 0 + 1))
-      unfolding refusalOf wordsAfter extended mentionAll gateStored gateWords anyLineBad pick
-      gate-admitted p said suited few =
-          let undriven = driven-no cells ss tail table held (g .line) good free in
-          let n = at-count cells ss tail table held in
-          let space : length (gatesOf ss) < 1000 = rw n at few in
-          let narrow : length (g .pins) ≤ 8 = whole-narrow cells g whole suited in
-          let all : min (p .count) 8 ≡ length (g .pins) = omega (arith, said .count) in
-          let pins : take (min (p .count) 8) (p .pins) ≡ g .pins = rw (all, said .pins) (take-fitted (length (g .pins)) 8 (g .pins) narrow refl) in
-          let eight : take 8 (p .pins) ≡ fitted 0 8 (g .pins) = rw (said .pins) (lib.Seq.take-all 8 (fitted 0 8 (g .pins)) (omega (arith, length-fitted 0 8 (g .pins)))) in (
-            rw (gate-causes cells ss g, ← none, undriven, lt-leb 1000 (length (gatesOf ss)) space),
-            rw (n, said .cell, said .line, pins, eight, held) (stored-gate ss tail g (whole .lines) undriven space),
-          )
+      count : getD table 0 0 ≡ length (gatesOf ss)
+      count = rw (holds .words) (netlist-count ss (holds .past))
 
--- ---- which statement the plain numbers say
+      pub gate-many : Size.gates ≤ getD table 0 0 → Decided cells ss (some (gate g)) (holds .past) No.gatesMany table
+      unfolding refusalOf pick
+      gate-many h =
+          refuses cells holds (some (gate g)) No.gatesMany (λ e. omega arith)
+          (rw (gate-causes cells ss g, ← none, undriven, le-leb Size.gates (length (gatesOf ss)) (rw count at h)))
 
-pub form-none : (w : Option Statement) (p : Plain) → Says w p → p .form ≡ false → w ≡ none
-unfolding Says
-form-none none p said e = refl
-form-none (some (input l)) p said e = clash (p .form) (said .form) e
-form-none (some (output l)) p said e = clash (p .form) (said .form) e
-form-none (some (gate g)) p said e = clash (p .form) (said .form) e
+      pub gate-admitted : (p : RawStatement) → IsGate g p → Fits cells → getD table 0 0 < Size.gates
+          → Decided cells ss (some (gate g)) (holds .past) 0 (gateAdded (getD table 0 0) p table)
+      unfolding refusalOf gateAdded gateStored gateWords pick
+      gate-admitted p is fits few =
+          let n = length (g .pins) in
+          let space : length (gatesOf ss) < Size.gates = rw count at few in
+          let narrow : n ≤ Size.pins = rw (whole .count) (pinsAt-few cells (g .cell) (fits .narrow)) in
+          let all : min (p .count) Size.pins ≡ n = omega (arith, is .count) in
+          let pins : take (min (p .count) Size.pins) (p .pins) ≡ g .pins =
+          rw (all, is .pins) (take-fitted n Size.pins (g .pins) narrow refl)
+          in
+          let kept : take Size.pins (p .pins) ≡ fitted 0 Size.pins (g .pins) =
+          rw (is .pins) (take-all Size.pins (fitted 0 Size.pins (g .pins)) (omega (arith, length-fitted 0 Size.pins (g .pins))))
+          in
+          admits cells holds (gate g) _
+          (rw (gate-causes cells ss g, ← none, undriven, lt-leb Size.gates (length (gatesOf ss)) space))
+          (rw (count, is .cell, is .line, pins, kept, holds .words)
+          (stored-gate ss (holds .past) g (whole .lines) undriven space))
 
-pub kind-input : (w : Option Statement) (p : Plain) → Says w p → p .form ≡ true → p .kind ≡ 0 → w ≡ some (input (p .line))
-unfolding Says
-kind-input none p said e k = clash (p .form) e said
-kind-input (some (input l)) p said e k = rw (said .line)
-kind-input (some (output l)) p said e k = absurd (omega (arith, said .kind))
-kind-input (some (gate g)) p said e k = absurd (omega (arith, said .kind))
+-- ---- which statement the numbers stand for
 
-pub kind-output : (w : Option Statement) (p : Plain) → Says w p → p .form ≡ true → p .kind ≡ 1 → w ≡ some (output (p .line))
-unfolding Says
-kind-output none p said e k = clash (p .form) e said
-kind-output (some (input l)) p said e k = absurd (omega (arith, said .kind))
-kind-output (some (output l)) p said e k = rw (said .line)
-kind-output (some (gate g)) p said e k = absurd (omega (arith, said .kind))
+kind-low : (m : Mark) → kindOf m < gateKind
+kind-low input = omega arith
+kind-low output = omega arith
 
-pub kind-gate : (w : Option Statement) (p : Plain) → Says w p → p .form ≡ true → (p .kind ≡ 0 → ⊥) → (p .kind ≡ 1 → ⊥) → (g : Gate) × (w ≡ some (gate g)) × GateSaid g p
-unfolding Says
-kind-gate none p said e i o = clash (p .form) e said
-kind-gate (some (input l)) p said e i o = absurd (i (said .kind))
-kind-gate (some (output l)) p said e i o = absurd (o (said .kind))
-kind-gate (some (gate g)) p said e i o = (g, refl, said)
+-- A mark is known by its kind.
+ofKind : ℕ → Mark
+ofKind zero = input
+ofKind (suc n) = output
+
+ofKind-kind : (m : Mark) → ofKind (kindOf m) ≡ m
+unfolding ofKind
+ofKind-kind input = refl
+ofKind-kind output = refl
+
+same-kind : (m k : Mark) → kindOf m ≡ kindOf k → m ≡ k
+same-kind m k e = sym (ofKind-kind m) ∙ ap ofKind e ∙ ofKind-kind k
+
+module _ (p : RawStatement) where
+  pub formless : (w : Option Statement) → StandsFor p w → p .form ≡ false → w ≡ none
+  unfolding StandsFor
+  formless none is e = refl
+  formless (some (mark m l)) is e = clash (p .form) (is .form) e
+  formless (some (gate g)) is e = clash (p .form) (is .form) e
+
+  module _ (e : p .form ≡ true) where
+    pub kind-mark : (m : Mark) (w : Option Statement) → StandsFor p w → p .kind ≡ kindOf m → w ≡ some (mark m (p .line))
+    unfolding StandsFor
+    kind-mark m none is k = ⊎-elim (λ f. clash (p .form) e f) (λ h. absurd (omega (arith, kind-low m))) is
+    kind-mark m (some (mark n l)) is k = rw (is .line, same-kind n m (sym (is .kind) ∙ k))
+    kind-mark m (some (gate g)) is k = absurd (omega (arith, kind-low m, is .kind))
+
+    pub kind-gate : (w : Option Statement) → StandsFor p w → p .kind ≡ gateKind → (g : Gate) × (w ≡ some (gate g)) × IsGate g p
+    unfolding StandsFor
+    kind-gate none is k = ⊎-elim (λ f. clash (p .form) e f) (λ h. absurd (omega arith)) is
+    kind-gate (some (mark m l)) is k = absurd (omega (arith, kind-low m, is .kind))
+    kind-gate (some (gate g)) is k = (g, refl, is)
+
+  pub kind-unknown : (w : Option Statement) → StandsFor p w → ((m : Mark) → p .kind ≡ kindOf m → ⊥) → (p .kind ≡ gateKind → ⊥)
+      → w ≡ none
+  unfolding StandsFor
+  kind-unknown none is marks gates = refl
+  kind-unknown (some (mark m l)) is marks gates = absurd (marks m (is .kind))
+  kind-unknown (some (gate g)) is marks gates = absurd (gates (is .kind))

@@ -1,25 +1,31 @@
 -- Stores into the netlist table: one statement more.
 -- Assumes nothing.
-use mathlib.Core.Bool.{Bool, true, false, _||_}
-use mathlib.Core.List.{List, [], _∷_, _++_, append-assoc}
+use mathlib.Core.Bool.{Bool, true, false, _||_, or-false, or-true}
+use mathlib.Core.List.{List, [], _∷_, _++_, append-nil, append-assoc, flatMap}
 use mathlib.Core.Path.{_≡_, refl, sym, ap, fun-ext, _∙_}
 use Prim.Native.Nat.{ℕ, zero, suc, _+_, _*_, _≤_, _<_}
-use native.Mathlib.Nat.{zero-add, add-suc, suc-add, add-zero, not-suc-le-zero}
+use native.Mathlib.Nat.{zero-add, add-suc, suc-add, add-zero, add-comm, add-assoc, zero-mul, suc-mul, not-suc-le-zero}
+use native.Mathlib.Nat.{le-of-suc-le-suc}
 use native.Mathlib.Numerals.{add-one, one-add}
 use native.Mathlib.Omega.{arith}
 use lib.Dec.{eqb}
 use lib.ListN.{length, getD, set, take, length-append, length-set}
 use lib.Seq.{set-append-left, getD-set-same, getD-set-other, ext-getD, sets, take-suc, length-take-le}
 use borrow.Author.Tests.{eq-eqb, ne-eqb, eqb-true, eqb-false}
+use Rattle.sizes.specs.Places.{gatePlace, driverPlace, mentionPlace}
+use Rattle.sizes.specs.Sizes as Size
 use Rattle.table.specs.Blocks.{fitted, blocks}
 use Rattle.table.proofs.Places.{length-fitted, length-blocks, blocks-append}
-use Rattle.text.specs.Class.{pick}
-use Rattle.text.proofs.Laws.{by-test}
-use Rattle.netlist.specs.Netlist.{Gate, Statement, input, output, gate, drives, setsInput, marks, member, linesOf, driven, isInput, isOutput, mentions, mentioned, gateFirst, gatesOf, lineBad, anyLineBad}
-use Rattle.netlist.specs.Layout.{gateWords, driverWord, outputWord, mentionWord, lineWords, netlistWords, mentionPlace, gatePlace}
-use Rattle.netlist.specs.Plain.{mentionAll}
-use Rattle.netlist.proofs.Places.{length-gateWords, length-lineWords, getD-lineWords}
-use Rattle.netlist.proofs.Causes.{any-more, gatesOf-more, lineBad-range, or-left, or-right, undriven-input}
+use Rattle.reading.specs.Choice.{pick}
+use Rattle.reading.proofs.Laws.{by-test, or-left, or-right}
+use Rattle.netlist.specs.Netlist.{Gate, Mark, input, output, Statement, mark, gate, member, linesOf, linesMarked}
+use Rattle.netlist.specs.Netlist.{linesDriven, gatesIn, mentionedLines, markedLines, drivenLines, gatesOf, mentioned}
+use Rattle.netlist.specs.Netlist.{isMarked, isInput, isOutput, driven, lineBad, anyLineBad}
+use Rattle.netlist.specs.Layout.{gateWords, driverWord, outputWord, mentionWord, lineParts, lineWords, partWords}
+use Rattle.netlist.specs.Layout.{netlistWords}
+use Rattle.netlist.specs.Admitting.{markPlace, mentionAll}
+use Rattle.netlist.proofs.Places.{length-gateWords, length-lineWords, length-partWords, getD-lineWords, zeroWord}
+use Rattle.netlist.proofs.Causes.{one-more, member-more, lineBad-range, undriven-input}
 
 -- ---- lists
 
@@ -30,7 +36,7 @@ set-fitted d (suc n) [] x = refl
 set-fitted d (suc n) (y ∷ xs) x = ap (λ (l : List ℕ). y ∷ l) (set-fitted d n xs x)
 
 sets-fitted : (d n : ℕ) (ys xs : List ℕ) → sets (fitted d n xs) (length xs) ys ≡ fitted d n (xs ++ ys)
-sets-fitted d n [] xs = ap (fitted d n) (sym (mathlib.Core.List.append-nil xs))
+sets-fitted d n [] xs = ap (fitted d n) (sym (append-nil xs))
 sets-fitted d n (y ∷ ys) xs =
     let one : length (xs ++ (y ∷ [])) ≡ suc (length xs) = length-append xs (y ∷ []) ∙ add-one (length xs) in
     ap (λ (l : List ℕ). sets l (suc (length xs)) ys) (set-fitted d n xs y)
@@ -53,42 +59,62 @@ sets-front [] xs ys i h = refl
 sets-front (w ∷ ws) xs ys i h =
     rw (set-append-left xs ys i w (omega arith)) (sets-front ws (set xs i w) ys (suc i) (rw (length-set xs i w) (omega arith)))
 
-sets-one : (table : List ℕ) (at v : ℕ) (ws : List ℕ) → set (sets table at ws) (at + length ws) v ≡ sets table at (ws ++ (v ∷ []))
+sets-one : (table : List ℕ) (at v : ℕ) (ws : List ℕ)
+    → set (sets table at ws) (at + length ws) v ≡ sets table at (ws ++ (v ∷ []))
 sets-one table at v [] = rw (add-zero at)
 sets-one table at v (w ∷ ws) = rw (add-suc at (length ws), ← suc-add at (length ws)) (sets-one (set table at w) (suc at) v ws)
 
+-- number j of part i, where that makes another part of it
+set-blocks : {A : Type 0} (f : A → List ℕ) (k : ℕ) → ((x : A) → length (f x) ≡ k) → (d y : A) (xs : List A) (i j v : ℕ)
+    → i < length xs → j < k → set (f (getD xs i d)) j v ≡ f y
+    → set (blocks f xs) (i * k + j) v ≡ blocks f (set xs i y)
+unfolding blocks
+set-blocks f k even d y [] i j v h q e = absurd (not-suc-le-zero h)
+set-blocks f k even d y (x ∷ xs) zero j v h q e =
+    rw (zero-mul k, zero-add j)
+    (set-append-left (f x) (blocks f xs) j v (rw (even x) q) ∙ ap (λ (l : List ℕ). l ++ blocks f xs) e)
+set-blocks f k even d y (x ∷ xs) (suc i) j v h q e =
+    rw (suc-mul i k, add-comm (i * k) k, add-assoc k (i * k) j)
+    (set-behind (f x) (blocks f xs) k (i * k + j) v (even x)
+    ∙ ap (λ (l : List ℕ). f x ++ l) (set-blocks f k even d y xs i j v (le-of-suc-le-suc h) q e))
+
 -- a number for each line, one of them set
-set-lineWords : (f g : ℕ → ℕ) (n first i v : ℕ) → i < n → g (first + i) ≡ v → ((j : ℕ) → (j ≡ first + i → ⊥) → g j ≡ f j) → set (lineWords f n first) i v ≡ lineWords g n first
+set-lineWords : (f g : ℕ → ℕ) (n first i v : ℕ) → i < n → g (first + i) ≡ v → ((j : ℕ) → (j ≡ first + i → ⊥) → g j ≡ f j)
+    → set (lineWords f n first) i v ≡ lineWords g n first
 set-lineWords f g n first i v h here other =
     ext-getD 0 (set (lineWords f n first) i v) (lineWords g n first)
     (rw (length-set (lineWords f n first) i v, length-lineWords f n first, length-lineWords g n first))
     each
   where
-    each : (j : ℕ) → j < length (set (lineWords f n first) i v) → getD (set (lineWords f n first) i v) j 0 ≡ getD (lineWords g n first) j 0
-    each j k =
-        let below : j < n = rw (length-set (lineWords f n first) i v, length-lineWords f n first) at k in
+    each : (j : ℕ) → j < length (set (lineWords f n first) i v)
+        → getD (set (lineWords f n first) i v) j 0 ≡ getD (lineWords g n first) j 0
+    each j q =
+        let k : j < n = rw (length-set (lineWords f n first) i v, length-lineWords f n first) at q in
         by-test (eqb j i)
         (λ e.
         let same : j ≡ i = eqb-true j i e in
-        rw (same, getD-set-same (lineWords f n first) i v 0 (rw (length-lineWords f n first) h), getD-lineWords g n first i h) (sym here))
+        let below : i < length (lineWords f n first) = rw (length-lineWords f n first) h in
+        rw (same, getD-set-same (lineWords f n first) i v 0 below, getD-lineWords g n first i h) (sym here))
         (λ e.
         let apart = eqb-false j i e in
-        rw (getD-set-other (lineWords f n first) i j v 0 apart, getD-lineWords f n first j below, getD-lineWords g n first j below)
-        (sym (other (first + j) (λ q. apart (omega arith)))))
+        rw (getD-set-other (lineWords f n first) i j v 0 apart, getD-lineWords f n first j k, getD-lineWords g n first j k)
+        (sym (other (first + j) (λ e. apart (omega arith)))))
 
 -- ---- one turn of the loops that store pins
 
 take-one : (xs : List ℕ) (i : ℕ) → i < length xs → take (i + 1) xs ≡ take i xs ++ (getD xs i 0 ∷ [])
 take-one xs i h = rw (add-one i) (take-suc xs i 0 h)
 
-pub sets-step : (pins : List ℕ) (i : ℕ) (table : List ℕ) (at : ℕ) → i < length pins → set (sets table at (take i pins)) (at + i) (getD pins i 0) ≡ sets table at (take (i + 1) pins)
+pub sets-step : (pins : List ℕ) (i : ℕ) (table : List ℕ) (at : ℕ) → i < length pins
+    → set (sets table at (take i pins)) (at + i) (getD pins i 0) ≡ sets table at (take (i + 1) pins)
 sets-step pins i table at h =
     let n : length (take i pins) ≡ i = length-take-le i pins (omega arith) in
     rw (take-one pins i h)
     (ap (λ (k : ℕ). set (sets table at (take i pins)) (at + k) (getD pins i 0)) (sym n)
     ∙ sets-one table at (getD pins i 0) (take i pins))
 
-mention-last : (ls : List ℕ) (l : ℕ) (table : List ℕ) → set (mentionAll ls table) (mentionPlace l) 1 ≡ mentionAll (ls ++ (l ∷ [])) table
+mention-last : (ls : List ℕ) (l : ℕ) (table : List ℕ)
+    → set (mentionAll ls table) (mentionPlace l) 1 ≡ mentionAll (ls ++ (l ∷ [])) table
 unfolding mentionAll
 mention-last [] l table = refl
 mention-last (k ∷ ls) l table = mention-last ls l (set table (mentionPlace k) 1)
@@ -97,84 +123,58 @@ pub mention-start : (pins table : List ℕ) → table ≡ mentionAll (take 0 pin
 unfolding mentionAll
 mention-start pins table = refl
 
-pub mention-step : (pins : List ℕ) (i : ℕ) (table : List ℕ) → i < length pins → set (mentionAll (take i pins) table) (mentionPlace (getD pins i 0)) 1 ≡ mentionAll (take (i + 1) pins) table
+pub mention-step : (pins : List ℕ) (i : ℕ) (table : List ℕ) → i < length pins
+    → set (mentionAll (take i pins) table) (mentionPlace (getD pins i 0)) 1 ≡ mentionAll (take (i + 1) pins) table
 mention-step pins i table h = rw (take-one pins i h) (mention-last (take i pins) (getD pins i 0) table)
 
 -- ---- the table by its parts
 
-unfoldable laid : ℕ → (ℕ → ℕ) → (ℕ → ℕ) → (ℕ → ℕ) → List ℕ → List ℕ
-laid n d o m gs = n ∷ (lineWords d 1000 1 ++ (lineWords o 1000 1 ++ (lineWords m 1000 1 ++ gs)))
+unfoldable laid : ℕ → List (ℕ → ℕ) → List ℕ → List ℕ
+laid n fs gs = n ∷ (blocks partWords fs ++ gs)
 
 gatesLaid : List Gate → List ℕ → List ℕ
-gatesLaid gs tail = fitted 0 10000 (blocks gateWords gs) ++ tail
+gatesLaid gs past = fitted 0 (Size.gates * Size.gateWords) (blocks gateWords gs) ++ past
 
-netlist-laid : (ss : List Statement) (tail : List ℕ) → netlistWords ss ++ tail
-    ≡ laid (length (gatesOf ss)) (driverWord ss) (outputWord ss) (mentionWord ss) (gatesLaid (gatesOf ss) tail)
+netlist-laid : (ss : List Statement) (past : List ℕ)
+    → netlistWords ss ++ past ≡ laid (length (gatesOf ss)) (lineParts ss) (gatesLaid (gatesOf ss) past)
 unfolding netlistWords laid gatesLaid
-netlist-laid ss tail = ap (λ (l : List ℕ). length (gatesOf ss) ∷ l) (simp append-assoc)
+netlist-laid ss past = ap (λ (l : List ℕ). length (gatesOf ss) ∷ l) (append-assoc (blocks partWords (lineParts ss)) _ past)
 
-module _ (n : ℕ) (d o m : ℕ → ℕ) (gs : List ℕ) where
-  set-count : (v : ℕ) → set (laid n d o m gs) 0 v ≡ laid v d o m gs
+module _ (n : ℕ) (fs : List (ℕ → ℕ)) (gs : List ℕ) where
+  set-count : (v : ℕ) → set (laid n fs gs) 0 v ≡ laid v fs gs
   unfolding laid
   set-count v = refl
 
-  set-driver : (d′ : ℕ → ℕ) (l v : ℕ) → 1 ≤ l → l ≤ 1000 → d′ l ≡ v → ((k : ℕ) → (k ≡ l → ⊥) → d′ k ≡ d k) → set (laid n d o m gs) l v ≡ laid n d′ o m gs
+  -- line l of part p
+  set-part : (p l v : ℕ) (f : ℕ → ℕ) → p < length fs → 1 ≤ l → l ≤ Size.lines → f l ≡ v
+      → ((k : ℕ) → (k ≡ l → ⊥) → f k ≡ getD fs p zeroWord k)
+      → set (laid n fs gs) (p * Size.lines + l) v ≡ laid n (set fs p f) gs
   unfolding laid
-  set-driver d′ zero v p q here other = absurd (not-suc-le-zero p)
-  set-driver d′ (suc i) v p q here other =
+  set-part p zero v f h low high here other = absurd (not-suc-le-zero low)
+  set-part p (suc i) v f h low high here other =
+      let long = length-blocks partWords Size.lines length-partWords fs in
       let e : 1 + i ≡ suc i = one-add i in
-      ap (λ (l : List ℕ). n ∷ l)
-      (set-append-left (lineWords d 1000 1) _ i v (rw (length-lineWords d 1000 1) q)
-      ∙ ap (λ (l : List ℕ). l ++ (lineWords o 1000 1 ++ (lineWords m 1000 1 ++ gs))) (set-lineWords d d′ 1000 1 i v q (rw e here) (rw e other)))
-
-  set-output : (o′ : ℕ → ℕ) (l v : ℕ) → 1 ≤ l → l ≤ 1000 → o′ l ≡ v → ((k : ℕ) → (k ≡ l → ⊥) → o′ k ≡ o k) → set (laid n d o m gs) (1000 + l) v ≡ laid n d o′ m gs
-  unfolding laid
-  set-output o′ zero v p q here other = absurd (not-suc-le-zero p)
-  set-output o′ (suc i) v p q here other =
-      let e : 1 + i ≡ suc i = one-add i in
-      rw (add-suc 1000 i)
+      rw (add-suc (p * Size.lines) i)
       (ap (λ (l : List ℕ). n ∷ l)
-      (set-behind (lineWords d 1000 1) _ 1000 i v (length-lineWords d 1000 1)
-      ∙ ap (λ (l : List ℕ). lineWords d 1000 1 ++ l)
-      (set-append-left (lineWords o 1000 1) _ i v (rw (length-lineWords o 1000 1) q)
-      ∙ ap (λ (l : List ℕ). l ++ (lineWords m 1000 1 ++ gs)) (set-lineWords o o′ 1000 1 i v q (rw e here) (rw e other)))))
+      (set-append-left (blocks partWords fs) gs (p * Size.lines + i) v (omega (arith, long))
+      ∙ ap (λ (l : List ℕ). l ++ gs)
+      (set-blocks partWords Size.lines length-partWords zeroWord f fs p i v h high
+      (set-lineWords (getD fs p zeroWord) f Size.lines 1 i v high (rw e here) (rw e other)))))
 
-  set-mention : (m′ : ℕ → ℕ) (l v : ℕ) → 1 ≤ l → l ≤ 1000 → m′ l ≡ v → ((k : ℕ) → (k ≡ l → ⊥) → m′ k ≡ m k) → set (laid n d o m gs) (2000 + l) v ≡ laid n d o m′ gs
-  unfolding laid
-  set-mention m′ zero v p q here other = absurd (not-suc-le-zero p)
-  set-mention m′ (suc i) v p q here other =
-      let e : 1 + i ≡ suc i = one-add i in
-      let at : 2000 + suc i ≡ suc (1000 + (1000 + i)) = omega arith in
-      rw at
-      (ap (λ (l : List ℕ). n ∷ l)
-      (set-behind (lineWords d 1000 1) _ 1000 (1000 + i) v (length-lineWords d 1000 1)
-      ∙ ap (λ (l : List ℕ). lineWords d 1000 1 ++ l)
-      (set-behind (lineWords o 1000 1) _ 1000 i v (length-lineWords o 1000 1)
-      ∙ ap (λ (l : List ℕ). lineWords o 1000 1 ++ l)
-      (set-append-left (lineWords m 1000 1) _ i v (rw (length-lineWords m 1000 1) q)
-      ∙ ap (λ (l : List ℕ). l ++ gs) (set-lineWords m m′ 1000 1 i v q (rw e here) (rw e other))))))
-
-  sets-gates : (ws : List ℕ) (i : ℕ) → sets (laid n d o m gs) (3001 + i) ws ≡ laid n d o m (sets gs i ws)
+  sets-gates : (ws : List ℕ) (i : ℕ) → sets (laid n fs gs) (suc (length fs * Size.lines) + i) ws ≡ laid n fs (sets gs i ws)
   unfolding laid
   sets-gates ws i =
-      let at : 3001 + i ≡ 1 + (1000 + (1000 + (1000 + i))) = omega arith in
-      rw at
-      (sets-behind ws (n ∷ []) _ 1 (1000 + (1000 + (1000 + i))) refl
-      ∙ ap (λ (l : List ℕ). n ∷ l)
-      (sets-behind ws (lineWords d 1000 1) _ 1000 (1000 + (1000 + i)) (length-lineWords d 1000 1)
-      ∙ ap (λ (l : List ℕ). lineWords d 1000 1 ++ l)
-      (sets-behind ws (lineWords o 1000 1) _ 1000 (1000 + i) (length-lineWords o 1000 1)
-      ∙ ap (λ (l : List ℕ). lineWords o 1000 1 ++ l)
-      (sets-behind ws (lineWords m 1000 1) _ 1000 i (length-lineWords m 1000 1)))))
+      sets-behind ws (n ∷ blocks partWords fs) gs (suc (length fs * Size.lines)) i
+      (ap suc (length-blocks partWords Size.lines length-partWords fs))
 
 -- ---- lines mentioned
 
-unfoldable marked : List ℕ → (ℕ → ℕ) → ℕ → ℕ
-marked ls m k = pick (member k ls) 1 (m k)
+unfoldable withMentions : List ℕ → (ℕ → ℕ) → ℕ → ℕ
+withMentions ls m k = pick (member k ls) 1 (m k)
 
-mention-one : (l : ℕ) (ls : List ℕ) (m : ℕ → ℕ) (k : ℕ) → marked ls (marked (l ∷ []) m) k ≡ marked (l ∷ ls) m k
-unfolding marked member pick
-mention-one l ls m k = go (eqb l k) (member k ls)
+mentions-one : (l : ℕ) (ls : List ℕ) (m : ℕ → ℕ) (k : ℕ) → withMentions ls (withMentions (l ∷ []) m) k ≡ withMentions (l ∷ ls) m k
+unfolding withMentions member pick
+mentions-one l ls m k = go (eqb l k) (member k ls)
   where
     go : (a b : Bool) → pick b 1 (pick (a || false) 1 (m k)) ≡ pick (a || b) 1 (m k)
     go true true = refl
@@ -182,144 +182,173 @@ mention-one l ls m k = go (eqb l k) (member k ls)
     go false true = refl
     go false false = refl
 
-marked-none : (m : ℕ → ℕ) (k : ℕ) → m k ≡ marked [] m k
-unfolding marked member pick
-marked-none m k = refl
-
-marked-here : (l : ℕ) (m : ℕ → ℕ) → marked (l ∷ []) m l ≡ 1
-unfolding marked member pick
-marked-here l m = rw (eq-eqb l l refl)
-
-marked-other : (l : ℕ) (m : ℕ → ℕ) (k : ℕ) → (k ≡ l → ⊥) → marked (l ∷ []) m k ≡ m k
-unfolding marked member pick
-marked-other l m k apart = rw (ne-eqb l k (λ e. apart (sym e)))
-
 module _ (n : ℕ) (d o : ℕ → ℕ) (gs : List ℕ) where
-  mentionAll-laid : (ls : List ℕ) (m : ℕ → ℕ) → anyLineBad ls ≡ false → mentionAll ls (laid n d o m gs) ≡ laid n d o (marked ls m) gs
-  unfolding mentionAll mentionPlace anyLineBad
-  mentionAll-laid [] m h = ap (λ (f : ℕ → ℕ). laid n d o f gs) (fun-ext (marked-none m))
+  mentionAll-laid : (ls : List ℕ) (m : ℕ → ℕ) → anyLineBad ls ≡ false
+      → mentionAll ls (laid n (d ∷ o ∷ m ∷ []) gs) ≡ laid n (d ∷ o ∷ withMentions ls m ∷ []) gs
+  unfolding mentionAll anyLineBad
+  mentionAll-laid [] m h = ap (λ (f : ℕ → ℕ). laid n (d ∷ o ∷ f ∷ []) gs) (fun-ext (λ k. unfold withMentions member pick in refl))
   mentionAll-laid (l ∷ ls) m h =
       let range = lineBad-range l (or-left (lineBad l) (anyLineBad ls) h) in
-      ap (mentionAll ls) (set-mention n d o m gs (marked (l ∷ []) m) l 1 (range .0) (range .1) (marked-here l m) (marked-other l m))
-      ∙ mentionAll-laid ls (marked (l ∷ []) m) (or-right (lineBad l) (anyLineBad ls) h)
-      ∙ ap (λ (f : ℕ → ℕ). laid n d o f gs) (fun-ext (mention-one l ls m))
+      ap (mentionAll ls)
+      (set-part n (d ∷ o ∷ m ∷ []) gs 2 l 1 (withMentions (l ∷ []) m) (omega arith) (range .0) (range .1)
+      (unfold withMentions member pick in rw (eq-eqb l l refl))
+      (λ k apart. unfold withMentions member pick in rw (ne-eqb l k (λ e. apart (sym e)))))
+      ∙ mentionAll-laid ls (withMentions (l ∷ []) m) (or-right (lineBad l) (anyLineBad ls) h)
+      ∙ ap (λ (f : ℕ → ℕ). laid n (d ∷ o ∷ f ∷ []) gs) (fun-ext (mentions-one l ls m))
 
 -- ---- the words of a line after one statement more
 
-two-marks : (a b : Bool) → _≡_ {A = ℕ} (pick a 1 (pick b 1 0)) (pick (b || a) 1 0)
-unfolding pick
-two-marks true true = refl
-two-marks true false = refl
-two-marks false true = refl
-two-marks false false = refl
-
 module _ (ss : List Statement) (s : Statement) where
-  more-mentioned : (k : ℕ) → marked (linesOf s) (mentionWord ss) k ≡ mentionWord (ss ++ (s ∷ [])) k
-  unfolding marked mentionWord mentioned mentions
-  more-mentioned k = rw (any-more (mentions k) ss s) (two-marks (member k (linesOf s)) (mentioned k ss))
+  abbrev after : List Statement
+  after = ss ++ (s ∷ [])
 
-  no-mark : (k : ℕ) → marks k s ≡ false → outputWord ss k ≡ outputWord (ss ++ (s ∷ [])) k
-  unfolding outputWord isOutput
-  no-mark k h = rw (any-more (marks k) ss s, h, mathlib.Core.Bool.or-false (isOutput k ss))
+  more-mentioned : (k : ℕ) → withMentions (linesOf s) (mentionWord ss) k ≡ mentionWord after k
+  unfolding withMentions mentionWord mentioned mentionedLines pick
+  more-mentioned k = rw (member-more k linesOf ss s) (go (member k (linesOf s)) (member k (flatMap linesOf ss)))
+    where
+      go : (a b : Bool) → _≡_ {A = ℕ} (pick a 1 (pick b 1 0)) (pick (b || a) 1 0)
+      go true true = refl
+      go true false = refl
+      go false true = refl
+      go false false = refl
 
-  a-mark : (k : ℕ) → marks k s ≡ true → outputWord (ss ++ (s ∷ [])) k ≡ 1
-  unfolding outputWord isOutput pick
-  a-mark k h = rw (any-more (marks k) ss s, h, mathlib.Core.Bool.or-true (isOutput k ss))
+  isMarked-more : (m : Mark) (k : ℕ) → isMarked m k after ≡ (isMarked m k ss || member k (linesMarked m s))
+  unfolding isMarked markedLines
+  isMarked-more m k = member-more k (linesMarked m) ss s
 
-  no-driver : (k : ℕ) → setsInput k s ≡ false → drives k s ≡ false → driverWord ss k ≡ driverWord (ss ++ (s ∷ [])) k
-  unfolding driverWord isInput driven
-  no-driver k h q =
-      rw (any-more (setsInput k) ss s, any-more (drives k) ss s, h, q, mathlib.Core.Bool.or-false (isInput k ss), mathlib.Core.Bool.or-false (driven k ss))
+  driven-more : (k : ℕ) → driven k after ≡ (driven k ss || member k (linesDriven s))
+  unfolding driven drivenLines
+  driven-more k = member-more k linesDriven ss s
 
-  an-input : (k : ℕ) → setsInput k s ≡ true → driverWord (ss ++ (s ∷ [])) k ≡ 1
-  unfolding driverWord isInput pick
-  an-input k h = rw (any-more (setsInput k) ss s, h, mathlib.Core.Bool.or-true (isInput k ss))
+  same-output : (k : ℕ) → member k (linesMarked output s) ≡ false → outputWord after k ≡ outputWord ss k
+  unfolding outputWord
+  same-output k h = rw (isMarked-more output k, h, or-false (isOutput k ss))
 
-  a-gate : (k : ℕ) → setsInput k s ≡ false → drives k s ≡ true → driven k ss ≡ false → driverWord (ss ++ (s ∷ [])) k ≡ 2
-  unfolding driverWord isInput driven pick
-  a-gate k h q free =
-      rw (any-more (setsInput k) ss s, any-more (drives k) ss s, h, q, mathlib.Core.Bool.or-false (isInput k ss), mathlib.Core.Bool.or-true (driven k ss), undriven-input k ss free)
+  same-driver : (k : ℕ) → member k (linesMarked input s) ≡ false → member k (linesDriven s) ≡ false
+      → driverWord after k ≡ driverWord ss k
+  unfolding driverWord
+  same-driver k h q = rw (isMarked-more input k, driven-more k, h, q, or-false (isInput k ss), or-false (driven k ss))
 
-  -- the table's parts, put together
-  laid-words : (tail : List ℕ) (n : ℕ) (d o : ℕ → ℕ) (gs : List ℕ) → n ≡ length (gatesOf (ss ++ (s ∷ []))) → ((k : ℕ) → d k ≡ driverWord (ss ++ (s ∷ [])) k) → ((k : ℕ) → o k ≡ outputWord (ss ++ (s ∷ [])) k)
-      → gs ≡ gatesLaid (gatesOf (ss ++ (s ∷ []))) tail → laid n d o (marked (linesOf s) (mentionWord ss)) gs ≡ netlistWords (ss ++ (s ∷ [])) ++ tail
-  laid-words tail n d o gs en ed eo eg =
-      rw (en, fun-ext ed, fun-ext eo, fun-ext more-mentioned, eg) (sym (netlist-laid (ss ++ (s ∷ [])) tail))
+  -- What a statement changes of the parts besides the lines mentioned: part p, at line l alone, to v.
+  record Changes (p l v : ℕ) : Type 0 where
+    part : p < length (lineParts ss)
+    here : getD (lineParts after) p zeroWord l ≡ v
+    other : (k : ℕ) → (k ≡ l → ⊥) → getD (lineParts after) p zeroWord k ≡ getD (lineParts ss) p zeroWord k
+    rest : set (lineParts ss) p (getD (lineParts after) p zeroWord) ≡ driverWord after ∷ outputWord after ∷ mentionWord ss ∷ []
+
+  stored : (past : List ℕ) (p l v : ℕ) → Changes p l v → lineBad l ≡ false → anyLineBad (linesOf s) ≡ false
+      → mentionAll (linesOf s) (set (netlistWords ss ++ past) (p * Size.lines + l) v)
+      ≡ laid (length (gatesOf ss)) (lineParts after) (gatesLaid (gatesOf ss) past)
+  unfolding lineParts
+  stored past p l v c good all =
+      let n = length (gatesOf ss) in
+      let gs = gatesLaid (gatesOf ss) past in
+      let range = lineBad-range l good in
+      ap (λ (t : List ℕ). mentionAll (linesOf s) (set t (p * Size.lines + l) v)) (netlist-laid ss past)
+      ∙ ap (mentionAll (linesOf s))
+      (set-part n (lineParts ss) gs p l v (getD (lineParts after) p zeroWord) (c .part) (range .0) (range .1) (c .here) (c .other)
+      ∙ ap (λ (fs : List (ℕ → ℕ)). laid n fs gs) (c .rest))
+      ∙ mentionAll-laid n (driverWord after) (outputWord after) gs (linesOf s) (mentionWord ss) all
+      ∙ ap (λ (m : ℕ → ℕ). laid n (driverWord after ∷ outputWord after ∷ m ∷ []) gs) (fun-ext more-mentioned)
 
 -- ---- one statement more
 
-same-gates : (ss : List Statement) (s : Statement) → gateFirst s [] ≡ [] → gatesOf ss ≡ gatesOf (ss ++ (s ∷ []))
-same-gates ss s h = sym (gatesOf-more ss s ∙ rw h (mathlib.Core.List.append-nil (gatesOf ss)))
+-- The part of the table that a mark goes into.
+abbrev partOf : Mark → ℕ
+partOf input = 0
+partOf output = 1
 
-module _ (ss : List Statement) (tail : List ℕ) (l : ℕ) (good : lineBad l ≡ false) where
-  lone-good : anyLineBad (l ∷ []) ≡ false
-  unfolding anyLineBad
-  lone-good = rw good
+mark-place : (m : Mark) (l : ℕ) → markPlace m l ≡ partOf m * Size.lines + l
+mark-place input l = omega arith
+mark-place output l = refl
 
-  pub stored-input : mentionAll (l ∷ []) (set (netlistWords ss ++ tail) l 1) ≡ netlistWords (ss ++ (input l ∷ [])) ++ tail
-  unfolding linesOf setsInput drives marks gateFirst
-  stored-input =
-      let s = input l in
-      let after = driverWord (ss ++ (s ∷ [])) in
-      let range = lineBad-range l good in
-      let gates = same-gates ss s refl in
-      ap (λ (t : List ℕ). mentionAll (l ∷ []) (set t l 1)) (netlist-laid ss tail)
-      ∙ ap (mentionAll (l ∷ []))
-      (set-driver (length (gatesOf ss)) (driverWord ss) (outputWord ss) (mentionWord ss) (gatesLaid (gatesOf ss) tail) after l 1 (range .0) (range .1)
-      (an-input ss s l (eq-eqb l l refl))
-      (λ k apart. let no : eqb l k ≡ false = ne-eqb l k (λ e. apart (sym e)) in sym (no-driver ss s k no no)))
-      ∙ mentionAll-laid (length (gatesOf ss)) after (outputWord ss) (gatesLaid (gatesOf ss) tail) (l ∷ []) (mentionWord ss) lone-good
-      ∙ laid-words ss s tail (length (gatesOf ss)) after (outputWord ss) (gatesLaid (gatesOf ss) tail)
-      (ap length gates) (λ k. refl) (λ k. no-mark ss s k refl) (ap (λ (gs : List Gate). gatesLaid gs tail) gates)
+module _ (ss : List Statement) (l : ℕ) where
+  other-not : (k : ℕ) → (k ≡ l → ⊥) → member k (l ∷ []) ≡ false
+  unfolding member
+  other-not k apart = rw (ne-eqb l k (λ e. apart (sym e)))
 
-  pub stored-output : mentionAll (l ∷ []) (set (netlistWords ss ++ tail) (1000 + l) 1) ≡ netlistWords (ss ++ (output l ∷ [])) ++ tail
-  unfolding linesOf setsInput drives marks gateFirst
-  stored-output =
-      let s = output l in
-      let after = outputWord (ss ++ (s ∷ [])) in
-      let range = lineBad-range l good in
-      let gates = same-gates ss s refl in
-      ap (λ (t : List ℕ). mentionAll (l ∷ []) (set t (1000 + l) 1)) (netlist-laid ss tail)
-      ∙ ap (mentionAll (l ∷ []))
-      (set-output (length (gatesOf ss)) (driverWord ss) (outputWord ss) (mentionWord ss) (gatesLaid (gatesOf ss) tail) after l 1 (range .0) (range .1)
-      (a-mark ss s l (eq-eqb l l refl))
-      (λ k apart. sym (no-mark ss s k (ne-eqb l k (λ e. apart (sym e))))))
-      ∙ mentionAll-laid (length (gatesOf ss)) (driverWord ss) after (gatesLaid (gatesOf ss) tail) (l ∷ []) (mentionWord ss) lone-good
-      ∙ laid-words ss s tail (length (gatesOf ss)) (driverWord ss) after (gatesLaid (gatesOf ss) tail)
-      (ap length gates) (λ k. no-driver ss s k refl refl) (λ k. refl) (ap (λ (gs : List Gate). gatesLaid gs tail) gates)
+  mark-changes : (m : Mark) → Changes ss (mark m l) (partOf m) l 1
+  unfolding lineParts linesMarked linesDriven driverWord outputWord member pick
+  mark-changes input =
+      record {
+        part = omega arith;
+        here = rw (isMarked-more ss (mark input l) input l, eq-eqb l l refl, or-true (isInput l ss));
+        other = λ k apart. same-driver ss (mark input l) k (other-not k apart) (other-not k apart);
+        rest =
+            ap (λ (f : ℕ → ℕ). driverWord (ss ++ (mark input l ∷ [])) ∷ f ∷ mentionWord ss ∷ [])
+            (fun-ext (λ k. sym (same-output ss (mark input l) k refl)));
+      }
+  mark-changes output =
+      record {
+        part = omega arith;
+        here = rw (isMarked-more ss (mark output l) output l, eq-eqb l l refl, or-true (isOutput l ss));
+        other = λ k apart. same-output ss (mark output l) k (other-not k apart);
+        rest =
+            ap (λ (f : ℕ → ℕ). f ∷ outputWord (ss ++ (mark output l ∷ [])) ∷ mentionWord ss ∷ [])
+            (fun-ext (λ k. sym (same-driver ss (mark output l) k refl refl)));
+      }
 
-one-gate : (gs : List Gate) (tail : List ℕ) (g : Gate) → length gs < 1000 → sets (gatesLaid gs tail) (length gs * 10) (gateWords g) ≡ gatesLaid (gs ++ (g ∷ [])) tail
+pub stored-mark : (ss : List Statement) (past : List ℕ) (m : Mark) (l : ℕ) → lineBad l ≡ false
+    → mentionAll (l ∷ []) (set (netlistWords ss ++ past) (markPlace m l) 1) ≡ netlistWords (ss ++ (mark m l ∷ [])) ++ past
+unfolding linesOf anyLineBad gatesIn
+stored-mark ss past m l good =
+    let s = mark m l in
+    let gates : gatesOf ss ≡ gatesOf (ss ++ (s ∷ [])) =
+    unfold gatesOf in sym (one-more gatesIn ss s ∙ append-nil (flatMap gatesIn ss))
+    in
+    ap (λ (i : ℕ). mentionAll (l ∷ []) (set (netlistWords ss ++ past) i 1)) (mark-place m l)
+    ∙ stored ss s past (partOf m) l 1 (mark-changes ss l m) good (rw good)
+    ∙ ap (λ (gs : List Gate). laid (length gs) (lineParts (ss ++ (s ∷ []))) (gatesLaid gs past)) gates
+    ∙ sym (netlist-laid (ss ++ (s ∷ [])) past)
+
+gate-changes : (ss : List Statement) (g : Gate) → driven (g .line) ss ≡ false → Changes ss (gate g) 0 (g .line) 2
+unfolding lineParts linesMarked linesDriven member driverWord pick
+gate-changes ss g free =
+    let s = gate g in
+    let l = g .line in
+    record {
+      part = omega arith;
+      here = rw (isMarked-more ss s input l, driven-more ss s l, undriven-input l ss free, free, eq-eqb l l refl);
+      other = λ k apart. same-driver ss s k refl (other-not ss l k apart);
+      rest =
+          ap (λ (f : ℕ → ℕ). driverWord (ss ++ (s ∷ [])) ∷ f ∷ mentionWord ss ∷ [])
+          (fun-ext (λ k. sym (same-output ss s k refl)));
+    }
+
+one-gate : (gs : List Gate) (past : List ℕ) (g : Gate) → length gs < Size.gates
+    → sets (gatesLaid gs past) (length gs * Size.gateWords) (gateWords g) ≡ gatesLaid (gs ++ (g ∷ [])) past
 unfolding gatesLaid blocks
-one-gate gs tail g few =
+one-gate gs past g few =
     let bs = blocks gateWords gs in
-    let long = length-blocks gateWords 10 length-gateWords gs in
-    sets-front (gateWords g) (fitted 0 10000 bs) tail (length gs * 10) (rw (length-gateWords g, length-fitted 0 10000 bs) (omega arith))
-    ∙ ap (λ (l : List ℕ). l ++ tail)
-    (ap (λ (i : ℕ). sets (fitted 0 10000 bs) i (gateWords g)) (sym long)
-    ∙ sets-fitted 0 10000 (gateWords g) bs
-    ∙ ap (fitted 0 10000) (sym (blocks-append gateWords gs (g ∷ []) ∙ ap (λ (l : List ℕ). bs ++ l) (mathlib.Core.List.append-nil (gateWords g)))))
+    let size = Size.gates * Size.gateWords in
+    let long = length-blocks gateWords Size.gateWords length-gateWords gs in
+    sets-front (gateWords g) (fitted 0 size bs) past (length gs * Size.gateWords)
+    (rw (length-gateWords g, length-fitted 0 size bs) (omega arith))
+    ∙ ap (λ (l : List ℕ). l ++ past)
+    (ap (λ (i : ℕ). sets (fitted 0 size bs) i (gateWords g)) (sym long)
+    ∙ sets-fitted 0 size (gateWords g) bs
+    ∙ ap (fitted 0 size) (sym (blocks-append gateWords gs (g ∷ []) ∙ ap (λ (l : List ℕ). bs ++ l) (append-nil (gateWords g)))))
 
-module _ (ss : List Statement) (tail : List ℕ) (g : Gate) (good : anyLineBad (g .line ∷ g .pins) ≡ false) (free : driven (g .line) ss ≡ false) (few : length (gatesOf ss) < 1000) where
-  pub stored-gate : set (sets (mentionAll (g .line ∷ g .pins) (set (netlistWords ss ++ tail) (g .line) 2)) (gatePlace (length (gatesOf ss))) (gateWords g)) 0 (length (gatesOf ss) + 1) ≡ netlistWords (ss ++ (gate g ∷ [])) ++ tail
-  unfolding linesOf setsInput drives marks gateFirst gatePlace anyLineBad
-  stored-gate =
-      let s = gate g in
-      let l = g .line in
-      let n = length (gatesOf ss) in
-      let after = driverWord (ss ++ (s ∷ [])) in
-      let range = lineBad-range l (or-left (lineBad l) (anyLineBad (g .pins)) good) in
-      let said = marked (l ∷ g .pins) (mentionWord ss) in
-      let more = gatesOf-more ss s in
-      ap (λ (t : List ℕ). set (sets (mentionAll (l ∷ g .pins) (set t l 2)) (3001 + n * 10) (gateWords g)) 0 (n + 1)) (netlist-laid ss tail)
-      ∙ ap (λ (t : List ℕ). set (sets (mentionAll (l ∷ g .pins) t) (3001 + n * 10) (gateWords g)) 0 (n + 1))
-      (set-driver n (driverWord ss) (outputWord ss) (mentionWord ss) (gatesLaid (gatesOf ss) tail) after l 2 (range .0) (range .1)
-      (a-gate ss s l refl (eq-eqb l l refl) free)
-      (λ k apart. sym (no-driver ss s k refl (ne-eqb l k (λ e. apart (sym e))))))
-      ∙ ap (λ (t : List ℕ). set (sets t (3001 + n * 10) (gateWords g)) 0 (n + 1))
-      (mentionAll-laid n after (outputWord ss) (gatesLaid (gatesOf ss) tail) (l ∷ g .pins) (mentionWord ss) good)
-      ∙ ap (λ (t : List ℕ). set t 0 (n + 1))
-      (sets-gates n after (outputWord ss) said (gatesLaid (gatesOf ss) tail) (gateWords g) (n * 10)
-      ∙ ap (laid n after (outputWord ss) said) (one-gate (gatesOf ss) tail g few))
-      ∙ set-count n after (outputWord ss) said (gatesLaid (gatesOf ss ++ (g ∷ [])) tail) (n + 1)
-      ∙ laid-words ss s tail (n + 1) after (outputWord ss) (gatesLaid (gatesOf ss ++ (g ∷ [])) tail)
-      (sym (ap length more ∙ length-append (gatesOf ss) (g ∷ []))) (λ k. refl) (λ k. no-mark ss s k refl) (ap (λ (gs : List Gate). gatesLaid gs tail) (sym more))
+pub stored-gate : (ss : List Statement) (past : List ℕ) (g : Gate) → anyLineBad (g .line ∷ g .pins) ≡ false
+    → driven (g .line) ss ≡ false → length (gatesOf ss) < Size.gates
+    → set
+    (sets (mentionAll (g .line ∷ g .pins) (set (netlistWords ss ++ past) (driverPlace (g .line)) 2))
+    (gatePlace (length (gatesOf ss))) (gateWords g)) 0 (length (gatesOf ss) + 1)
+    ≡ netlistWords (ss ++ (gate g ∷ [])) ++ past
+unfolding linesOf anyLineBad gatesIn lineParts
+stored-gate ss past g good free few =
+    let s = gate g in
+    let l = g .line in
+    let n = length (gatesOf ss) in
+    let fs = lineParts (ss ++ (s ∷ [])) in
+    let gates : gatesOf (ss ++ (s ∷ [])) ≡ gatesOf ss ++ (g ∷ []) = unfold gatesOf in one-more gatesIn ss s in
+    let count : n + 1 ≡ length (gatesOf (ss ++ (s ∷ []))) = rw gates (sym (length-append (gatesOf ss) (g ∷ []))) in
+    ap (λ (i : ℕ). set (sets (mentionAll (l ∷ g .pins) (set (netlistWords ss ++ past) i 2)) (gatePlace n) (gateWords g)) 0 (n + 1))
+    (omega arith)
+    ∙ ap (λ (t : List ℕ). set (sets t (gatePlace n) (gateWords g)) 0 (n + 1))
+    (stored ss s past 0 l 2 (gate-changes ss g free) (or-left (lineBad l) (anyLineBad (g .pins)) good) good)
+    ∙ ap (λ (t : List ℕ). set t 0 (n + 1))
+    (sets-gates n fs (gatesLaid (gatesOf ss) past) (gateWords g) (n * Size.gateWords)
+    ∙ ap (laid n fs) (one-gate (gatesOf ss) past g few))
+    ∙ set-count n fs (gatesLaid (gatesOf ss ++ (g ∷ [])) past) (n + 1)
+    ∙ rw (count, ← gates) (sym (netlist-laid (ss ++ (s ∷ [])) past))

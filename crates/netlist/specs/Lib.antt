@@ -1,4 +1,5 @@
+pub mod Admitting
 pub mod Layout
+pub mod Lowest
 pub mod Netlist
-pub mod Plain
 pub mod Sound

@@ -1,16 +1,18 @@
 -- The netlist: its statements, and where a text of them stops. Document 01, "Netlist" and "Where a text stops", netlist line.
 -- Assumes nothing.
 use mathlib.Core.Bool.{Bool, false, not, _&&_, _||_}
-use mathlib.Core.List.{List, [], _∷_, _++_}
+use mathlib.Core.List.{List, [], _∷_, _++_, flatMap}
 use mathlib.Core.Option.{Option, none, some}
 use Prim.Native.Nat.{ℕ, zero, suc}
 use lib.Dec.{leb, eqb}
 use lib.ListN.{length}
+use Rattle.sizes.specs.Sizes as Size
 use Rattle.text.specs.Bytes.{bytes, bytes-open}
-use Rattle.text.specs.Class.{pick}
 use Rattle.text.specs.Lines.{lines, sameBytes, lines-open}
 use Rattle.text.specs.Numeral.{decimal, nameForm, numeral-open}
-use Rattle.text.specs.Refusal.{Read, read, _>>=_, _>>_, weigh, form, refusal-open}
+use Rattle.reading.specs.Choice.{pick}
+use Rattle.reading.specs.Numbers as No
+use Rattle.reading.specs.Refusal.{Read, read, _>>=_, _>>_, weigh, form, refusal-open}
 use Rattle.cell_library.specs.Cells.{Cell}
 use Rattle.cell_library.specs.Library.{Fields, cellNamed, library-open}
 
@@ -21,11 +23,23 @@ pub record Gate : Type 0 where
   pub line : ℕ
   pub pins : List ℕ
 
+-- The two marks of a line, `input,L` and `output,L`.
+pub data Mark : Type 0 where
+  input : Mark
+  output : Mark
+
 -- "`input,L`, `output,L`, `gate,NAME,L,P1,..,Pn`. L is the line marked or driven, P1.. the lines read by the pins in order."
 pub data Statement : Type 0 where
-  input : (line : ℕ) → Statement
-  output : (line : ℕ) → Statement
+  mark : Mark → (line : ℕ) → Statement
   gate : Gate → Statement
+
+-- "kind (0 input, 1 output, 2 gate)"
+abbrev pub kindOf : Mark → ℕ
+kindOf input = 0
+kindOf output = 1
+
+abbrev pub gateKind : ℕ
+gateKind = 2
 
 -- ---- form (10)
 
@@ -39,19 +53,15 @@ unfoldable pub decimals : Fields → Option (List ℕ)
 decimals [] = some []
 decimals (f ∷ fs) = with (decimal f) (decimals fs)
 
-unfoldable pub inputOf : Option ℕ → Option Statement
-inputOf none = none
-inputOf (some l) = some (input l)
-
-unfoldable pub outputOf : Option ℕ → Option Statement
-outputOf none = none
-outputOf (some l) = some (output l)
-
 -- The number of a line that has one field left.
 unfoldable pub lone : Fields → Option ℕ
 lone [] = none
 lone (f ∷ []) = decimal f
 lone (f ∷ (x ∷ xs)) = none
+
+unfoldable pub markOf : Mark → Option ℕ → Option Statement
+markOf m none = none
+markOf m (some l) = some (mark m l)
 
 unfoldable pub drivenBy : ℕ → Option (List ℕ) → Option Statement
 drivenBy cell none = none
@@ -66,81 +76,80 @@ gateOf cells (name ∷ fs) = pick (nameForm name) (drivenBy (cellNamed name cell
 unfoldable pub statementOf : List Cell → Fields → Option Statement
 statementOf cells [] = none
 statementOf cells (f ∷ fs) =
-    pick (sameBytes f (bytes "input")) (inputOf (lone fs))
-    (pick (sameBytes f (bytes "output")) (outputOf (lone fs))
+    pick (sameBytes f (bytes "input")) (markOf input (lone fs))
+    (pick (sameBytes f (bytes "output")) (markOf output (lone fs))
     (pick (sameBytes f (bytes "gate")) (gateOf cells fs) none))
 
--- ---- what the statements so far say
+-- ---- what one statement says
 
-unfoldable pub any : (Statement → Bool) → List Statement → Bool
-any p [] = false
-any p (s ∷ ss) = p s || any p ss
+-- The line numbers that it holds.
+unfoldable pub linesOf : Statement → List ℕ
+linesOf (mark m l) = l ∷ []
+linesOf (gate g) = g .line ∷ g .pins
 
-unfoldable pub drives : ℕ → Statement → Bool
-drives l (input k) = eqb k l
-drives l (output k) = false
-drives l (gate g) = eqb (g .line) l
+-- The line that it marks so, if any.
+unfoldable pub linesMarked : Mark → Statement → List ℕ
+linesMarked m (mark k l) = pick (eqb (kindOf m) (kindOf k)) (l ∷ []) []
+linesMarked m (gate g) = []
 
-unfoldable pub setsInput : ℕ → Statement → Bool
-setsInput l (input k) = eqb k l
-setsInput l (output k) = false
-setsInput l (gate g) = false
+-- The line that it drives, if any: "driven .. (input or gate)".
+unfoldable pub linesDriven : Statement → List ℕ
+linesDriven (mark input l) = l ∷ []
+linesDriven (mark output l) = []
+linesDriven (gate g) = g .line ∷ []
 
-unfoldable pub marks : ℕ → Statement → Bool
-marks l (input k) = false
-marks l (output k) = eqb k l
-marks l (gate g) = false
+unfoldable pub gatesIn : Statement → List Gate
+gatesIn (mark m l) = []
+gatesIn (gate g) = g ∷ []
+
+-- ---- what the statements so far say, in netlist order
+
+unfoldable pub mentionedLines : List Statement → List ℕ
+mentionedLines ss = flatMap linesOf ss
+
+unfoldable pub markedLines : Mark → List Statement → List ℕ
+markedLines m ss = flatMap (linesMarked m) ss
+
+unfoldable pub drivenLines : List Statement → List ℕ
+drivenLines ss = flatMap linesDriven ss
+
+unfoldable pub gatesOf : List Statement → List Gate
+gatesOf ss = flatMap gatesIn ss
 
 unfoldable pub member : ℕ → List ℕ → Bool
 member l [] = false
 member l (k ∷ ks) = eqb k l || member l ks
 
--- The line numbers that a statement holds.
-unfoldable pub linesOf : Statement → List ℕ
-linesOf (input l) = l ∷ []
-linesOf (output l) = l ∷ []
-linesOf (gate g) = g .line ∷ g .pins
-
--- A line driven by an input or a gate; an input; an output line; a line that stands anywhere in the netlist.
-unfoldable pub driven : ℕ → List Statement → Bool
-driven l ss = any (drives l) ss
-
-unfoldable pub isInput : ℕ → List Statement → Bool
-isInput l ss = any (setsInput l) ss
-
-unfoldable pub isOutput : ℕ → List Statement → Bool
-isOutput l ss = any (marks l) ss
-
-unfoldable pub mentions : ℕ → Statement → Bool
-mentions l s = member l (linesOf s)
-
+-- A line that stands anywhere in the netlist; a line marked so, an input, an output line; a line driven by an input or a gate.
 unfoldable pub mentioned : ℕ → List Statement → Bool
-mentioned l ss = any (mentions l) ss
+mentioned l ss = member l (mentionedLines ss)
 
-unfoldable pub gateFirst : Statement → List Gate → List Gate
-gateFirst (input l) gs = gs
-gateFirst (output l) gs = gs
-gateFirst (gate g) gs = g ∷ gs
+unfoldable pub isMarked : Mark → ℕ → List Statement → Bool
+isMarked m l ss = member l (markedLines m ss)
 
--- The gates in netlist order.
-unfoldable pub gatesOf : List Statement → List Gate
-gatesOf [] = []
-gatesOf (s ∷ ss) = gateFirst s (gatesOf ss)
+abbrev pub isInput : ℕ → List Statement → Bool
+isInput l ss = isMarked input l ss
+
+abbrev pub isOutput : ℕ → List Statement → Bool
+isOutput l ss = isMarked output l ss
+
+unfoldable pub driven : ℕ → List Statement → Bool
+driven l ss = member l (drivenLines ss)
 
 -- ---- refusals 11 to 16, of a statement after those before it
 
 -- "Line numbers run from 1 to 1,000."
 unfoldable pub lineBad : ℕ → Bool
-lineBad l = not (leb 1 l && leb l 1000)
+lineBad l = not (leb 1 l && leb l Size.lines)
 
+-- "11 line number not 1 to 1,000"
 unfoldable pub anyLineBad : List ℕ → Bool
 anyLineBad [] = false
 anyLineBad (l ∷ ls) = lineBad l || anyLineBad ls
 
 -- "12 unknown cell"
 unfoldable pub unknownCell : List Cell → Statement → Bool
-unknownCell cells (input l) = false
-unknownCell cells (output l) = false
+unknownCell cells (mark m l) = false
 unknownCell cells (gate g) = leb (length cells) (g .cell)
 
 unfoldable pub pinsAt : List Cell → ℕ → ℕ
@@ -150,37 +159,36 @@ pinsAt (c ∷ cs) (suc k) = pinsAt cs k
 
 -- "13 pin count differs"
 unfoldable pub countDiffers : List Cell → Statement → Bool
-countDiffers cells (input l) = false
-countDiffers cells (output l) = false
+countDiffers cells (mark m l) = false
 countDiffers cells (gate g) = not (eqb (length (g .pins)) (pinsAt cells (g .cell)))
+
+-- Whether one of some lines stands among others.
+unfoldable pub anyMember : List ℕ → List ℕ → Bool
+anyMember [] ls = false
+anyMember (k ∷ ks) ls = member k ls || anyMember ks ls
 
 -- "14 line driven before (input or gate)"
 unfoldable pub drivenBefore : List Statement → Statement → Bool
-drivenBefore ss (input l) = driven l ss
-drivenBefore ss (output l) = false
-drivenBefore ss (gate g) = driven (g .line) ss
+drivenBefore ss s = anyMember (linesDriven s) (drivenLines ss)
 
 -- "15 line marked output before"
 unfoldable pub markedBefore : List Statement → Statement → Bool
-markedBefore ss (input l) = false
-markedBefore ss (output l) = isOutput l ss
-markedBefore ss (gate g) = false
+markedBefore ss s = anyMember (linesMarked output s) (markedLines output ss)
 
 -- "16 a 1,001st gate"
 unfoldable pub gateTooMany : List Statement → Statement → Bool
-gateTooMany ss (input l) = false
-gateTooMany ss (output l) = false
-gateTooMany ss (gate g) = leb 1000 (length (gatesOf ss))
+gateTooMany ss (mark m l) = false
+gateTooMany ss (gate g) = leb Size.gates (length (gatesOf ss))
 
 -- The causes for which a statement is refused, in the numbers' order, each with whether it holds.
 unfoldable pub causes : List Cell → List Statement → Statement → List (ℕ × Bool)
 causes cells ss s =
-    (11, anyLineBad (linesOf s))
-    ∷ (12, unknownCell cells s)
-    ∷ (13, countDiffers cells s)
-    ∷ (14, drivenBefore ss s)
-    ∷ (15, markedBefore ss s)
-    ∷ (16, gateTooMany ss s)
+    (No.lineBad, anyLineBad (linesOf s))
+    ∷ (No.cellUnknown, unknownCell cells s)
+    ∷ (No.pinsDiffer, countDiffers cells s)
+    ∷ (No.drivenBefore, drivenBefore ss s)
+    ∷ (No.markedBefore, markedBefore ss s)
+    ∷ (No.gatesMany, gateTooMany ss s)
     ∷ []
 
 unfoldable pub admit : ℕ → List Cell → List Statement → Statement → Read (Unit {0})
@@ -190,7 +198,7 @@ admit line cells ss s = weigh line (causes cells ss s)
 unfoldable pub admitted : ℕ → List Cell → List Statement → List (Option Statement) → Read (List Statement)
 admitted line cells ss [] = read ss
 admitted line cells ss (w ∷ ws) = do
-  s ← form 10 line w
+  s ← form No.netlistForm line w
   admit line cells ss s
   admitted (suc line) cells (ss ++ (s ∷ [])) ws
 
@@ -208,5 +216,5 @@ netlist cells t = admitted 1 cells [] (lineForms cells (lines t))
 
 -- Opens the page's definitions, where a figure computes with them.
 unfoldable pub netlist-open : ℕ
-unfolding bytes-open lines-open numeral-open refusal-open library-open with decimals inputOf outputOf lone drivenBy gateOf statementOf any drives setsInput marks member linesOf driven isInput isOutput mentions mentioned gateFirst gatesOf lineBad anyLineBad unknownCell pinsAt countDiffers drivenBefore markedBefore gateTooMany causes admit admitted lineForm lineForms netlist
+unfolding bytes-open lines-open numeral-open refusal-open library-open flatMap with decimals lone markOf drivenBy gateOf statementOf linesOf linesMarked linesDriven gatesIn mentionedLines markedLines drivenLines gatesOf member mentioned isMarked driven lineBad anyLineBad unknownCell pinsAt countDiffers anyMember drivenBefore markedBefore gateTooMany causes admit admitted lineForm lineForms netlist
 netlist-open = 0

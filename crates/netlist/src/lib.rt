@@ -1,28 +1,33 @@
 // The netlist: the netlist text read into the netlist table, refusals 10 to 16.
 //
-// Open to other crates: `read_netlist` with its `Answer`; and for a caller that has statements as plain numbers, as records
-// are, `admit` over a `Plain`, and `line_bad`.
+// For the crates above: `read_netlist`; and for a caller that has statements as plain numbers, as records
+// are, `admit` over a `RawStatement`, and `line_bad`.
 ghost use mathlib.Core.Path.{_≡_};
 ghost use mathlib.Core.Bool.{Bool, true, false};
 ghost use mathlib.Core.List.{List, [], _∷_, _++_};
 ghost use mathlib.Core.Option.{Option, some};
 ghost use Prim.Native.Nat.{ℕ, _+_, _^_, _≤_, _<_, min};
 ghost use lib.ListN.{length, set, take, replicate};
+ghost use Rattle.sizes.specs.Places.{mentionPlace};
+ghost use Rattle.sizes.specs.Sizes as Size;
 ghost use Rattle.text.specs.Lines.{fields, fieldsFrom};
-ghost use Rattle.text.specs.Refusal.{refused};
+ghost use Rattle.reading.specs.Numbers as No;
+ghost use Rattle.reading.specs.Refusal.{refused};
+ghost use Rattle.reading.specs.Verdict.{verdictRead};
 ghost use Rattle.cell_library.specs.Cells.{Cell};
-ghost use Rattle.cell_library.specs.Layout.{libraryWords};
-ghost use Rattle.netlist.specs.Netlist.{Gate, Statement, input, output, gate, lone, gateOf, statementOf, decimals, lineBad, netlist};
-ghost use Rattle.netlist.specs.Layout.{netlistWords, netlistAfter, netlistSize, mentionPlace};
-ghost use Rattle.netlist.specs.Plain.{Suited, Holds, Gathered, MarkSaid, MarkRead, GateSaid, Says, lowest, gateCause, refusalOf, wordsAfter, mentionAll, gateStored, answerRead, doneRead};
-use cell_library::count;
-use cell_library::find;
-use cell_library::pins_of;
+ghost use Rattle.cell_library.specs.Layout.{LibraryHolds};
+ghost use Rattle.netlist.specs.Lowest.{lowest};
+ghost use Rattle.netlist.specs.Netlist.{Gate, Mark, Statement, mark, gate, kindOf, lone, markOf, gateOf, statementOf, decimals, lineBad};
+ghost use Rattle.netlist.specs.Admitting.{PinsAre, PinsRead, IsMark, IsGate, StandsFor, gateCause, Admits, markPlace, markNumber, mentionAll, gateStored, gateAdded, ReadsNetlist};
+use cell_library::cells::count;
+use cell_library::cells::find;
+use cell_library::cells::pins_of;
+use reading::Refusal;
+use reading::Verdict;
 use table::clear;
 use table::put;
 use table::word;
 use text::Numeral;
-use text::Refusal;
 use text::after;
 use text::decimal;
 use text::field;
@@ -30,54 +35,32 @@ use text::is_name;
 use text::line;
 use text::same;
 
-// "Line numbers run from 1 to 1,000." A gate drives a line of its own, so that there are no more gates.
-const LINES: u32 = 1000;
-
-const GATES: u32 = 1000;
-
-const PINS: usize = 8;
-
+// "kind (0 input, 1 output, 2 gate)"
 const INPUT: u32 = 0;
 
 const OUTPUT: u32 = 1;
 
 const GATE: u32 = 2;
 
-// The netlist table: its published size, and where its parts start (docs/TABLES.md).
-const SIZE: usize = 13001;
-
-const OUTPUTS: usize = 1000;
-
-const MENTIONS: usize = 2000;
-
-const GATE_WORDS: usize = 3001;
-
-const GATE_SIZE: usize = 10;
-
-// One statement over plain numbers: whether it has good form, its kind (0 input, 1 output, 2 gate), its cell's place in the
-// library, its line, the lines of its first eight pins, 0 after the last, how many pins it has, and whether a pin's line
-// is out of range.
-pub struct Plain {
+// One statement over plain numbers, not checked yet: whether it has good form, its kind, its cell's place
+// in the library, its line, the lines of as many pins as a gate has at most, 0 after the last, how many
+// pins it has, and whether a pin's line is out of range.
+pub struct RawStatement {
     pub form: bool,
     pub kind: u32,
     pub cell: u32,
     pub line: u32,
-    pub pins: [u32; 8],
+    pub pins: [u32; sizes::PINS],
     pub count: usize,
     pub bad: bool,
 }
 
-// The pins of a statement, as `Plain` has them.
+// The pins of a statement, as `RawStatement` has them.
 struct Pins {
     pub form: bool,
-    pub pins: [u32; 8],
+    pub pins: [u32; sizes::PINS],
     pub count: usize,
     pub bad: bool,
-}
-
-pub enum Answer {
-    Accepted,
-    Refused(Refusal),
 }
 
 // Whether a line number is out of range.
@@ -87,7 +70,7 @@ pub fn line_bad(l: u32) -> bool
     if l < 1 {
         return true;
     }
-    LINES < l
+    sizes::LINES < l as usize
 }
 
 // ---- storing
@@ -95,18 +78,22 @@ pub fn line_bad(l: u32) -> bool
 fn mention(table: &mut [u32], l: u32)
     ensures { λ _. ⌜ now (table .exit) ≡ set (now (table .entry)) (mentionPlace l) 1 ⌝ }
 {
-    put(table, MENTIONS + l as usize, 1);
+    put(table, sizes::MENTIONS_AT + l as usize, 1);
 }
 
 // The pins of which the table has the lines.
 fn kept(count: usize) -> usize
-    ensures { λ r. ⌜ r ≡ min count 8 ⌝ }
+    ensures { λ r. ⌜ r ≡ min count Size.pins ⌝ }
 {
-    if count < PINS { count } else { PINS }
+    if count < sizes::PINS {
+        count
+    } else {
+        sizes::PINS
+    }
 }
 
-fn mention_pins(table: &mut [u32], pins: [u32; 8], count: usize)
-    ensures { λ _. ⌜ now (table .exit) ≡ mentionAll (take (min count 8) pins) (now (table .entry)) ⌝ }
+fn mention_pins(table: &mut [u32], pins: [u32; sizes::PINS], count: usize)
+    ensures { λ _. ⌜ now (table .exit) ≡ mentionAll (take (min count Size.pins) pins) (now (table .entry)) ⌝ }
 {
     let n = kept(count);
     let mut i = 0;
@@ -116,15 +103,15 @@ fn mention_pins(table: &mut [u32], pins: [u32; 8], count: usize)
     }
 }
 
-// Stores a gate's ten numbers.
-fn put_gate(table: &mut [u32], g: u32, cell: u32, line: u32, pins: [u32; 8])
+// Stores a gate's numbers.
+fn put_gate(table: &mut [u32], g: u32, cell: u32, line: u32, pins: [u32; sizes::PINS])
     ensures { λ _. ⌜ now (table .exit) ≡ gateStored g cell line pins (now (table .entry)) ⌝ }
 {
-    let at = GATE_WORDS + g as usize * GATE_SIZE;
+    let at = sizes::GATES_AT + g as usize * sizes::GATE_WORDS;
     put(table, at, cell);
     put(table, at + 1, line);
     let mut i = 0;
-    while i < PINS {
+    while i < sizes::PINS {
         put(table, at + 2 + i, pins[i]);
         i += 1;
     }
@@ -132,52 +119,42 @@ fn put_gate(table: &mut [u32], g: u32, cell: u32, line: u32, pins: [u32; 8])
 
 // ---- checking and admitting one statement
 
-fn admit_input(table: &mut [u32], l: u32) -> u32
-    ensures { λ r. ⌜ ((cells : List Cell) (ss : List Statement) (tail : List ℕ) → now (table .entry) ≡ netlistWords ss ++ tail → (r ≡ refusalOf cells ss (some (input l))) × (now (table .exit) ≡ wordsAfter r ss (some (input l)) ++ tail)) ⌝ }
+// Checks a mark, of which the table has a word at a place and of which a second is refused by a number,
+// and admits it.
+fn admit_mark(table: &mut [u32], at: usize, second: u32, l: u32) -> u32
+    ensures { λ r. ⌜ ((cells : List Cell) (m : Mark) → at ≡ markPlace m l → second ≡ markNumber m
+        → Admits cells (some (mark m l)) (now (table .entry)) r (now (table .exit))) ⌝ }
 {
     if line_bad(l) {
-        return 11;
+        return reading::LINE_BAD;
     }
-    if word(table, l as usize) != 0 {
-        return 14;
+    if word(table, at) != 0 {
+        return second;
     }
-    put(table, l as usize, 1);
-    mention(table, l);
-    0
-}
-
-fn admit_output(table: &mut [u32], l: u32) -> u32
-    ensures { λ r. ⌜ ((cells : List Cell) (ss : List Statement) (tail : List ℕ) → now (table .entry) ≡ netlistWords ss ++ tail → (r ≡ refusalOf cells ss (some (output l))) × (now (table .exit) ≡ wordsAfter r ss (some (output l)) ++ tail)) ⌝ }
-{
-    if line_bad(l) {
-        return 11;
-    }
-    if word(table, OUTPUTS + l as usize) != 0 {
-        return 15;
-    }
-    put(table, OUTPUTS + l as usize, 1);
+    put(table, at, 1);
     mention(table, l);
     0
 }
 
 // The lowest number of a gate's own causes, 0 where none holds.
 fn lowest(bad: bool, unknown: bool, differs: bool) -> u32
-    ensures { λ r. ⌜ r ≡ lowest ((11, bad) ∷ (12, unknown) ∷ (13, differs) ∷ []) ⌝ }
+    ensures { λ r. ⌜ r ≡ lowest ((No.lineBad, bad) ∷ (No.cellUnknown, unknown) ∷ (No.pinsDiffer, differs) ∷ []) ⌝ }
 {
     if bad {
-        11
+        reading::LINE_BAD
     } else if unknown {
-        12
+        reading::CELL_UNKNOWN
     } else if differs {
-        13
+        reading::PINS_DIFFER
     } else {
         0
     }
 }
 
 // Why a gate is refused by its own numbers: 11 to 13, or 0. The count of pins of an unknown cell does not matter.
-fn gate_cause(library: &[u32], s: Plain) -> u32
-    ensures { λ r. ⌜ ((cells : List Cell) (rest : List ℕ) (g : Gate) → now (library .entry) ≡ libraryWords cells ++ rest → Suited cells → GateSaid g s → r ≡ gateCause cells g) ⌝ }
+fn gate_cause(library: &[u32], s: RawStatement) -> u32
+    ensures { λ r. ⌜ ((cells : List Cell) (g : Gate) → LibraryHolds (now (library .entry)) cells → IsGate g s
+        → r ≡ gateCause cells g) ⌝ }
 {
     let bad = line_bad(s.line) | s.bad;
     let unknown = count(library) <= s.cell;
@@ -188,9 +165,9 @@ fn gate_cause(library: &[u32], s: Plain) -> u32
 }
 
 // Stores a gate behind those before it.
-fn store_gate(table: &mut [u32], g: u32, s: Plain)
-    requires { ⌜ g < 1000 ⌝ }
-    ensures { λ _. ⌜ now (table .exit) ≡ set (gateStored g (s .cell) (s .line) (s .pins) (mentionAll (take (min (s .count) 8) (s .pins)) (set (set (now (table .entry)) (s .line) 2) (mentionPlace (s .line)) 1))) 0 (g + 1) ⌝ }
+fn store_gate(table: &mut [u32], g: u32, s: RawStatement)
+    requires { ⌜ g < Size.gates ⌝ }
+    ensures { λ _. ⌜ now (table .exit) ≡ gateAdded g s (now (table .entry)) ⌝ }
 {
     let l = s.line;
     let pins = s.pins;
@@ -201,76 +178,88 @@ fn store_gate(table: &mut [u32], g: u32, s: Plain)
     put(table, 0, g + 1);
 }
 
-fn admit_gate(table: &mut [u32], library: &[u32], s: Plain) -> u32
-    ensures { λ r. ⌜ ((cells : List Cell) (rest : List ℕ) (ss : List Statement) (tail : List ℕ) (g : Gate) → now (library .entry) ≡ libraryWords cells ++ rest → Suited cells → now (table .entry) ≡ netlistWords ss ++ tail → GateSaid g s → (r ≡ refusalOf cells ss (some (gate g))) × (now (table .exit) ≡ wordsAfter r ss (some (gate g)) ++ tail)) ⌝ }
+fn admit_gate(table: &mut [u32], library: &[u32], s: RawStatement) -> u32
+    ensures { λ r. ⌜ ((cells : List Cell) (g : Gate) → LibraryHolds (now (library .entry)) cells → IsGate g s
+        → Admits cells (some (gate g)) (now (table .entry)) r (now (table .exit))) ⌝ }
 {
     let cause = gate_cause(library, s);
     if cause != 0 {
         return cause;
     }
     if word(table, s.line as usize) != 0 {
-        return 14;
+        return reading::DRIVEN_BEFORE;
     }
     let g = word(table, 0);
-    if GATES <= g {
-        return 16;
+    if sizes::GATES <= g as usize {
+        return reading::GATES_MANY;
     }
     store_gate(table, g, s);
     0
 }
 
-// Checks one statement after those that the table holds, and admits it: 0, or the lowest number that refuses it, 10 to 16,
-// with the table as it was.
-pub fn admit(table: &mut [u32], library: &[u32], s: Plain) -> u32
-    ensures { λ r. ⌜ ((cells : List Cell) (rest : List ℕ) (ss : List Statement) (tail : List ℕ) (w : Option Statement) → now (library .entry) ≡ libraryWords cells ++ rest → Suited cells → now (table .entry) ≡ netlistWords ss ++ tail → Says w s → (r ≡ refusalOf cells ss w) × (now (table .exit) ≡ wordsAfter r ss w ++ tail)) ⌝ }
+// Checks one statement after those that the table holds, and admits it: 0, or the lowest number that
+// refuses it, 10 to 16, with the table as it was. A kind that is not known is bad form, 10.
+pub fn admit(table: &mut [u32], library: &[u32], s: RawStatement) -> u32
+    ensures { λ r. ⌜ ((cells : List Cell) (w : Option Statement) → LibraryHolds (now (library .entry)) cells
+        → StandsFor s w → Admits cells w (now (table .entry)) r (now (table .exit))) ⌝ }
 {
     let form = s.form;
     if !form {
-        return 10;
+        return reading::NETLIST_FORM;
     }
     let kind = s.kind;
+    let l = s.line;
     if kind == INPUT {
-        return admit_input(table, s.line);
+        return admit_mark(table, l as usize, reading::DRIVEN_BEFORE, l);
     }
     if kind == OUTPUT {
-        return admit_output(table, s.line);
+        return admit_mark(
+            table,
+            sizes::OUTPUTS_AT + l as usize,
+            reading::MARKED_BEFORE,
+            l,
+        );
     }
-    admit_gate(table, library, s)
+    if kind == GATE {
+        return admit_gate(table, library, s);
+    }
+    reading::NETLIST_FORM
 }
 
 // ---- the statement of a line of text
 
-fn malformed() -> Plain
+fn malformed() -> RawStatement
     ensures { λ r. ⌜ r .form ≡ false ⌝ }
 {
-    Plain {
+    RawStatement {
         form: false,
         kind: 0,
         cell: 0,
         line: 0,
-        pins: [0; 8],
+        pins: [0; sizes::PINS],
         count: 0,
         bad: false,
     }
 }
 
-fn marked(kind: u32, l: u32) -> Plain
-    ensures { λ r. ⌜ MarkSaid kind l r ⌝ }
+fn marked(kind: u32, l: u32) -> RawStatement
+    ensures { λ r. ⌜ ((m : Mark) → kind ≡ kindOf m → IsMark m l r) ⌝ }
 {
-    Plain {
+    RawStatement {
         form: true,
         kind: kind,
         cell: 0,
         line: l,
-        pins: [0; 8],
+        pins: [0; sizes::PINS],
         count: 0,
         bad: false,
     }
 }
 
-// An input's or an output's number, from the field at a cursor on.
-fn mark_from(line: &[u8], at: usize, kind: u32) -> Plain
-    ensures { λ r. ⌜ MarkRead kind (lone (fieldsFrom (now (line .entry)) at)) r ⌝ }
+// A mark's line, from the field at a cursor on.
+fn mark_from(line: &[u8], at: usize, kind: u32) -> RawStatement
+    ensures { λ r. ⌜ ((m : Mark) → kind ≡ kindOf m
+        → StandsFor r (markOf m (lone (fieldsFrom (now (line .entry)) at)))) ⌝ }
 {
     if line.len() < at {
         return malformed();
@@ -288,21 +277,21 @@ fn mark_from(line: &[u8], at: usize, kind: u32) -> Plain
 
 // Pins from which none, or one of bad form, is gathered.
 fn pins_of_form(form: bool) -> Pins
-    ensures { λ r. ⌜ (r .form ≡ form) × Holds [] r ⌝ }
+    ensures { λ r. ⌜ (r .form ≡ form) × PinsAre [] r ⌝ }
 {
     Pins {
         form: form,
-        pins: [0; 8],
+        pins: [0; sizes::PINS],
         count: 0,
         bad: false,
     }
 }
 
-fn set_pin(pins: [u32; 8], at: usize, l: u32) -> [u32; 8]
+fn set_pin(pins: [u32; sizes::PINS], at: usize, l: u32) -> [u32; sizes::PINS]
     ensures { λ r. ⌜ r ≡ set pins at l ⌝ }
 {
     let mut ps = pins;
-    if at < PINS {
+    if at < sizes::PINS {
         ps[at] = l;
     }
     ps
@@ -310,7 +299,8 @@ fn set_pin(pins: [u32; 8], at: usize, l: u32) -> [u32; 8]
 
 fn with_pin(p: Pins, l: u32) -> Pins
     requires { ⌜ p .count < 2 ^ 63 ⌝ }
-    ensures { λ r. ⌜ (r .form ≡ p .form) × (r .count ≡ p .count + 1) × ((ls : List ℕ) → Holds ls p → Holds (ls ++ (l ∷ [])) r) ⌝ }
+    ensures { λ r. ⌜ (r .form ≡ p .form) × (r .count ≡ p .count + 1)
+        × ((ls : List ℕ) → PinsAre ls p → PinsAre (ls ++ (l ∷ [])) r) ⌝ }
 {
     let before = p.pins;
     let pins = set_pin(before, p.count, l);
@@ -325,7 +315,7 @@ fn with_pin(p: Pins, l: u32) -> Pins
 
 // The pins from the field at a cursor on.
 fn pins_from(line: &[u8], from: usize) -> Pins
-    ensures { λ r. ⌜ Gathered (decimals (fieldsFrom (now (line .entry)) from)) r ⌝ }
+    ensures { λ r. ⌜ PinsRead (decimals (fieldsFrom (now (line .entry)) from)) r ⌝ }
 {
     let n = line.len();
     let mut p = pins_of_form(true);
@@ -343,8 +333,9 @@ fn pins_from(line: &[u8], from: usize) -> Pins
 }
 
 // A gate, from the field of its name on.
-fn gate_from(line: &[u8], at: usize, library: &[u32]) -> Plain
-    ensures { λ r. ⌜ ((cells : List Cell) (rest : List ℕ) → now (library .entry) ≡ libraryWords cells ++ rest → Suited cells → Says (gateOf cells (fieldsFrom (now (line .entry)) at)) r) ⌝ }
+fn gate_from(line: &[u8], at: usize, library: &[u32]) -> RawStatement
+    ensures { λ r. ⌜ ((cells : List Cell) → LibraryHolds (now (library .entry)) cells
+        → StandsFor r (gateOf cells (fieldsFrom (now (line .entry)) at))) ⌝ }
 {
     let n = line.len();
     if n < at {
@@ -365,7 +356,7 @@ fn gate_from(line: &[u8], at: usize, library: &[u32]) -> Plain
     };
     let p = pins_from(line, after(line, next, f));
     let pins = p.pins;
-    Plain {
+    RawStatement {
         form: p.form,
         kind: GATE,
         cell: find(library, name),
@@ -376,8 +367,9 @@ fn gate_from(line: &[u8], at: usize, library: &[u32]) -> Plain
     }
 }
 
-fn statement_of(line: &[u8], library: &[u32]) -> Plain
-    ensures { λ r. ⌜ ((cells : List Cell) (rest : List ℕ) → now (library .entry) ≡ libraryWords cells ++ rest → Suited cells → Says (statementOf cells (fields (now (line .entry)))) r) ⌝ }
+fn statement_of(line: &[u8], library: &[u32]) -> RawStatement
+    ensures { λ r. ⌜ ((cells : List Cell) → LibraryHolds (now (library .entry)) cells
+        → StandsFor r (statementOf cells (fields (now (line .entry))))) ⌝ }
 {
     let f = field(line, 0);
     let at = after(line, 0, f);
@@ -394,7 +386,8 @@ fn statement_of(line: &[u8], library: &[u32]) -> Plain
 }
 
 fn read_line(line: &[u8], library: &[u32], table: &mut [u32]) -> u32
-    ensures { λ r. ⌜ ((cells : List Cell) (rest : List ℕ) (ss : List Statement) (tail : List ℕ) → now (library .entry) ≡ libraryWords cells ++ rest → Suited cells → now (table .entry) ≡ netlistWords ss ++ tail → (r ≡ refusalOf cells ss (statementOf cells (fields (now (line .entry))))) × (now (table .exit) ≡ wordsAfter r ss (statementOf cells (fields (now (line .entry)))) ++ tail)) ⌝ }
+    ensures { λ r. ⌜ ((cells : List Cell) → LibraryHolds (now (library .entry)) cells
+        → Admits cells (statementOf cells (fields (now (line .entry)))) (now (table .entry)) r (now (table .exit))) ⌝ }
 {
     let s = statement_of(line, library);
     admit(table, library, s)
@@ -402,30 +395,32 @@ fn read_line(line: &[u8], library: &[u32], table: &mut [u32]) -> u32
 
 // ---- the text
 
-fn refusal(table: &mut [u32], number: u32, line: u32) -> Answer
-    ensures { λ r. ⌜ (answerRead r ≡ refused number line) × (now (table .exit) ≡ replicate (length (now (table .entry))) 0) ⌝ }
+fn refusal(table: &mut [u32], number: u32, line: usize) -> Verdict
+    ensures { λ r. ⌜ (verdictRead r ≡ refused number line)
+        × (now (table .exit) ≡ replicate (length (now (table .entry))) 0) ⌝ }
 {
     clear(table, table.len());
-    Answer::Refused(Refusal {
+    Verdict::Refused(Refusal {
         number: number,
         line: line,
     })
 }
 
 // Reads a netlist text against the cells of a library table, into a table of at least the published size.
-pub fn read_netlist(text: &[u8], library: &[u32], table: &mut [u32]) -> Answer
-    requires { ⌜ (length (now text) ≤ 65535) × (netlistSize ≤ length (now table)) ⌝ }
-    ensures { λ r. ⌜ ((cells : List Cell) (rest : List ℕ) → now (library .entry) ≡ libraryWords cells ++ rest → Suited cells → (answerRead r ≡ doneRead (netlist cells (now (text .entry)))) × (now (table .exit) ≡ netlistAfter (netlist cells (now (text .entry))) (now (table .entry)))) ⌝ }
+pub fn read_netlist(text: &[u8], library: &[u32], table: &mut [u32]) -> Verdict
+    requires { ⌜ (length (now text) ≤ Size.textBytes) × (Size.netlist ≤ length (now table)) ⌝ }
+    ensures { λ r. ⌜ ((cells : List Cell) → LibraryHolds (now (library .entry)) cells
+        → ReadsNetlist cells (now (text .entry)) (now (table .entry)) r (now (table .exit))) ⌝ }
 {
-    clear(table, SIZE);
+    clear(table, sizes::NETLIST);
     let n = text.len();
     let mut at = 0;
-    let mut number: u32 = 1;
+    let mut number: usize = 1;
     while at < n {
         let l = line(text, at);
         let end = after(text, at, l);
         if n < end {
-            return refusal(table, 10, number);
+            return refusal(table, reading::NETLIST_FORM, number);
         }
         let cause = read_line(l, library, table);
         if cause != 0 {
@@ -434,5 +429,5 @@ pub fn read_netlist(text: &[u8], library: &[u32], table: &mut [u32]) -> Answer
         at = end;
         number += 1;
     }
-    Answer::Accepted
+    Verdict::Accepted
 }

@@ -24,7 +24,6 @@ use Rattle.plans.specs.Sweep.{
   Rests,
   Inside,
   Above,
-  total,
 }
 use Rattle.plans.proofs.Table.{
   at-set-same,
@@ -33,8 +32,6 @@ use Rattle.plans.proofs.Table.{
   under-trans,
   under-antisym,
   under-set,
-  total-under,
-  total-same,
 }
 
 -- ---- the lesser of two costs
@@ -64,11 +61,6 @@ lesser-case a b h k = split (decLe a b)
     split (no l) = inr (omega arith)
 
 -- ---- sums
-
-pub sums-bound : (xs ns : List ℕ) → sums xs ns ≤ never
-unfolding sums
-sums-bound xs [] = omega arith
-sums-bound xs (n ∷ ns) = sum-bound (at xs n) (sums xs ns)
 
 pub way-bound : (xs : List ℕ) (w : Way) → way xs w ≤ never
 unfolding way
@@ -149,27 +141,12 @@ pub lower-past : (xs : List ℕ) (v : Visit) → length xs ≤ v .node → lower
 unfolding lower
 lower-past xs v h = set-out xs (v .node) (lesser (at xs (v .node)) (least xs (v .ways))) h
 
--- A visit whose least way sum is no lower than the number changes nothing, ..
+-- A visit whose least way sum is no lower than the number changes nothing.
 pub lower-still : (xs : List ℕ) (v : Visit) → at xs (v .node) ≤ never → at xs (v .node) ≤ least xs (v .ways) → lower xs v ≡ xs
 unfolding lower lesser counted at
 lower-still xs v b h =
     let e : lesser (at xs (v .node)) (least xs (v .ways)) ≡ at xs (v .node) = omega arith in
     ap (set xs (v .node)) e ∙ set-getD xs (v .node) never
-
--- .. and any other makes the sum of the table smaller.
-pub lower-falls : (xs : List ℕ) (v : Visit) → v .node < length xs → least xs (v .ways) < at xs (v .node) → total (lower xs v) < total xs
-lower-falls xs v b h =
-    let u : Under (lower xs v) xs = lower-under xs v in
-    let a : total (lower xs v) ≤ total xs = total-under (lower xs v) xs u in
-    let d : total (lower xs v) ≡ total xs → ⊥ =
-    λ e.
-    omega (
-      arith,
-      ap (λ (ys : List ℕ). at ys (v .node)) (total-same (lower xs v) xs u e),
-      lower-here xs v b,
-      lesser-right (at xs (v .node)) (least xs (v .ways)),
-    ) in
-    omega arith
 
 -- ---- sweeps that keep the lesser
 
@@ -182,14 +159,6 @@ pub sweeps-under : (vs : List Visit) (k : ℕ) (xs : List ℕ) → Under (sweeps
 unfolding sweeps
 sweeps-under vs zero xs = under-refl xs
 sweeps-under vs (suc k) xs = under-trans (sweeps-under vs k (sweep lower vs xs)) (sweep-under vs xs)
-
--- A sweep that changes something makes the sum of the table smaller.
-pub sweep-falls : (vs : List Visit) (xs : List ℕ) → (Rests lower vs xs → ⊥) → total (sweep lower vs xs) < total xs
-sweep-falls vs xs h =
-    let u : Under (sweep lower vs xs) xs = sweep-under vs xs in
-    let a : total (sweep lower vs xs) ≤ total xs = total-under (sweep lower vs xs) xs u in
-    let b : total (sweep lower vs xs) ≡ total xs → ⊥ = λ e. h (total-same (sweep lower vs xs) xs u e) in
-    omega arith
 
 -- Where a sweep changes nothing, no visit of it changes anything.
 pub rests-head : (v : Visit) (vs : List Visit) (xs : List ℕ) → Rests lower (v ∷ vs) xs → lower xs v ≡ xs

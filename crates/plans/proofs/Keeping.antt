@@ -1,6 +1,5 @@
 -- What both rules keep: a visit stores one number, at most never, at its own node.
 -- Assumes nothing.
-use mathlib.Core.Bool.{Bool, true, false}
 use mathlib.Core.List.{List, [], _∷_, _++_, List·Memᴰ·head, List·Memᴰ·tail}
 use mathlib.Core.Path.{_≡_, refl, sym, _∙_}
 use Prim.Native.Nat.{ℕ, zero, suc, _≤_, _<_}
@@ -10,7 +9,7 @@ use lib.ListN.{length, set, length-set}
 use lib.Seq.{set-out}
 use Rattle.cost.specs.Cost.{never, lesser}
 use Rattle.plans.specs.System.{Visit}
-use Rattle.plans.specs.Sweep.{at, least, Rule, renew, lower, sweep, sweeps, Settles, same, afterOne, pickRun, run, Inside, Bounded, Visited}
+use Rattle.plans.specs.Sweep.{at, least, Rule, renew, lower, sweep, sweeps, Settles, same, Inside, Bounded, Visited}
 use Rattle.plans.proofs.Table.{at-set-same, at-set-other}
 use Rattle.plans.proofs.Falling.{lesser-bound, least-bound}
 
@@ -30,16 +29,6 @@ pub sweep-append : (rule : Rule) (us vs : List Visit) (xs : List ℕ) → sweep 
 unfolding sweep
 sweep-append rule [] vs xs = refl
 sweep-append rule (u ∷ us) vs xs = sweep-append rule us vs (rule xs u)
-
--- A run leaves the numbers after some sweeps.
-pub run-sweeps : (rule : Rule) (vs : List Visit) (fuel : ℕ) (xs : List ℕ) → (k : ℕ) × (run rule vs fuel xs .numbers ≡ sweeps rule vs k xs)
-unfolding run sweeps pickRun afterOne
-run-sweeps rule vs zero xs = (0, refl)
-run-sweeps rule vs (suc fuel) xs = test (same (sweep rule vs xs) xs) (run-sweeps rule vs fuel (sweep rule vs xs))
-  where
-    test : (b : Bool) → (k : ℕ) × (run rule vs fuel (sweep rule vs xs) .numbers ≡ sweeps rule vs k (sweep rule vs xs)) → (k : ℕ) × (pickRun b (record { numbers = sweep rule vs xs; count = 1 }) (afterOne (run rule vs fuel (sweep rule vs xs))) .numbers ≡ sweeps rule vs k xs)
-    test true t = (1, refl)
-    test false t = (suc (t .0), t .1)
 
 module _ (rule : Rule) (stores : Stores rule) where
   pub rule-length : (xs : List ℕ) (v : Visit) → length (rule xs v) ≡ length xs
@@ -96,22 +85,9 @@ module _ (rule : Rule) (stores : Stores rule) where
   pub sweeps-inside : (vs us : List Visit) (k : ℕ) (xs : List ℕ) → Inside vs xs → Inside vs (sweeps rule us k xs)
   sweeps-inside vs us k xs h v m = rw (sweeps-length us k xs) (h v m)
 
-  -- The same of what a run leaves, and of what sweeps settle on.
-  module _ (vs : List Visit) (fuel : ℕ) (xs : List ℕ) where
-    pub run-length : length (run rule vs fuel xs .numbers) ≡ length xs
-    run-length = let t : (k : ℕ) × (run rule vs fuel xs .numbers ≡ sweeps rule vs k xs) = run-sweeps rule vs fuel xs in rw (t .1) (sweeps-length vs (t .0) xs)
-
-    pub run-other : (n : ℕ) → (Visited vs n → ⊥) → at (run rule vs fuel xs .numbers) n ≡ at xs n
-    run-other n h = let t : (k : ℕ) × (run rule vs fuel xs .numbers ≡ sweeps rule vs k xs) = run-sweeps rule vs fuel xs in rw (t .1) (sweeps-other vs (t .0) xs n h)
-
-    pub run-bounded : Bounded xs → Bounded (run rule vs fuel xs .numbers)
-    run-bounded b = let t : (k : ℕ) × (run rule vs fuel xs .numbers ≡ sweeps rule vs k xs) = run-sweeps rule vs fuel xs in rw (t .1) (sweeps-bounded vs (t .0) xs b)
-
+  -- The same of what sweeps settle on.
   pub settles-length : {vs : List Visit} {xs ys : List ℕ} {k : ℕ} → Settles rule vs xs k ys → length ys ≡ length xs
   settles-length {vs} {xs} s = rw (s .reached) at (sweeps-length vs (s .changes) xs)
 
   pub settles-other : {vs : List Visit} {xs ys : List ℕ} {k : ℕ} → Settles rule vs xs k ys → (n : ℕ) → (Visited vs n → ⊥) → at ys n ≡ at xs n
   settles-other {vs} {xs} s n h = rw (s .reached) at (sweeps-other vs (s .changes) xs n h)
-
-  pub settles-bounded : {vs : List Visit} {xs ys : List ℕ} {k : ℕ} → Settles rule vs xs k ys → Bounded xs → Bounded ys
-  settles-bounded {vs} {xs} s b = rw (s .reached) at (sweeps-bounded vs (s .changes) xs b)

@@ -1,16 +1,17 @@
--- The theorems that specs/Statements.antt states, and the laws of tables, sweeps and runs that other crates cite.
+-- The theorems that specs/Statements.antt and specs/Stages.antt state, and the laws of tables and sweeps that other crates cite.
 -- Assumes nothing.
-use Prim.Native.Nat.{suc, _+_}
+use mathlib.Core.List.{List}
+use mathlib.Core.Path.{refl}
+use Prim.Native.Nat.{ℕ, suc, _+_}
 use native.Mathlib.Nat.{le-refl, le-trans}
 use native.Mathlib.Omega.{arith}
 use lib.ListN.{length}
-use Rattle.plans.specs.Sweep.{at, renew, lower}
+use Rattle.plans.specs.Sweep.{at, renew, lower, Above}
 use Rattle.plans.specs.Statements.{
   AttainedStays,
   NoneCheaper,
   RunExact,
   NumbersFall,
-  SumFalls,
   RulesAgree,
   RunsAgree,
   SettlesOnce,
@@ -19,64 +20,26 @@ use Rattle.plans.specs.Statements.{
   RenewBound,
   LeadBound,
 }
+use Rattle.plans.specs.Stages.{Left, RenewingWorks, LeadingWorks}
 use Rattle.plans.proofs.Table.{Under}
-use Rattle.plans.proofs.Falling.{sweep-under, sweep-falls, rests-least, least-below}
+use Rattle.plans.proofs.Falling.{sweep-under, rests-least, least-below, least-mono}
 use Rattle.plans.proofs.Exactness as Exactness
 use Rattle.plans.proofs.Settling as Settling
 use Rattle.plans.proofs.Replacing as Replacing
 use Rattle.plans.proofs.Bounds.{visited-rest, leads-rest}
 use Rattle.plans.proofs.Staging as Staging
-pub use Rattle.plans.proofs.Table.{Under, at-getD, at-past, at-set-same, at-set-other, same-true, same-refl, same-iff}
-pub use Rattle.plans.proofs.Falling.{
-  sums-bound,
-  way-bound,
-  least-bound,
-  least-below,
-  least-of,
-  never-above,
-  lower-still,
-  lower-falls,
-  rests-head,
-  rests-tail,
-  rests-least,
-}
-pub use Rattle.plans.proofs.Keeping.{
-  Stores,
-  lower-stores,
-  renew-stores,
-  rule-length,
-  rule-other,
-  rule-bounded,
-  sweep-append,
-  sweep-length,
-  sweep-other,
-  sweep-bounded,
-  sweeps-length,
-  sweeps-other,
-  sweeps-bounded,
-  run-sweeps,
-  run-length,
-  run-other,
-  run-bounded,
-  settles-length,
-  settles-other,
-  settles-bounded,
-}
-pub use Rattle.plans.proofs.Settling.{run-rests, run-changes, run-settled, run-is}
-pub use Rattle.plans.proofs.Replacing.{renew-lower, above-lower, sweep-agrees, settles-same}
-pub use Rattle.plans.proofs.Staging.{stages-exact, first-start, stages-under, stages-other}
-pub use Rattle.plans.proofs.Comparing.{
-  exact-attained,
-  exact-below,
-  exact-once,
-  plan-within,
-  plan-at-any-prices,
-  attained-more,
-  exact-within,
-  more-ways,
-  more-prices,
-}
+-- ---- tables, visits and sweeps, for the crates above
+pub use Rattle.plans.proofs.Table.{at-getD, at-set-same}
+pub use Rattle.plans.proofs.Falling.{never-above}
+pub use Rattle.plans.proofs.Keeping.{Stores, lower-stores, renew-stores, sweep-append, sweep-length, sweep-other, settles-length}
+-- ---- runs one after the other, as specs/Stages.antt states them
+pub use Rattle.plans.proofs.Staging.{ranked-apart, stages-within, stages-once, stages-left, stages-exact, first-start}
+-- ---- what a reader may ask of exact numbers, and what requests K10, K11 and K14 rest on
+pub use Rattle.plans.proofs.Comparing.{exact-once, plan-within, plan-at-any-prices, attained-more, exact-within, more-ways, more-prices}
+-- ---- what request K3 rests on
 pub use Rattle.plans.proofs.Tracing.{first-least, traced-numbers, traces-agree, unmarked-stood, settled-row}
+
+-- ---- the theorems that specs/Statements.antt states of one run
 
 pub attained-lower : AttainedStays lower
 attained-lower S vs k xs = Exactness.sweeps-attained S lower (Exactness.lower-attains S) vs k xs
@@ -104,9 +67,6 @@ run-exact S xs ys k inside start s n =
 pub numbers-fall : NumbersFall
 numbers-fall vs xs n = sweep-under vs xs .below n
 
-pub sum-falls : SumFalls
-sum-falls = sweep-falls
-
 pub rules-agree : RulesAgree
 rules-agree vs k xs once above = (Replacing.sweeps-same vs once k xs above, Replacing.sweeps-above vs once k xs above)
 
@@ -132,3 +92,31 @@ lead-bound vs outs xs fuel leads bounded inside h =
     let r : SettlesWithin lower vs xs fuel (suc (length outs)) =
     Settling.run-settled lower vs fuel (length outs) xs h (leads-rest vs xs outs bounded inside leads (length outs) (le-refl (length outs))) in
     (r .0, omega (arith, r .1))
+
+-- ---- how a stage works
+
+pub renewing-works : RenewingWorks
+renewing-works vs us xs all bounded inside once above bound h =
+    record {
+      within = λ ys l.
+          let r : SettlesWithin renew vs ys bound (length us + 1) =
+          renew-bound vs us ys bound all (λ n. le-trans (l .below n) (bounded n)) (λ v m. rw (l .long) (inside v m)) once (now ys l) h in
+          (r .0, omega (arith, r .1));
+      lowers = λ ys zs k l s. Replacing.settles-same vs once (now ys l) .1 s;
+    }
+  where
+    -- Numbers that fall elsewhere keep the visited ones above their sums.
+    now : (ys : List ℕ) → Left vs xs ys → Above vs ys
+    now ys l v m =
+        rw (l .kept (v .node) (record { visit = v; listed = m; same = refl }))
+        (le-trans (least-mono ys xs (v .ways) (l .below)) (above v m))
+
+pub leading-works : LeadingWorks
+leading-works vs outs xs leads bounded inside bound h =
+    record {
+      within = λ ys l.
+          let r : SettlesWithin lower vs ys bound (length outs + 1) =
+          lead-bound vs outs ys bound leads (λ n. le-trans (l .below n) (bounded n)) (λ v m. rw (l .long) (inside v m)) h in
+          (r .0, omega (arith, r .1));
+      lowers = λ ys zs k l s. s;
+    }

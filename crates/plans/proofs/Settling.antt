@@ -6,7 +6,8 @@ use mathlib.Core.Path.{_≡_, refl, sym, _∙_, ap}
 use Prim.Native.Nat.{ℕ, zero, suc, _≤_, _<_}
 use native.Mathlib.Omega.{arith}
 use Rattle.plans.specs.System.{Visit}
-use Rattle.plans.specs.Sweep.{Rule, sweep, sweeps, Rests, Settles, same, Run, afterOne, pickRun, run}
+use Rattle.reading.specs.Choice.{pick}
+use Rattle.plans.specs.Sweep.{Rule, sweep, sweeps, Rests, Settles, same, Run, afterOne, run}
 use Rattle.plans.proofs.Table.{same-true, same-refl}
 
 same-false : (xs ys : List ℕ) → (xs ≡ ys → ⊥) → same xs ys ≡ false
@@ -20,11 +21,11 @@ module _ (rule : Rule) (vs : List Visit) where
   -- ---- one sweep of a run
 
   pub run-rests : (fuel : ℕ) (xs : List ℕ) → Rests rule vs xs → run rule vs (suc fuel) xs ≡ record { numbers = xs; count = 1 }
-  unfolding run pickRun
+  unfolding run pick
   run-rests fuel xs e = rw (e, same-refl xs)
 
   pub run-changes : (fuel : ℕ) (xs : List ℕ) → (Rests rule vs xs → ⊥) → run rule vs (suc fuel) xs ≡ afterOne (run rule vs fuel (sweep rule vs xs))
-  unfolding run pickRun
+  unfolding run pick
   run-changes fuel xs h = rw (same-false (sweep rule vs xs) xs h)
 
   pub rests? : (xs : List ℕ) → Dec (Rests rule vs xs)
@@ -87,10 +88,3 @@ module _ (rule : Rule) (vs : List Visit) where
       let b : t .changes < s .changes → ⊥ = not-before xs zs ys l k t s in
       let e : s .changes ≡ t .changes = omega arith in
       (omega arith, sym (s .reached) ∙ ap (λ (i : ℕ). sweeps rule vs i xs) e ∙ t .reached)
-
-  -- A run that settles has just that count and those numbers.
-  pub run-is : {xs ys : List ℕ} {k : ℕ} (fuel : ℕ) → Settles rule vs xs k ys → k ≤ fuel → run rule vs fuel xs ≡ record { numbers = ys; count = k }
-  run-is {xs} {ys} {k} fuel s h =
-      let r : Settled xs (s .changes) (run rule vs fuel xs) = run-settled fuel (s .changes) xs (omega arith) (rw (s .reached) (s .rests)) in
-      let e : (run rule vs fuel xs .count ≡ k) × (run rule vs fuel xs .numbers ≡ ys) = settles-once (r .0) s in
-      λ i. record { numbers = e .1 i; count = e .0 i }

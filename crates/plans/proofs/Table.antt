@@ -1,19 +1,19 @@
 -- The table as numbers by node: what a store changes, when two tables are the same, and when one lies under another.
 -- Assumes nothing.
-use mathlib.Core.Bool.{Bool, true, false}
+use mathlib.Core.Bool.{Bool, true, false, _&&_}
 use mathlib.Core.List.{List, [], _∷_}
-use mathlib.Core.Logic.{_↔_, _≢_}
+use mathlib.Core.Logic.{_≢_}
 use mathlib.Core.Path.{_≡_, refl, sym, _∙_, ap₂}
 use Prim.Native.Nat.{ℕ, zero, suc, _≤_, _<_}
 use native.Mathlib.Decide.{ℕ-discrete, decLt}
-use native.Mathlib.Nat.{le-refl, le-trans, le-antisymm, suc-inj}
+use native.Mathlib.Nat.{le-refl, le-trans, le-antisymm}
 use native.Mathlib.Omega.{arith}
 use borrow.Author.Tests.{eqb-true, eq-eqb}
 use lib.Dec.{eqb}
-use lib.ListN.{length, getD, set, length-set, List·getD-eq-default}
+use lib.ListN.{length, getD, set, length-set}
 use lib.Seq.{getD-set-same, getD-set-other, set-out, ext-getD}
 use Rattle.cost.specs.Cost.{never}
-use Rattle.plans.specs.Sweep.{at, same, and, total}
+use Rattle.plans.specs.Sweep.{at, same}
 
 pub at-set-same : (xs : List ℕ) (n a : ℕ) → n < length xs → at (set xs n a) n ≡ a
 unfolding at
@@ -30,14 +30,9 @@ at-getD [] n d h = absurd (omega arith)
 at-getD (x ∷ xs) zero d h = refl
 at-getD (x ∷ xs) (suc n) d h = at-getD xs n d (omega arith)
 
-pub at-past : (xs : List ℕ) (n : ℕ) → length xs ≤ n → at xs n ≡ never
-unfolding at
-at-past xs n h = List·getD-eq-default xs never h
-
 -- ---- the same table
 
-and-true : (b c : Bool) → and b c ≡ true → (b ≡ true) × (c ≡ true)
-unfolding and
+and-true : (b c : Bool) → (b && c) ≡ true → (b ≡ true) × (c ≡ true)
 and-true true c e = (refl, e)
 and-true false c e = let z : true ≡ false = sym e in (e, cc)
 
@@ -51,12 +46,9 @@ same-true (x ∷ xs) (y ∷ ys) e =
     ap₂ (λ (a : ℕ) (l : List ℕ). a ∷ l) (eqb-true x y (h .0)) (same-true xs ys (h .1))
 
 pub same-refl : (xs : List ℕ) → same xs xs ≡ true
-unfolding same and
+unfolding same
 same-refl [] = refl
 same-refl (x ∷ xs) = rw (eq-eqb x x refl) (same-refl xs)
-
-pub same-iff : (xs ys : List ℕ) → (same xs ys ≡ true) ↔ (xs ≡ ys)
-same-iff xs ys = (same-true xs ys, λ e. rw e (same-refl ys))
 
 -- ---- one table under another
 
@@ -86,31 +78,3 @@ under-set xs n a h = record { long = length-set xs n a; below = λ m. place m (�
     place m (yes e) (yes b) = rw (e, at-set-same xs n a b) h
     place m (yes e) (no b) = rw (set-out xs n a (omega arith)) (le-refl (at xs m))
     place m (no e) d = rw (at-set-other xs n a m e) (le-refl (at xs m))
-
--- ---- the sum of the table
-
-under-tail : {x y : ℕ} {xs ys : List ℕ} → Under (y ∷ ys) (x ∷ xs) → Under ys xs
-unfolding at
-under-tail h = record { long = suc-inj (h .long); below = λ n. h .below (suc n) }
-
-under-head : {x y : ℕ} {xs ys : List ℕ} → Under (y ∷ ys) (x ∷ xs) → y ≤ x
-unfolding at
-under-head h = h .below zero
-
-pub total-under : (ys xs : List ℕ) → Under ys xs → total ys ≤ total xs
-unfolding total
-total-under [] [] h = le-refl 0
-total-under [] (x ∷ xs) h = omega (arith, h .long)
-total-under (y ∷ ys) [] h = omega (arith, h .long)
-total-under (y ∷ ys) (x ∷ xs) h = omega (arith, under-head h, total-under ys xs (under-tail h))
-
-pub total-same : (ys xs : List ℕ) → Under ys xs → total ys ≡ total xs → ys ≡ xs
-unfolding total
-total-same [] [] h e = refl
-total-same [] (x ∷ xs) h e = absurd (omega (arith, h .long))
-total-same (y ∷ ys) [] h e = absurd (omega (arith, h .long))
-total-same (y ∷ ys) (x ∷ xs) h e =
-    let t : Under ys xs = under-tail h in
-    let a : y ≤ x = under-head h in
-    let b : total ys ≤ total xs = total-under ys xs t in
-    ap₂ (λ (a : ℕ) (l : List ℕ). a ∷ l) (omega arith) (total-same ys xs t (omega arith))

@@ -12,7 +12,8 @@ use native.Mathlib.Omega.{arith}
 use borrow.Author.Tests.{le-leb, lt-leb, lt-ltb, le-ltb}
 use lib.ListN.{length, set, length-set, replicate, length-replicate, getD-replicate, List·getD-eq-default}
 use lib.Seq.{getD-set-same, getD-set-other}
-use Rattle.cost.specs.Cost.{most, never, _⊕_, capped, counted, lesser, pick}
+use Rattle.cost.specs.Cost.{most, never, _⊕_, capped, counted, lesser}
+use Rattle.reading.specs.Choice.{pick}
 use Rattle.cost.proofs.Laws.{sum-form, sum-exact, sum-left, sum-right}
 use Rattle.plans.specs.System.{Way, Visit}
 use Rattle.plans.specs.Sweep.{at, sums, way, least, Rule, renew, lower, sweep, sweeps, Rests, Inside, Bounded, Once, Above}
@@ -22,7 +23,6 @@ use Rattle.plans.specs.Trace.{
   Mark,
   Trace,
   markAt,
-  pickMarks,
   markOf,
   traceVisit,
   traceSweep,
@@ -180,7 +180,7 @@ module _ (vs : List Visit) (xs : List ℕ) where
     still = record { numbers = t .numbers; marks = t .marks; time = suc (t .time) }
 
     visit-still : at (t .numbers) (v .node) ≤ least (t .numbers) (v .ways) → traceVisit lower t v ≡ still
-    unfolding traceVisit pickMarks
+    unfolding traceVisit pick
     visit-still h = rw (lower-still (t .numbers) v (f .bounded (v .node)) h, le-ltb (least (t .numbers) (v .ways)) (at (t .numbers) (v .node)) h)
 
     traced-still : Traced still
@@ -218,7 +218,7 @@ module _ (vs : List Visit) (xs : List ℕ) where
       fallen = record { numbers = lower (t .numbers) v; marks = set (t .marks) (v .node) (some new); time = suc (t .time) }
 
       visit-falls : traceVisit lower t v ≡ fallen
-      unfolding traceVisit pickMarks
+      unfolding traceVisit pick
       visit-falls = rw (lt-ltb (least (t .numbers) (v .ways)) (at (t .numbers) (v .node)) falls)
 
       number-here : at (lower (t .numbers) v) (v .node) ≡ least (t .numbers) (v .ways)

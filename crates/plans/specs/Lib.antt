@@ -1,6 +1,6 @@
 pub mod System
 pub mod Sweep
 pub mod Exact
-pub mod Stages
 pub mod Trace
 pub mod Statements
+pub mod Stages

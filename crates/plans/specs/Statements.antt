@@ -1,6 +1,7 @@
--- The theorems of this crate, stated. Each is proved in proofs/Laws.antt under the name that stands beside it.
+-- The theorems of this crate, stated, but for those on runs one after the other, which stand in Stages.antt. Each is proved in
+-- proofs/Laws.antt under the name that stands beside it.
 -- Assumes nothing.
-use mathlib.Core.List.{List, List·Memᴰ, flatten}
+use mathlib.Core.List.{List, List·Memᴰ}
 use mathlib.Core.Option.{none, some}
 use mathlib.Core.Path.{_≡_}
 use Prim.Native.Nat.{ℕ, _+_, _≤_, _<_}
@@ -16,7 +17,6 @@ use Rattle.plans.specs.Sweep.{
   lower,
   sweep,
   sweeps,
-  total,
   Rests,
   Settles,
   run,
@@ -28,12 +28,12 @@ use Rattle.plans.specs.Sweep.{
   Leads,
 }
 use Rattle.plans.specs.Exact.{Exact, Attained, Start, first}
-use Rattle.plans.specs.Stages.{Stages, Apart}
 use Rattle.plans.specs.Trace.{firstPlace, wayAt, Mark, markAt, traceSweeps, untraced, SettledBy}
 
 -- ---- the numbers
 
--- `attained-lower`, `attained-renew`: by either rule, every number that is not never is the capped cost of some plan, after any sweeps.
+-- `attained-lower`, `attained-renew`: by either rule, every number that is not never is the capped cost of some plan, after any
+-- sweeps.
 abbrev pub AttainedStays : Rule → Type 0
 AttainedStays rule =
     (S : System) (vs : List Visit) (k : ℕ) (xs : List ℕ) →
@@ -59,17 +59,6 @@ RunExact =
     Settles lower (S .visits) xs k ys →
     (n : ℕ) → Exact S n (at ys n)
 
--- `stages-exact`: the same of runs one after the other.
-abbrev pub StagesExact : Type 0
-StagesExact =
-    (S : System) (vss : List (List Visit)) (xs zs : List ℕ) →
-    S .visits ≡ flatten vss →
-    Inside (flatten vss) xs →
-    Apart vss →
-    Start S xs →
-    Stages vss xs zs →
-    (n : ℕ) → Exact S n (at zs n)
-
 -- `first-start`: document 01's start, each priced node at its price and every other never, is a start.
 abbrev pub FirstStart : Type 0
 FirstStart = (S : System) (xs : List ℕ) → ((n : ℕ) → at xs n ≡ first (S .price n)) → Start S xs
@@ -80,13 +69,9 @@ ExactOnce = (S : System) (n x y : ℕ) → Exact S n x → Exact S n y → x ≡
 
 -- ---- the sweeps
 
--- `numbers-fall`: a sweep that keeps the lesser raises no number ..
+-- `numbers-fall`: a sweep that keeps the lesser raises no number.
 abbrev pub NumbersFall : Type 0
 NumbersFall = (vs : List Visit) (xs : List ℕ) (n : ℕ) → at (sweep lower vs xs) n ≤ at xs n
-
--- `sum-falls`: .. and where it changes something, the sum of the table is smaller.
-abbrev pub SumFalls : Type 0
-SumFalls = (vs : List Visit) (xs : List ℕ) → (Rests lower vs xs → ⊥) → total (sweep lower vs xs) < total xs
 
 -- `rules-agree`: "becomes the least row sum" is "keeps the lesser", sweep after sweep, where no node has two different
 -- visits and each visited number is at least its own least way sum at the start; and that stays so.
@@ -154,7 +139,7 @@ LeadBound =
     length outs < fuel →
     SettlesWithin lower vs xs fuel (length outs + 1)
 
--- ---- more to plan with
+-- ---- more to plan with: requests K10 (prices within a range), K11 (pads) and K14 (rows added to a library) rest on these
 
 -- Whatever `S` has, `T` has too: each price, or a lower one, and each way.
 pub record Within (S T : System) : Type 0 where
@@ -201,7 +186,7 @@ AttainedMore =
     ((n : ℕ) (w : Way) → Offers (S .visits) n w → Offers (T .visits) n w) →
     (n x : ℕ) → Attained S n x → Attained T n x
 
--- ---- the settled row
+-- ---- the settled row: request K3 (the cheapest way written out) rests on these
 
 -- `first-least`: the place that a visit remembers is that of the first among the ways of the least sum.
 abbrev pub FirstLeast : Type 0

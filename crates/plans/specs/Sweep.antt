@@ -1,13 +1,14 @@
 -- Sweeps, as document 01, "Sweeps", has them, over the numbers as a list: the number of the node n stands at place n.
 -- Assumes nothing.
-use mathlib.Core.Bool.{Bool, true, false}
+use mathlib.Core.Bool.{Bool, true, false, _&&_}
 use mathlib.Core.List.{List, [], _∷_, List·Memᴰ}
 use mathlib.Core.Logic.{_⊎_}
 use mathlib.Core.Path.{_≡_}
-use Prim.Native.Nat.{ℕ, zero, suc, _+_, _≤_, _<_}
+use Prim.Native.Nat.{ℕ, zero, suc, _≤_, _<_}
 use lib.Dec.{eqb}
 use lib.ListN.{length, getD, set}
-use Rattle.cost.specs.Cost.{never, isNever, isOver, or, pick, _⊕_, capped, counted, lesser}
+use Rattle.reading.specs.Choice.{pick}
+use Rattle.cost.specs.Cost.{never, _⊕_, capped, lesser, cost-open}
 use Rattle.plans.specs.System.{Way, Visit, Offers}
 
 -- The number of a node; never past the table's end.
@@ -64,16 +65,12 @@ pub record Settles (rule : Rule) (vs : List Visit) (xs : List ℕ) (count : ℕ)
   pub rests : Rests rule vs ys
   pub changed : (i : ℕ) → i < changes → Rests rule vs (sweeps rule vs i xs) → ⊥
 
-unfoldable pub and : Bool → Bool → Bool
-and true b = b
-and false b = false
-
 -- Two tables are the same.
 unfoldable pub same : List ℕ → List ℕ → Bool
 same [] [] = true
 same [] (y ∷ ys) = false
 same (x ∷ xs) [] = false
-same (x ∷ xs) (y ∷ ys) = and (eqb x y) (same xs ys)
+same (x ∷ xs) (y ∷ ys) = eqb x y && same xs ys
 
 pub record Run : Type 0 where
   pub numbers : List ℕ
@@ -83,10 +80,6 @@ pub record Run : Type 0 where
 unfoldable pub afterOne : Run → Run
 afterOne r = record { numbers = r .numbers; count = suc (r .count) }
 
-unfoldable pub pickRun : Bool → Run → Run → Run
-pickRun true a b = a
-pickRun false a b = b
-
 -- The same by computation, of at most `fuel` sweeps. With the fuel that the bounds on sweeps give it never runs dry: its
 -- numbers and count are those of `Settles` (`renew-bound`, `visited-bound` and `lead-bound` of proofs/Laws.antt).
 unfoldable pub run : Rule → List Visit → ℕ → List ℕ → Run
@@ -94,17 +87,12 @@ run rule vs zero xs = record { numbers = xs; count = 0 }
 run rule vs (suc fuel) xs =
     let ys : List ℕ = sweep rule vs xs in
     let more : Run = afterOne (run rule vs fuel ys) in
-    pickRun (same ys xs) (record { numbers = ys; count = 1 }) more
+    pick (same ys xs) (record { numbers = ys; count = 1 }) more
 
 -- To compute a run of a closed system, say `unfolding sweep-open`.
 unfoldable pub sweep-open : ℕ
-unfolding isNever isOver or pick _⊕_ capped counted lesser at sums way least renew lower sweep sweeps and same afterOne pickRun run
+unfolding cost-open at sums way least renew lower sweep sweeps same afterOne run
 sweep-open = 0
-
--- The sum of all numbers of a table.
-unfoldable pub total : List ℕ → ℕ
-total [] = 0
-total (x ∷ xs) = x + total xs
 
 -- ---- what the theorems ask of the visits and of the numbers at the start
 

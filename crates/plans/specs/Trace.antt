@@ -1,8 +1,7 @@
 -- Sweeps that remember, for each node, the way by which its number was last lowered and the visit at which that was: what a
 -- cheapest plan is read off from ("the row is the one by which the sweeps last lowered the number, the first in library
--- order among equals at that visit").
--- Assumes nothing.
-use mathlib.Core.Bool.{Bool, true, false}
+-- order among equals at that visit"). No crate cites this page yet: request K3, which writes that plan out, rests on it and on
+-- proofs/Tracing.antt. Assumes nothing.
 use mathlib.Core.List.{List, [], _∷_, List·Memᴰ}
 use mathlib.Core.Logic.{_⊎_}
 use mathlib.Core.Option.{Option, none, some}
@@ -10,7 +9,7 @@ use mathlib.Core.Path.{_≡_}
 use Prim.Native.Nat.{ℕ, zero, suc, _<_}
 use lib.Dec.{leb, ltb}
 use lib.ListN.{length, getD, set, replicate}
-use Rattle.cost.specs.Cost.{pick}
+use Rattle.reading.specs.Choice.{pick}
 use Rattle.plans.specs.System.{Way, Visit}
 use Rattle.plans.specs.Sweep.{at, way, least, Rule}
 
@@ -38,10 +37,6 @@ pub record Trace : Type 0 where
 unfoldable pub markAt : List (Option Mark) → ℕ → Option Mark
 markAt ms n = getD ms n none
 
-unfoldable pub pickMarks : Bool → List (Option Mark) → List (Option Mark) → List (Option Mark)
-pickMarks true a b = a
-pickMarks false a b = b
-
 -- The mark that a visit makes.
 unfoldable pub markOf : List ℕ → ℕ → Visit → Mark
 markOf xs t v =
@@ -57,7 +52,7 @@ traceVisit rule t v =
     record {
       numbers = rule (t .numbers) v;
       marks =
-          pickMarks (ltb (least (t .numbers) (v .ways)) (at (t .numbers) (v .node)))
+          pick (ltb (least (t .numbers) (v .ways)) (at (t .numbers) (v .node)))
           (set (t .marks) (v .node) (some (markOf (t .numbers) (t .time) v)))
           (t .marks);
       time = suc (t .time);
@@ -77,7 +72,7 @@ untraced xs = record { numbers = xs; marks = replicate (length xs) none; time = 
 
 -- To compute the marks of a closed system, say `unfolding sweep-open trace-open`.
 unfoldable pub trace-open : ℕ
-unfolding firstPlace wayAt markAt pickMarks markOf traceVisit traceSweep traceSweeps untraced
+unfolding firstPlace wayAt markAt markOf traceVisit traceSweep traceSweeps untraced
 trace-open = 0
 
 -- What holds of a mark of the node `n` where sweeps have settled and the number is a figure. `xs` are the numbers at the

@@ -1,7 +1,7 @@
--- A table during one call: its holder has it as a `&κ mut [u32]` and hands it on as a `&κ′ mut [u32]` under a name δ of its own,
--- for a lifetime κ′ that ends with the call. `Withheld` is what the holder keeps of it meanwhile: its own borrow, open, the loan to
--- κ′, and both parts of its ghost value. From the rules of the logic's `denote.Lend` and `denote.Index`.
--- Assumes `Given`.
+-- A table during one call: its holder has it as a `&κ mut [u32]` and hands it on as a `&κ′ mut [u32]` under a name δ of its
+-- own, for a lifetime κ′ that ends with the call. `Withheld` is what the holder keeps of it meanwhile: its own borrow, open,
+-- the loan to κ′, and both parts of its ghost value. From the rules of the logic's `denote.Lend` and `denote.Index`. Assumes
+-- `Given`.
 use base.Fml.{Fml, GName, Lft, Share, fauth, fdead, flent, flft, fobor, fobs, fsep}
 use base.Logic.{SProp, ent, ex, sep}
 use denote.Builtin.{u32}

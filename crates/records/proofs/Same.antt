@@ -8,14 +8,17 @@ use Prim.Native.Nat.{ℕ, _≤_}
 use lib.Dec.{ltb}
 use lib.ListN.{length}
 use borrow.Author.Tests.{le-ltb}
+use Rattle.sizes.specs.Sizes as Size
+use Rattle.reading.specs.Numbers as No
 use Rattle.text.specs.Bytes.{bytes}
 use Rattle.text.specs.Lines.{lines}
-use Rattle.text.specs.Refusal.{Read, refused, read, _>>=_, _>>_, weigh}
+use Rattle.reading.specs.Refusal.{Read, refused, read, _>>=_, _>>_, weigh}
 use Rattle.cell_library.specs.Cells.{Cell}
 use Rattle.cell_library.specs.Library.{library}
 use Rattle.netlist.specs.Netlist.{Statement, admitted, lineForms, netlist, netlist-open}
-use Rattle.analysis.specs.Demands.{Promised}
-use Rattle.analysis.specs.Outcome.{Accepted, Lent, Summary, givenTexts, textLong, tableShort, conclude, reading, outcome, answer, left}
+use Rattle.outcome.specs.Demands.{Promised}
+use Rattle.outcome.specs.declared.Summary.{Summary}
+use Rattle.outcome.specs.Outcome.{Lent, givenTexts, textLong, tableShort, conclude, reading, entry, outcome, answer, left, leftFrom}
 use Rattle.records.specs.declared.Record.{Record}
 use Rattle.records.specs.Records.{allZero, pinsBefore, endsInZeros, markForm, gateForm, recordForm, recordForms, fromRecords}
 use Rattle.records.specs.Outcome.{givenRecords}
@@ -39,22 +42,30 @@ module _ (lib net : List ℕ) (rs : List Record) (same : SaySame lib net rs) whe
   unfolding reading givenRecords givenTexts
   same-reading space = by-library space (library lib) refl
 
-  module _ (short : length net ≤ 65535) where
+  module _ (short : length net ≤ Size.textBytes) where
     same-long : givenRecords lib rs .long ≡ givenTexts lib net .long
     unfolding givenRecords givenTexts textLong
-    same-long = sym (rw (le-ltb 65535 (length net) short) (or-false (ltb 65535 (length lib))))
+    same-long = sym (rw (le-ltb Size.textBytes (length net) short) (or-false (ltb Size.textBytes (length lib))))
+
+    same-entry : (m : Lent) → entry (givenRecords lib rs) m ≡ entry (givenTexts lib net) m
+    unfolding entry
+    same-entry m = ap (λ (t : Bool). weigh 0 ((No.tableShort, tableShort m) ∷ (No.textLong, t) ∷ [])) same-long
 
     pub same-outcome : (m : Lent) → outcome (givenRecords lib rs) m ≡ outcome (givenTexts lib net) m
     unfolding outcome
-    same-outcome m =
-        ap (λ (t : Bool). weigh 0 ((1, tableShort m) ∷ (2, t) ∷ []) >> reading (givenRecords lib rs) (length (m .report))) same-long
-        ∙ ap (λ (r : Read Accepted). weigh 0 ((1, tableShort m) ∷ (2, givenTexts lib net .long) ∷ []) >> r) (same-reading (length (m .report)))
+    same-outcome m = λ i. same-entry m i >> same-reading (length (m .report)) i
+
+    same-left : (m : Lent) → left (givenRecords lib rs) m ≡ left (givenTexts lib net) m
+    unfolding left
+    same-left m = λ i. leftFrom (same-entry m i) (same-reading (length (m .report)) i) m
 
     -- Of two calls that keep their promises, which `analyse_records` and `analysis::analyse` do.
-    pub same-calls : (before after after′ : Lent) (said said′ : Read Summary) → Promised (givenRecords lib rs) before after said → Promised (givenTexts lib net) before after′ said′ → (said ≡ said′) × (after ≡ after′)
-    same-calls before after after′ said said′ p q =
-        let e = same-outcome before in
-        (p .answers ∙ ap answer e ∙ sym (q .answers), p .leaves ∙ ap (λ (o : Read Accepted). left o before) e ∙ sym (q .leaves))
+    pub same-calls : (before after after′ : Lent) (said said′ : Read Summary) → Promised (givenRecords lib rs) before after said
+        → Promised (givenTexts lib net) before after′ said′ → (said ≡ said′) × (after ≡ after′)
+    same-calls before after after′ said said′ p q = (
+      p .answers ∙ ap answer (same-outcome before) ∙ sym (q .answers),
+      p .leaves ∙ same-left before ∙ sym (q .leaves),
+    )
 
 -- An input, an output and a line of bad form, said both ways; the cells do not matter to them.
 marks-same : (lib : List ℕ) → SaySame lib (bytes "input,1\noutput,2\ninput,01\n")

@@ -1,4 +1,5 @@
--- A `&κ mut [T]` that is lent whole as a `&κ′ [T]` for a lifetime κ′ of a call, and comes back as it was: `Borrow/Rule/Slice/Reshare.antt`'s two entailments, of what a parameter owns. It says nothing of the crate.
+-- A `&κ mut [T]` that is lent whole as a `&κ′ [T]` for a lifetime κ′ of a call, and comes back as it was:
+-- `Borrow/Rule/Slice/Reshare.antt`'s two entailments, of what a parameter owns. It says nothing of the crate.
 --     lends-shared     own (the `&κ mut [T]` ((b, o), γ, ys)) ∗ [κ]_q  ⊢ ⇛ ∃ γ₁. own (the `&κ′ [T]` ((b, o), γ₁, ys)) ∗ keptS
 --     shared-back      [†κ′] ∗ keptS  ⊢ ⇛ (own (the `&κ mut [T]` ((b, o), γ, ys)) ∗ [κ]_q)
 -- Assumes `Given`.

@@ -6,10 +6,10 @@ use mathlib.Core.List.{List, [], _∷_}
 use mathlib.Core.Option.{Option, none, some}
 use Prim.Native.Nat.{ℕ}
 use lib.Dec.{eqb}
-use Rattle.text.specs.Class.{pick}
-use Rattle.text.specs.Refusal.{Read}
+use Rattle.reading.specs.Choice.{pick}
+use Rattle.reading.specs.Refusal.{Read}
 use Rattle.cell_library.specs.Cells.{Cell}
-use Rattle.netlist.specs.Netlist.{Statement, input, output, gate, admitted}
+use Rattle.netlist.specs.Netlist.{Mark, input, output, Statement, mark, gate, admitted}
 use Rattle.records.specs.declared.Record.{Record}
 
 unfoldable pub allZero : List ℕ → Bool
@@ -28,8 +28,8 @@ endsInZeros (p ∷ ps) = pick (eqb p 0) (allZero ps) (endsInZeros ps)
 
 -- "10 being an unknown kind, an unused field not 0, or a pin after a 0": none is bad form. An input or an output uses its
 -- line alone.
-unfoldable pub markForm : Statement → Record → Option Statement
-markForm s r = pick (eqb (r .cell) 0 && allZero (r .pins)) (some s) none
+unfoldable pub markForm : Mark → Record → Option Statement
+markForm m r = pick (eqb (r .cell) 0 && allZero (r .pins)) (some (mark m (r .line))) none
 
 unfoldable pub gateForm : Record → Option Statement
 gateForm r =
@@ -38,8 +38,8 @@ gateForm r =
 
 unfoldable pub recordForm : Record → Option Statement
 recordForm r =
-    pick (eqb (r .kind) 0) (markForm (input (r .line)) r)
-    (pick (eqb (r .kind) 1) (markForm (output (r .line)) r)
+    pick (eqb (r .kind) 0) (markForm input r)
+    (pick (eqb (r .kind) 1) (markForm output r)
     (pick (eqb (r .kind) 2) (gateForm r) none))
 
 unfoldable pub recordForms : List Record → List (Option Statement)

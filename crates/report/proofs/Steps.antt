@@ -1,59 +1,19 @@
--- What the proofs of the functions that write at a cursor share: bytes put behind bytes.
+-- What the functions that write a report share: a cost more, a line more, and the whole report.
 -- Assumes nothing.
 use mathlib.Core.Bool.{Bool}
 use mathlib.Core.List.{List, [], _∷_, _++_, append-nil, append-assoc}
-use lib.Dec.{ltb}
-use borrow.Author.Tests.{ltb-true, ltb-false, le-leb, lt-leb}
-use mathlib.Core.Option.{none, some}
-use mathlib.Core.Path.{_≡_, refl, sym, ap, _∙_}
-use Prim.Native.Nat.{ℕ, zero, suc, _+_, _≤_, _<_, min}
-use Rattle.text.proofs.Laws.{by-test}
-use native.Mathlib.Nat.{zero-add, add-zero, add-suc, suc-add}
+use borrow.Author.Tests.{le-leb, lt-leb}
+use mathlib.Core.Path.{_≡_, refl, sym, ap}
+use Prim.Native.Nat.{ℕ, zero, suc, _+_, _≤_, _<_}
+use native.Mathlib.Nat.{add-zero, add-suc, suc-add}
 use native.Mathlib.Omega.{arith}
-use lib.ListN.{length, getD, set, drop, replicate, length-append}
-use lib.Seq.{sets, length-sets, set-out, sets-eq}
-use Rattle.text.specs.Class.{pick}
-use Rattle.report.specs.Put.{Put}
+use lib.ListN.{length, getD, replicate}
+use Rattle.reading.specs.Choice.{pick}
+use Rattle.reading.specs.Numbers as No
+use Rattle.reading.specs.Refusal.{refused, read}
+use Rattle.writer.specs.Put.{Put}
+use Rattle.writer.proofs.Steps.{put-front}
 use Rattle.report.specs.Report.{costBytes, costsFrom, lineBytes, linesBytes, written, reportAfter}
-
-sets-past : (vs l : List ℕ) (i : ℕ) → length l ≤ i → sets l i vs ≡ l
-sets-past [] l i h = refl
-sets-past (a ∷ vs) l i h = rw (set-out l i a h) (sets-past vs l (suc i) (omega arith))
-
-sets-append : (vs ws l : List ℕ) (i : ℕ) → sets l i (vs ++ ws) ≡ sets (sets l i vs) (i + length vs) ws
-sets-append [] ws l i = rw (add-zero i) refl
-sets-append (a ∷ vs) ws l i =
-    sets-append vs ws (set l i a) (suc i)
-    ∙ ap (λ (k : ℕ). sets (sets (set l i a) (suc i) vs) k ws) (suc-add i (length vs) ∙ sym (add-suc i (length vs)))
-
--- all the places past the end are as one
-sets-same : (vs l : List ℕ) (i j : ℕ) → min i (length l + 1) ≡ min j (length l + 1) → sets l i vs ≡ sets l j vs
-sets-same vs l i j h =
-    by-test (ltb i (length l))
-    (λ within. let inside : i < length l = ltb-true i (length l) within in ap (λ (k : ℕ). sets l k vs) (omega arith))
-    (λ past.
-    let out : length l ≤ i = ltb-false i (length l) past in
-    sets-past vs l i out ∙ sym (sets-past vs l j (omega arith)))
-
-pub put-none : (at : ℕ) (l : List ℕ) → Put at [] l l at
-put-none at l = record { stored = refl; moved = ap (λ (k : ℕ). min k (length l + 1)) (sym (add-zero at)) }
-
-pub put-then : {at next end : ℕ} {vs ws l l₁ l₂ : List ℕ} → Put at vs l l₁ next → Put next ws l₁ l₂ end → Put at (vs ++ ws) l l₂ end
-put-then {at} {next} {end} {vs} {ws} {l} {l₁} {l₂} p q =
-    let e : length l₁ ≡ length l = ap length (p .stored) ∙ length-sets l at vs in
-    let m : min end (length l + 1) ≡ min (next + length ws) (length l + 1) = rw e at (q .moved) in
-    record {
-      stored =
-          q .stored
-          ∙ sets-same ws l₁ next (at + length vs) (rw e (p .moved))
-          ∙ ap (λ (k : List ℕ). sets k (at + length vs) ws) (p .stored)
-          ∙ sym (sets-append vs ws l at);
-      moved = rw (length-append vs ws) (omega (arith, p .moved));
-    }
-
--- bytes that fit stand in the buffer's front
-put-front : {next : ℕ} {vs l l₁ : List ℕ} → Put 0 vs l l₁ next → length vs ≤ length l → l₁ ≡ vs ++ drop (length vs) l
-put-front {next} {vs} {l} {l₁} p h = p .stored ∙ sets-eq vs l 0 (rw zero-add h) ∙ rw zero-add refl
 
 -- ---- a cost more, a line more
 
@@ -77,14 +37,15 @@ lines-more mentioned numbers (suc n) l =
 
 -- ---- the whole report
 
-pub put-within : {next : ℕ} {report before after : List ℕ} → Put 0 report before after next → next ≤ length before → (some next ≡ written report before) × (after ≡ reportAfter report before)
+pub put-within : {next : ℕ} {report before after : List ℕ} → Put 0 report before after next → next ≤ length before → (read next ≡ written report before) × (after ≡ reportAfter report before)
 unfolding written reportAfter pick
 put-within {next} {report} {before} {after} p h =
     let end : next ≡ length report = omega (arith, p .moved) in
     let fits : length report ≤ length before = omega arith in
-    rw (le-leb (length report) (length before) fits) (ap (λ (n : ℕ). some n) end, put-front p fits)
+    rw (le-leb (length report) (length before) fits) (ap (λ (n : ℕ). read n) end, put-front p fits)
 
-pub put-past : {next : ℕ} {report before after : List ℕ} → Put 0 report before after next → length before < next → (none ≡ written report before) × (replicate (length before) 0 ≡ reportAfter report before)
+pub put-past : {next : ℕ} {report before after : List ℕ} → Put 0 report before after next → length before < next
+    → (refused No.reportLong 0 ≡ written report before) × (replicate (length before) 0 ≡ reportAfter report before)
 unfolding written reportAfter pick
 put-past {next} {report} {before} {after} p h =
     let long : length before < length report = omega (arith, p .moved) in

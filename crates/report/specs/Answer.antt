@@ -2,32 +2,32 @@
 -- Assumes nothing.
 use mathlib.Core.Bool.{Bool, not}
 use mathlib.Core.List.{List}
-use mathlib.Core.Option.{Option, none, some}
-use Prim.Native.Nat.{ℕ, _+_}
+use mathlib.Core.Path.{_≡_}
+use Prim.Native.Nat.{ℕ}
 use lib.Dec.{eqb}
 use lib.ListN.{getD}
-use Rattle.report.specs.Report.{Counts, reportBytes}
-use Rattle.report.specs.declared.Sweeps.{Sweeps}
+use Rattle.sizes.specs.Places.{mentionPlace}
+use Rattle.reading.specs.Numbers as No
+use Rattle.reading.specs.Refusal.{Read, refused, read}
+use Rattle.report.specs.Report.{reportBytes, written, reportAfter}
+use Rattle.calculation.specs.declared.Counts.{Counts}
 use Rattle.report.specs.declared.Written.{Written}
 use Rattle.report.specs.declared.Written.the-variants.{Length, TooLong}
 
--- "Lines mentioned in the netlist": the marks stand in a table, the mark of line 0 at a first place; 0 is no mark.
-unfoldable pub marked : List ℕ → ℕ → ℕ → Bool
-marked table first l = not (eqb (getD table (first + l) 0) 0)
-
-unfoldable pub countsOf : Sweeps → Counts
-countsOf s = record { cc = s .cc; sc = s .sc; co = s .co; so = s .so }
+-- "Lines mentioned in the netlist": those that the netlist table marks; 0 is no mark.
+unfoldable pub marked : List ℕ → ℕ → Bool
+marked netlist l = not (eqb (getD netlist (mentionPlace l) 0) 0)
 
 -- The report of a call's arguments.
-abbrev pub reportOf : List ℕ → ℕ → List ℕ → Sweeps → List ℕ
-reportOf marks first numbers sweeps = reportBytes (marked marks first) numbers (countsOf sweeps)
+abbrev pub reportOf : List ℕ → List ℕ → Counts → List ℕ
+reportOf netlist numbers sweeps = reportBytes (marked netlist) numbers sweeps
 
--- "17 report longer than its buffer" is `TooLong`; else the report's length.
-unfoldable pub writtenRead : Written → Option ℕ
-writtenRead (Length n) = some n
-writtenRead TooLong = none
+-- The report's length, or "17 report longer than its buffer", at "report (line 0)".
+unfoldable pub writtenRead : Written → Read ℕ
+writtenRead (Length n) = read n
+writtenRead TooLong = refused No.reportLong 0
 
--- Opens the page's definitions, where a figure computes with them.
-unfoldable pub answer-open : ℕ
-unfolding marked countsOf writtenRead
-answer-open = 0
+-- What a call that writes this report into a buffer answers and leaves.
+pub record Reported (report before after : List ℕ) (said : Written) : Type 0 where
+  pub answers : writtenRead said ≡ written report before
+  pub leaves : after ≡ reportAfter report before

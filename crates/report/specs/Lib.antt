@@ -1,3 +1,2 @@
 pub mod Report
 pub mod Answer
-pub mod Put

@@ -2,22 +2,18 @@
 -- Assumes nothing.
 use mathlib.Core.Bool.{Bool}
 use mathlib.Core.List.{List, [], _∷_, _++_}
-use mathlib.Core.Option.{Option, none, some}
-use Prim.Native.Nat.{ℕ, zero, suc, _+_, _*_, _-_, _/_, _%_}
-use lib.Dec.{leb, ltb, eqb}
+use Prim.Native.Nat.{ℕ, zero, suc}
+use lib.Dec.{leb, eqb}
 use lib.ListN.{length, getD, drop, replicate}
+use Rattle.sizes.specs.Sizes as Size
+use Rattle.sizes.specs.Places.{linePlace}
 use Rattle.text.specs.Bytes.{bytes, bytes-open}
-use Rattle.text.specs.Class.{pick, class-open}
+use Rattle.reading.specs.Choice.{pick}
+use Rattle.reading.specs.Numbers as No
+use Rattle.reading.specs.Refusal.{Read, refused, read}
+use Rattle.writer.specs.Decimal.{decimalBytes, decimal-open}
+use Rattle.calculation.specs.declared.Counts.{Counts}
 use Rattle.cost.specs.Cost.{over, never}
-
--- A number in decimal, of at most so many digits more. (`decimal-value` of proofs/Laws.antt: read back it is the number.)
-unfoldable pub digits : ℕ → ℕ → List ℕ
-digits zero n = (48 + n % 10) ∷ []
-digits (suc more) n = pick (ltb n 10) ((48 + n) ∷ []) (digits more (n / 10) ++ ((48 + n % 10) ∷ []))
-
--- Every number of a report is below 10,000,000,000, and has ten digits at the most.
-unfoldable pub decimalBytes : ℕ → List ℕ
-decimalBytes n = digits 9 n
 
 -- "costs as decimals, `over` or `never`"; a number above never counts as never.
 unfoldable pub costBytes : ℕ → List ℕ
@@ -30,19 +26,12 @@ costsFrom numbers (suc n) place = (44 ∷ costBytes (getD numbers place 0)) ++ c
 
 -- `4,2,4,0,0,0,0`: the line and its six costs; "Every printed line ends with byte 10."
 unfoldable pub lineBytes : List ℕ → ℕ → List ℕ
-lineBytes numbers l = decimalBytes l ++ (costsFrom numbers 6 ((l - 1) * 6) ++ (10 ∷ []))
+lineBytes numbers l = decimalBytes l ++ (costsFrom numbers Size.costs (linePlace l) ++ (10 ∷ []))
 
 -- "Lines mentioned in the netlist, ascending": so many lines from l on, those that are mentioned.
 unfoldable pub linesBytes : (ℕ → Bool) → List ℕ → ℕ → ℕ → List ℕ
 linesBytes mentioned numbers zero l = []
 linesBytes mentioned numbers (suc n) l = pick (mentioned l) (lineBytes numbers l) [] ++ linesBytes mentioned numbers n (suc l)
-
--- The four sweep counts.
-pub record Counts : Type 0 where
-  pub cc : ℕ
-  pub sc : ℕ
-  pub co : ℕ
-  pub so : ℕ
 
 -- "sweeps for CC, SC, CO, SO"
 unfoldable pub sweepsBytes : Counts → List ℕ
@@ -54,11 +43,11 @@ unfoldable pub header : List ℕ
 header = bytes "line,cc0,cc1,sc0,sc1,co,so" ++ (10 ∷ [])
 
 unfoldable pub reportBytes : (ℕ → Bool) → List ℕ → Counts → List ℕ
-reportBytes mentioned numbers k = header ++ (linesBytes mentioned numbers 1000 1 ++ sweepsBytes k)
+reportBytes mentioned numbers k = header ++ (linesBytes mentioned numbers Size.lines 1 ++ sweepsBytes k)
 
--- "17 report longer than its buffer": the report's length, or none where it does not fit.
-unfoldable pub written : List ℕ → List ℕ → Option ℕ
-written report before = pick (leb (length report) (length before)) (some (length report)) none
+-- The report's length; "17 report longer than its buffer", at "report (line 0)".
+unfoldable pub written : List ℕ → List ℕ → Read ℕ
+written report before = pick (leb (length report) (length before)) (read (length report)) (refused No.reportLong 0)
 
 -- "Report bytes past its end keep their values"; a buffer too short is left zero.
 unfoldable pub reportAfter : List ℕ → List ℕ → List ℕ
@@ -67,5 +56,5 @@ reportAfter report before =
 
 -- Opens the page's definitions, where a figure computes with them.
 unfoldable pub report-open : ℕ
-unfolding bytes-open class-open digits decimalBytes costBytes costsFrom lineBytes linesBytes sweepsBytes header reportBytes written reportAfter
+unfolding bytes-open decimal-open costBytes costsFrom lineBytes linesBytes sweepsBytes header reportBytes written reportAfter
 report-open = 0

@@ -1,14 +1,3 @@
-pub mod Sweeping
-pub mod Placing
-pub mod Visiting
-pub mod Bounding
-pub mod Planning
-pub mod Exactness
-pub mod Figures
-pub mod Laws
-pub mod Columns
-pub mod Rows
-pub mod Naming
 pub mod Visits
 pub mod Running
 pub mod Starting

@@ -7,9 +7,9 @@ use Prim.Native.Nat.{ℕ, suc, _+_, _-_, _^_, _≤_, _<_}
 use native.Mathlib.Omega.{arith}
 use Rattle.plans.specs.System.{Visit}
 use Rattle.plans.specs.Sweep.{Rule, Settles}
-use Rattle.sweep.specs.Changes.{Going}
+use Rattle.calculation.specs.Changes.{Going}
 use Rattle.sweep.specs.Runs.{Swept, Runs}
-use Rattle.sweep.proofs.Sweeping.{going-first, going-on, going-ends, going-within}
+use Rattle.calculation.proofs.Sweeping.{going-first, going-on, going-ends, going-within}
 
 -- Before the sweep that counts `count`, all sweeps before it changed something.
 abbrev pub Before : Rule → List Visit → List ℕ → ℕ → List ℕ → Type 0

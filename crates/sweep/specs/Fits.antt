@@ -1,31 +1,34 @@
--- What the inner functions ask of the tables: that every place which they read or write is there. `calculate` shows it once,
--- from accepted cells and statements, and no loop tests it.
+-- What visits, sweeps and runs ask of the tables and the numbers (specs/Fits.antt of crate `gates`).
 -- Assumes nothing.
 use mathlib.Core.List.{List}
-use Prim.Native.Nat.{ℕ, _+_, _*_, _≤_, _<_}
-use lib.ListN.{length, getD}
-use Rattle.cost.specs.Cost.{over}
-use Rattle.sweep.specs.Tables.{gateAt, cellAt, groupAt, gateCell, gatePins, gateLines}
+use mathlib.Core.Path.{_≡_}
+use Prim.Native.Nat.{ℕ, _≤_, _<_}
+use lib.ListN.{length}
+use Rattle.sizes.specs.Sizes as Size
+use Rattle.gates.specs.Fits.{SumFits, GateFits, TablesFit}
+use Rattle.sweep.specs.Order.{ruleOf, sweepVisits}
+use Rattle.sweep.specs.Runs.{Runs}
 
--- The line of a gate and those of its pins, each with its six numbers in a table of `size` numbers.
-pub record LinesFit (lines : List ℕ) (pins size : ℕ) : Type 0 where
-  pub count : pins ≤ 8
-  pub least : (i : ℕ) → i ≤ pins → 1 ≤ getD lines i 0
-  pub most : (i : ℕ) → i ≤ pins → getD lines i 0 * 6 ≤ size
+-- One visit: a group at a gate's lines, and the place of its number.
+pub record VisitFits (kind : ℕ) (library : List ℕ) (group : ℕ) (lines : List ℕ) (pins : ℕ) (numbers : List ℕ) (place : ℕ) : Type 0 where
+  pub sumFits : SumFits kind library group lines pins numbers
+  pub placeFits : place < Size.numbers
 
--- A group and its rows, in the library table.
-pub record GroupFits (library : List ℕ) (group : ℕ) : Type 0 where
-  pub room : group + 1 + 2 * getD library group 0 ≤ length library
-  pub depth : (i : ℕ) → i < getD library group 0 → getD library (group + 1 + 2 * i) 0 ≤ over
+-- The visits of one gate.
+pub record GateVisitsFit (role kind : ℕ) (library netlist numbers : List ℕ) (gate : ℕ) : Type 0 where
+  pub roleFits : role ≤ 1
+  pub kindFits : kind ≤ 1
+  pub gateFits : GateFits library netlist gate
+  pub size : length numbers ≡ Size.numbers
 
-pub record GateFits (library netlist : List ℕ) (size g : ℕ) : Type 0 where
-  pub room : gateAt g + 10 ≤ length netlist
-  pub cell : cellAt (gateCell netlist g) + 670 ≤ length library
-  pub lines : LinesFit (gateLines netlist g) (gatePins library netlist g) size
-  pub settings : (kind v : ℕ) → kind ≤ 1 → v ≤ 1 → GroupFits library (groupAt (gateCell netlist g) (2 * kind + v))
-  pub observings : (kind i : ℕ) → kind ≤ 1 → i < gatePins library netlist g → GroupFits library (groupAt (gateCell netlist g) (4 + 8 * kind + i))
+-- A sweep.
+pub record SweepFits (role kind : ℕ) (library netlist numbers : List ℕ) : Type 0 where
+  pub roleFits : role ≤ 1
+  pub kindFits : kind ≤ 1
+  pub tablesFit : TablesFit library netlist
+  pub size : length numbers ≡ Size.numbers
 
--- The tables, with numbers of this size.
-pub record TablesFit (library netlist : List ℕ) (size : ℕ) : Type 0 where
-  pub some : 1 ≤ length netlist
-  pub gates : (g : ℕ) → g < getD netlist 0 0 → GateFits library netlist size g
+-- Sweeps until nothing changes.
+pub record RunFits (role kind : ℕ) (library netlist numbers : List ℕ) : Type 0 where
+  pub sweepFits : SweepFits role kind library netlist numbers
+  pub runs : Runs (ruleOf role) (sweepVisits role kind library netlist) numbers

@@ -1,12 +1,5 @@
-pub mod Sound
-pub mod Nodes
-pub mod Ways
-pub mod Calculation
-pub mod Plans
-pub mod Changes
-pub mod Settled
-pub mod Figures
-pub mod Tables
-pub mod Fits
+pub mod Order
+pub mod Start
 pub mod Runs
+pub mod Fits
 pub mod Ready

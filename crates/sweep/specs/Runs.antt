@@ -1,14 +1,21 @@
 -- What the calls that visit, sweep and run leave in the numbers and say.
 -- Assumes nothing.
-use mathlib.Core.Bool.{Bool, false}
+use mathlib.Core.Bool.{Bool, false, not}
 use mathlib.Core.List.{List}
 use mathlib.Core.Logic.{_↔_}
 use mathlib.Core.Path.{_≡_}
 use Prim.Native.Nat.{ℕ, _^_, _<_}
+use lib.Dec.{eqb}
+use lib.ListN.{set}
 use Rattle.plans.specs.System.{Visit}
-use Rattle.plans.specs.Sweep.{Rule, sweep, Rests}
+use Rattle.plans.specs.Sweep.{at, Rule, sweep, Rests}
 use Rattle.plans.specs.Statements.{SettlesWithin}
-use Rattle.sweep.specs.Changes.{alters, changes}
+use Rattle.calculation.specs.Changes.{alters, changes}
+
+-- In the numbers `xs` a number was stored at a place, which left `ys`, and it was said whether another stood there.
+pub record Stored (place number : ℕ) (xs ys : List ℕ) (changed : Bool) : Type 0 where
+  pub numbers : ys ≡ set xs place number
+  pub flag : changed ≡ not (eqb number (at xs place))
 
 -- From the numbers `xs`, a visit by this rule left `ys`, and said whether it changed a number.
 pub record Renewed (rule : Rule) (v : Visit) (xs ys : List ℕ) (changed : Bool) : Type 0 where

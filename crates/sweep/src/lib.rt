@@ -1,56 +1,49 @@
 // Goldstein's calculation, document 01, "Sweeps": the start, and sweeps until the first that changes
 // nothing, for CC, SC, CO and SO.
 //
-// Open to others: `calculate`, over the library and the netlist table of accepted texts, and
-// `Counts`, its answer. specs/Ready.antt says what it asks and what it leaves, specs/Calculation.antt
-// what the numbers and counts are. Starting and running stay apart: `start` lays the start, and each
-// of the four runs goes on from the numbers that stand there. No inner function tests a bound: what
-// each asks of the tables (specs/Fits.antt) is shown once, by `calculate`.
+// For the crates above: `calculate`, over the library and the netlist table of accepted texts, which
+// answers the type `Counts` of crate `calculation`. specs/Ready.antt says what it asks and what it
+// leaves. Starting and running stay apart: `start` lays the start, and each of the four runs goes on
+// from the numbers that stand there. No inner function tests a bound: what each asks of the tables
+// (specs/Fits.antt) is shown once, by `calculate`.
 //
-// Modules `spatial` and `temporal` add up rows, each in costs of its own kind. All that does not add
-// goes by the kind's number, 0 combinational and 1 sequential.
-mod spatial;
-mod temporal;
-
+// All goes by a role's number, 0 setting (CC, SC) and 1 observing (CO, SO), and by a kind's number,
+// 0 combinational (CC, CO) and 1 sequential (SC, SO).
+use calculation::Counts;
 use cost::NEVER;
-use cost::Spatial;
-use cost::Temporal;
+use gates::Sum;
+use gates::cell_place;
+use gates::least_sum;
+use gates::lesser_of;
+use gates::lines_of;
+use gates::number_of;
+use gates::places::COMBINATIONAL;
+use gates::places::SEQUENTIAL;
+use gates::places::wide;
+use gates::visits::OBSERVING;
+use gates::visits::SETTING;
+use gates::visits::visit_count;
+use gates::visits::visit_group;
+use gates::visits::visit_place;
 ghost use mathlib.Core.Path.{_≡_};
-ghost use mathlib.Core.Bool.{not, _||_};
+ghost use mathlib.Core.Bool.{_||_};
 ghost use mathlib.Core.List.{List, _++_};
 ghost use Prim.Native.Nat.{_+_, _*_, _-_, _≤_, _<_};
-ghost use lib.Count.{trailingZeros};
-ghost use lib.Dec.{eqb};
-ghost use lib.ListN.{length, set, drop};
+ghost use lib.ListN.{length, drop};
 ghost use lib.Seq.{sets};
-ghost use Rattle.plans.specs.Sweep.{at, least, Settles, renew, lower};
+ghost use Rattle.sizes.specs.Sizes as Size;
 ghost use Rattle.cost.specs.Cost.{lesser};
+ghost use Rattle.plans.specs.Sweep.{at, Settles};
 ghost use Rattle.cell_library.specs.Cells.{Cell};
 ghost use Rattle.netlist.specs.Netlist.{Statement};
-ghost use Rattle.sweep.specs.Calculation.{analysed};
+ghost use Rattle.calculation.specs.Calculation.{analysed};
+ghost use Rattle.gates.specs.Sums.{sumNumber};
+ghost use Rattle.gates.specs.Tables.{byRole, groupVisit};
+ghost use Rattle.sweep.specs.Fits.{VisitFits, GateVisitsFit, SweepFits, RunFits};
+ghost use Rattle.sweep.specs.Order.{ruleOf, gateVisits, gateOfTurn, sweepVisits};
 ghost use Rattle.sweep.specs.Ready.{Holds, Ready, Calculated, whole};
-ghost use Rattle.sweep.specs.Runs.{Renewed, Swept, Runs};
-ghost use Rattle.sweep.specs.Tables.{settingPlace, observingPlace, columnPlace, groupWays, groupVisit, gateAt, cellAt, gateCell, gateLines, valueVisits, gatePinVisits, settingSweep, observingSweep, startNumber, lineStart, linesStart};
-ghost use Rattle.sweep.specs.Fits.{LinesFit, GroupFits, GateFits, TablesFit};
-
-// How many sweeps each of the four runs took.
-pub struct Counts {
-    pub cc: u32,
-    pub sc: u32,
-    pub co: u32,
-    pub so: u32,
-}
-
-// The kinds of cost, as the places of both tables count them.
-const COMBINATIONAL: usize = 0;
-
-const SEQUENTIAL: usize = 1;
-
-fn wide(x: u32) -> usize
-    ensures { λ r. ⌜ r ≡ x ⌝ }
-{
-    x as usize
-}
+ghost use Rattle.sweep.specs.Runs.{Stored, Renewed, Swept};
+ghost use Rattle.sweep.specs.Start.{startNumber, lineStart, linesStart};
 
 fn either(a: bool, b: bool) -> bool
     ensures { λ r. ⌜ r ≡ (a || b) ⌝ }
@@ -58,89 +51,10 @@ fn either(a: bool, b: bool) -> bool
     if a { true } else { b }
 }
 
-// The lowest named column of a row that names one, column by column.
-fn lowest(columns: u32) -> u32
-    requires { ⌜ 0 < columns ⌝ }
-    ensures { λ r. ⌜ r ≡ trailingZeros 32 columns ⌝ }
-{
-    let mut rest = columns;
-    let mut column: u32 = 0;
-    while rest % 2 == 0 {
-        rest = rest / 2;
-        column += 1;
-    }
-    column
-}
-
-// The place of a line at a value, in the numbers table.
-fn setting_place(kind: usize, line: u32, value: usize) -> usize
-    requires { ⌜ (1 ≤ line) × (kind ≤ 1) × (value ≤ 1) ⌝ }
-    ensures { λ r. ⌜ r ≡ settingPlace kind line value ⌝ }
-{
-    (wide(line) - 1) * 6 + 2 * kind + value
-}
-
-// The place of a line observed.
-fn observing_place(kind: usize, line: u32) -> usize
-    requires { ⌜ (1 ≤ line) × (kind ≤ 1) ⌝ }
-    ensures { λ r. ⌜ r ≡ observingPlace kind line ⌝ }
-{
-    (wide(line) - 1) * 6 + 4 + kind
-}
-
-// The place of what a column asks for at a gate with so many pins, whose lines these are: its own,
-// then its pins'.
-fn column_place(kind: usize, lines: &[u32; 9], pins: usize, column: u32) -> usize
-    requires { ⌜ (kind ≤ 1) × LinesFit (now lines) pins 6000 ⌝ }
-    ensures { λ r. ⌜ r ≡ columnPlace kind (now (lines .entry)) pins column ⌝ }
-{
-    let back = wide(column) / 2;
-    if back <= pins {
-        setting_place(kind, lines[pins - back], 1 - wide(column) % 2)
-    } else {
-        observing_place(kind, lines[0])
-    }
-}
-
-// The least row sum of a group, by the cost's kind.
-fn least_sum(
-    kind: usize,
-    library: &[u32],
-    group: usize,
-    lines: &[u32; 9],
-    pins: usize,
-    numbers: &[u32; 6000],
-) -> u32
-    requires { ⌜ (kind ≤ 1) × GroupFits (now library) group × LinesFit (now lines) pins 6000
-        × (length (now numbers) ≡ 6000) ⌝ }
-    ensures { λ r.
-        ⌜ r ≡ least (now (numbers .entry))
-        (groupWays kind (now (lines .entry)) pins (now (library .entry)) group) ⌝ }
-{
-    if kind == COMBINATIONAL {
-        spatial::least_sum(library, group, lines, pins, numbers).0
-    } else {
-        temporal::least_sum(library, group, lines, pins, numbers).0
-    }
-}
-
-// The lesser of two costs of one kind.
-fn lesser_of(kind: usize, a: u32, b: u32) -> u32
-    ensures { λ r. ⌜ r ≡ lesser a b ⌝ }
-{
-    if kind == COMBINATIONAL {
-        Spatial(a).lesser(Spatial(b)).0
-    } else {
-        Temporal(a).lesser(Temporal(b)).0
-    }
-}
-
 // Stores a number, and says whether another stood there.
-fn store(numbers: &mut [u32; 6000], place: usize, number: u32) -> bool
-    requires { ⌜ (place < 6000) × (length (now numbers) ≡ 6000) ⌝ }
-    ensures { λ r.
-        ⌜ (now (numbers .exit) ≡ set (now (numbers .entry)) place number)
-        × (r ≡ not (eqb number (at (now (numbers .entry)) place))) ⌝ }
+fn store(numbers: &mut [u32; sizes::NUMBERS], place: usize, number: u32) -> bool
+    requires { ⌜ (place < Size.numbers) × (length (now numbers) ≡ Size.numbers) ⌝ }
+    ensures { λ r. ⌜ Stored place number (now (numbers .entry)) (now (numbers .exit)) r ⌝ }
 {
     if numbers[place] == number {
         return false;
@@ -149,198 +63,124 @@ fn store(numbers: &mut [u32; 6000], place: usize, number: u32) -> bool
     true
 }
 
-// A number "becomes the least row sum of its group"; whether it changed.
-fn renew_at(
+// What a number is renewed to: it "becomes the least row sum of its group" where lines are set, and
+// "keeps the lesser of its number and the row sums" where they are observed.
+fn renewal(role: usize, number: u32, sum: Sum) -> Sum
+    ensures { λ r. ⌜ sumNumber r ≡ byRole role (sumNumber sum) (lesser number (sumNumber sum)) ⌝ }
+{
+    if role == SETTING {
+        sum
+    } else {
+        lesser_of(number, sum)
+    }
+}
+
+// Renews the number at a place by the row sums of a group; whether it changed.
+fn visit(
+    role: usize,
     kind: usize,
     library: &[u32],
     group: usize,
-    lines: &[u32; 9],
+    lines: &[u32; sizes::GATE_LINES],
     pins: usize,
-    numbers: &mut [u32; 6000],
+    numbers: &mut [u32; sizes::NUMBERS],
     place: usize,
 ) -> bool
-    requires { ⌜ (kind ≤ 1) × GroupFits (now library) group × LinesFit (now lines) pins 6000
-        × (length (now numbers) ≡ 6000) × (place < 6000) ⌝ }
+    requires { ⌜ VisitFits kind (now library) group (now lines) pins (now numbers) place ⌝ }
     ensures { λ r.
-        ⌜ Renewed renew
+        ⌜ Renewed (ruleOf role)
         (groupVisit kind (now (lines .entry)) pins (now (library .entry)) group place)
         (now (numbers .entry)) (now (numbers .exit)) r ⌝ }
 {
-    let sum = least_sum(kind, library, group, lines, pins, numbers);
-    store(numbers, place, sum)
+    let least = least_sum(kind, library, group, lines, pins, numbers);
+    let sum = renewal(role, numbers[place], least);
+    store(numbers, place, number_of(sum))
 }
 
-// A number "keeps the lesser of its number and the row sums" of a group; whether it changed.
-fn lower_at(
-    kind: usize,
-    library: &[u32],
-    group: usize,
-    lines: &[u32; 9],
-    pins: usize,
-    numbers: &mut [u32; 6000],
-    place: usize,
-) -> bool
-    requires { ⌜ (kind ≤ 1) × GroupFits (now library) group × LinesFit (now lines) pins 6000
-        × (length (now numbers) ≡ 6000) × (place < 6000) ⌝ }
-    ensures { λ r.
-        ⌜ Renewed lower
-        (groupVisit kind (now (lines .entry)) pins (now (library .entry)) group place)
-        (now (numbers .entry)) (now (numbers .exit)) r ⌝ }
-{
-    let sum = least_sum(kind, library, group, lines, pins, numbers);
-    let kept = lesser_of(kind, numbers[place], sum);
-    store(numbers, place, kept)
-}
-
-// Where a gate's cell starts in the library table.
-fn cell_place(netlist: &[u32], gate: usize) -> usize
-    requires { ⌜ gateAt gate < length (now netlist) ⌝ }
-    ensures { λ r. ⌜ r ≡ cellAt (gateCell (now (netlist .entry)) gate) ⌝ }
-{
-    1 + wide(netlist[3001 + gate * 10]) * 670
-}
-
-// The line that a gate drives, then those that its pins read, 0 after the last.
-fn lines_of(netlist: &[u32], gate: usize) -> [u32; 9]
-    requires { ⌜ gateAt gate + 10 ≤ length (now netlist) ⌝ }
-    ensures { λ r. ⌜ r ≡ gateLines (now (netlist .entry)) gate ⌝ }
-{
-    let at = 3002 + gate * 10;
-    [
-        netlist[at],
-        netlist[at + 1],
-        netlist[at + 2],
-        netlist[at + 3],
-        netlist[at + 4],
-        netlist[at + 5],
-        netlist[at + 6],
-        netlist[at + 7],
-        netlist[at + 8],
-    ]
-}
-
-// A gate's visit for CC or SC, "the output's 0 before its 1"; whether a number changed.
-fn set_gate(
+// A gate's visits, "the output's 0 before its 1" or "pins in order"; whether a number changed.
+fn visit_gate(
+    role: usize,
     kind: usize,
     library: &[u32],
     netlist: &[u32],
-    numbers: &mut [u32; 6000],
+    numbers: &mut [u32; sizes::NUMBERS],
     gate: usize,
 ) -> bool
-    requires { ⌜ (kind ≤ 1) × GateFits (now library) (now netlist) 6000 gate
-        × (length (now numbers) ≡ 6000) ⌝ }
+    requires { ⌜ GateVisitsFit role kind (now library) (now netlist) (now numbers) gate ⌝ }
     ensures { λ r.
-        ⌜ Swept renew (valueVisits kind (now (library .entry)) (now (netlist .entry)) gate)
+        ⌜ Swept (ruleOf role)
+        (gateVisits role kind (now (library .entry)) (now (netlist .entry)) gate)
         (now (numbers .entry)) (now (numbers .exit)) r ⌝ }
 {
     let cell = cell_place(netlist, gate);
-    let pins = wide(library[cell + 9]);
+    let pins = wide(library[cell + sizes::PINS_AT]);
     let lines = lines_of(netlist, gate);
-    let group = cell + 10 + 66 * kind;
-    let place = setting_place(kind, lines[0], 0);
-    let zero = renew_at(kind, library, group, &lines, pins, numbers, place);
-    let one = renew_at(kind, library, group + 33, &lines, pins, numbers, place + 1);
-    either(zero, one)
-}
-
-// A gate's visit for CO or SO, "pins in order"; whether a number changed.
-fn observe_gate(
-    kind: usize,
-    library: &[u32],
-    netlist: &[u32],
-    numbers: &mut [u32; 6000],
-    gate: usize,
-) -> bool
-    requires { ⌜ (kind ≤ 1) × GateFits (now library) (now netlist) 6000 gate
-        × (length (now numbers) ≡ 6000) ⌝ }
-    ensures { λ r.
-        ⌜ Swept lower (gatePinVisits kind (now (library .entry)) (now (netlist .entry)) gate)
-        (now (numbers .entry)) (now (numbers .exit)) r ⌝ }
-{
-    let cell = cell_place(netlist, gate);
-    let pins = wide(library[cell + 9]);
-    let lines = lines_of(netlist, gate);
-    let group = cell + 10 + 132 + 264 * kind;
+    let count = visit_count(role, pins);
     let mut changed = false;
-    let mut pin = 0;
-    while pin < pins {
-        let place = observing_place(kind, lines[pin + 1]);
-        let lowered = lower_at(
-            kind,
-            library,
-            group + 33 * pin,
-            &lines,
-            pins,
-            numbers,
-            place,
-        );
-        changed = either(changed, lowered);
-        pin += 1;
+    let mut i = 0;
+    while i < count {
+        let group = cell + sizes::GROUPS_AT + visit_group(role, kind, i) * sizes::GROUP_WORDS;
+        let place = visit_place(role, kind, &lines, pins, i);
+        let renewed = visit(role, kind, library, group, &lines, pins, numbers, place);
+        changed = either(changed, renewed);
+        i += 1;
     }
     changed
 }
 
-// One sweep for CC or SC, "the gates in netlist order"; whether a number changed.
-fn set_sweep(kind: usize, library: &[u32], netlist: &[u32], numbers: &mut [u32; 6000]) -> bool
-    requires { ⌜ (kind ≤ 1) × TablesFit (now library) (now netlist) 6000 × (length (now numbers) ≡ 6000) ⌝ }
+// The gate of a turn, "in netlist order" or "in reverse order".
+fn gate_of_turn(role: usize, gates: usize, turn: usize) -> usize
+    requires { ⌜ turn < gates ⌝ }
+    ensures { λ r. ⌜ r ≡ gateOfTurn role gates turn ⌝ }
+{
+    if role == SETTING {
+        turn
+    } else {
+        gates - 1 - turn
+    }
+}
+
+// One sweep over the gates; whether a number changed.
+fn one_sweep(
+    role: usize,
+    kind: usize,
+    library: &[u32],
+    netlist: &[u32],
+    numbers: &mut [u32; sizes::NUMBERS],
+) -> bool
+    requires { ⌜ SweepFits role kind (now library) (now netlist) (now numbers) ⌝ }
     ensures { λ r.
-        ⌜ Swept renew (settingSweep kind (now (library .entry)) (now (netlist .entry)))
+        ⌜ Swept (ruleOf role) (sweepVisits role kind (now (library .entry)) (now (netlist .entry)))
         (now (numbers .entry)) (now (numbers .exit)) r ⌝ }
 {
     let gates = wide(netlist[0]);
     let mut changed = false;
-    let mut gate = 0;
-    while gate < gates {
-        let set = set_gate(kind, library, netlist, numbers, gate);
-        changed = either(changed, set);
-        gate += 1;
+    let mut turn = 0;
+    while turn < gates {
+        let gate = gate_of_turn(role, gates, turn);
+        let renewed = visit_gate(role, kind, library, netlist, numbers, gate);
+        changed = either(changed, renewed);
+        turn += 1;
     }
     changed
 }
 
-// One sweep for CO or SO, "gates in reverse order"; whether a number changed.
-fn observe_sweep(kind: usize, library: &[u32], netlist: &[u32], numbers: &mut [u32; 6000]) -> bool
-    requires { ⌜ (kind ≤ 1) × TablesFit (now library) (now netlist) 6000 × (length (now numbers) ≡ 6000) ⌝ }
+// Sweeps from the numbers that stand there: "Sweeps stop after the first that changes nothing; it is
+// counted."
+fn run(
+    role: usize,
+    kind: usize,
+    library: &[u32],
+    netlist: &[u32],
+    numbers: &mut [u32; sizes::NUMBERS],
+) -> u32
+    requires { ⌜ RunFits role kind (now library) (now netlist) (now numbers) ⌝ }
     ensures { λ r.
-        ⌜ Swept lower (observingSweep kind (now (library .entry)) (now (netlist .entry)))
-        (now (numbers .entry)) (now (numbers .exit)) r ⌝ }
-{
-    let mut gate = wide(netlist[0]);
-    let mut changed = false;
-    while 0 < gate {
-        gate -= 1;
-        let lowered = observe_gate(kind, library, netlist, numbers, gate);
-        changed = either(changed, lowered);
-    }
-    changed
-}
-
-// Sweeps for CC or SC from the numbers that stand there: "Sweeps stop after the first that changes
-// nothing; it is counted."
-fn set_run(kind: usize, library: &[u32], netlist: &[u32], numbers: &mut [u32; 6000]) -> u32
-    requires { ⌜ (kind ≤ 1) × TablesFit (now library) (now netlist) 6000 × (length (now numbers) ≡ 6000)
-        × Runs renew (settingSweep kind (now library) (now netlist)) (now numbers) ⌝ }
-    ensures { λ r.
-        ⌜ Settles renew (settingSweep kind (now (library .entry)) (now (netlist .entry)))
+        ⌜ Settles (ruleOf role) (sweepVisits role kind (now (library .entry)) (now (netlist .entry)))
         (now (numbers .entry)) r (now (numbers .exit)) ⌝ }
 {
     let mut count: u32 = 1;
-    while set_sweep(kind, library, netlist, numbers) {
-        count += 1;
-    }
-    count
-}
-
-// The same for CO or SO.
-fn observe_run(kind: usize, library: &[u32], netlist: &[u32], numbers: &mut [u32; 6000]) -> u32
-    requires { ⌜ (kind ≤ 1) × TablesFit (now library) (now netlist) 6000 × (length (now numbers) ≡ 6000)
-        × Runs lower (observingSweep kind (now library) (now netlist)) (now numbers) ⌝ }
-    ensures { λ r.
-        ⌜ Settles lower (observingSweep kind (now (library .entry)) (now (netlist .entry)))
-        (now (numbers .entry)) r (now (numbers .exit)) ⌝ }
-{
-    let mut count: u32 = 1;
-    while observe_sweep(kind, library, netlist, numbers) {
+    while one_sweep(role, kind, library, netlist, numbers) {
         count += 1;
     }
     count
@@ -354,15 +194,15 @@ fn first(mark: u32, price: u32) -> u32
 }
 
 // Lays the start of the six numbers of a line, lines from 0 here.
-fn start_line(netlist: &[u32], numbers: &mut [u32; 6000], line: usize)
-    requires { ⌜ (1001 + line < length (now netlist)) × (line * 6 + 6 ≤ 6000) ⌝ }
+fn start_line(netlist: &[u32], numbers: &mut [u32; sizes::NUMBERS], line: usize)
+    requires { ⌜ (line < Size.lines) × (Size.netlist ≤ length (now netlist)) ⌝ }
     ensures { λ _.
-        ⌜ now (numbers .exit) ≡ sets (now (numbers .entry)) (line * 6)
+        ⌜ now (numbers .exit) ≡ sets (now (numbers .entry)) (line * Size.costs)
         (lineStart (now (netlist .entry)) (1 + line)) ⌝ }
 {
     let driver = netlist[1 + line];
-    let output = netlist[1001 + line];
-    let at = line * 6;
+    let output = netlist[sizes::OUTPUTS_AT + (1 + line)];
+    let at = line * sizes::COSTS;
     numbers[at] = first(driver, 1);
     numbers[at + 1] = first(driver, 1);
     numbers[at + 2] = first(driver, 0);
@@ -372,88 +212,48 @@ fn start_line(netlist: &[u32], numbers: &mut [u32; 6000], line: usize)
 }
 
 // Lays the start of all numbers.
-fn start(netlist: &[u32], numbers: &mut [u32; 6000])
-    requires { ⌜ (2001 ≤ length (now netlist)) × (length (now numbers) ≡ 6000) ⌝ }
-    ensures { λ _. ⌜ now (numbers .exit) ≡ linesStart (now (netlist .entry)) 1000 1 ⌝ }
+fn start(netlist: &[u32], numbers: &mut [u32; sizes::NUMBERS])
+    requires { ⌜ (Size.netlist ≤ length (now netlist)) × (length (now numbers) ≡ Size.numbers) ⌝ }
+    ensures { λ _. ⌜ now (numbers .exit) ≡ linesStart (now (netlist .entry)) Size.lines 1 ⌝ }
 {
     let mut line = 0;
-    while line < 1000 {
+    while line < sizes::LINES {
         start_line(netlist, numbers, line);
         line += 1;
     }
 }
 
-// The four runs, each from the numbers that stand there: CC, SC, CO and SO.
-fn set_spatial(library: &[u32], netlist: &[u32], numbers: &mut [u32; 6000]) -> u32
-    requires { ⌜ TablesFit (now library) (now netlist) 6000 × (length (now numbers) ≡ 6000) × Runs renew
-        (settingSweep 0 (now library) (now netlist)) (now numbers) ⌝ }
-    ensures { λ r.
-        ⌜ Settles renew (settingSweep 0 (now (library .entry)) (now (netlist .entry)))
-        (now (numbers .entry)) r (now (numbers .exit)) ⌝ }
-{
-    set_run(COMBINATIONAL, library, netlist, numbers)
-}
-
-fn set_temporal(library: &[u32], netlist: &[u32], numbers: &mut [u32; 6000]) -> u32
-    requires { ⌜ TablesFit (now library) (now netlist) 6000 × (length (now numbers) ≡ 6000) × Runs renew
-        (settingSweep 1 (now library) (now netlist)) (now numbers) ⌝ }
-    ensures { λ r.
-        ⌜ Settles renew (settingSweep 1 (now (library .entry)) (now (netlist .entry)))
-        (now (numbers .entry)) r (now (numbers .exit)) ⌝ }
-{
-    set_run(SEQUENTIAL, library, netlist, numbers)
-}
-
-fn observe_spatial(library: &[u32], netlist: &[u32], numbers: &mut [u32; 6000]) -> u32
-    requires { ⌜ TablesFit (now library) (now netlist) 6000 × (length (now numbers) ≡ 6000) × Runs lower
-        (observingSweep 0 (now library) (now netlist)) (now numbers) ⌝ }
-    ensures { λ r.
-        ⌜ Settles lower (observingSweep 0 (now (library .entry)) (now (netlist .entry)))
-        (now (numbers .entry)) r (now (numbers .exit)) ⌝ }
-{
-    observe_run(COMBINATIONAL, library, netlist, numbers)
-}
-
-fn observe_temporal(library: &[u32], netlist: &[u32], numbers: &mut [u32; 6000]) -> u32
-    requires { ⌜ TablesFit (now library) (now netlist) 6000 × (length (now numbers) ≡ 6000) × Runs lower
-        (observingSweep 1 (now library) (now netlist)) (now numbers) ⌝ }
-    ensures { λ r.
-        ⌜ Settles lower (observingSweep 1 (now (library .entry)) (now (netlist .entry)))
-        (now (numbers .entry)) r (now (numbers .exit)) ⌝ }
-{
-    observe_run(SEQUENTIAL, library, netlist, numbers)
-}
-
-// The start and the four runs, over just the numbers of the 1,000 lines.
-fn analyse(library: &[u32], netlist: &[u32], numbers: &mut [u32; 6000]) -> Counts
-    requires { ⌜ Ready (now library) (now netlist) (now numbers) × (length (now numbers) ≡ 6000) ⌝ }
+// The start and the four runs, over just the numbers of the lines.
+fn analyse(library: &[u32], netlist: &[u32], numbers: &mut [u32; sizes::NUMBERS]) -> Counts
+    requires { ⌜ Ready (now library) (now netlist) (now numbers)
+        × (length (now numbers) ≡ Size.numbers) ⌝ }
     ensures { λ r.
         ⌜ ((cells : List Cell) (ss : List Statement) → Holds (now (library .entry))
         (now (netlist .entry)) cells ss → whole r (now (numbers .exit)) ≡ analysed cells ss) ⌝ }
 {
     start(netlist, numbers);
-    let cc = set_spatial(library, netlist, numbers);
-    let sc = set_temporal(library, netlist, numbers);
-    let co = observe_spatial(library, netlist, numbers);
-    let so = observe_temporal(library, netlist, numbers);
+    let cc = run(SETTING, COMBINATIONAL, library, netlist, numbers);
+    let sc = run(SETTING, SEQUENTIAL, library, netlist, numbers);
+    let co = run(OBSERVING, COMBINATIONAL, library, netlist, numbers);
+    let so = run(OBSERVING, SEQUENTIAL, library, netlist, numbers);
     Counts { cc, sc, co, so }
 }
 
-// Lays numbers into the first 6,000 of a lent table.
-fn hand_over(found: &[u32; 6000], numbers: &mut [u32])
-    requires { ⌜ (length (now found) ≡ 6000) × (6000 ≤ length (now numbers)) ⌝ }
+// Lays numbers into the first of a lent table.
+fn hand_over(found: &[u32; sizes::NUMBERS], numbers: &mut [u32])
+    requires { ⌜ (length (now found) ≡ Size.numbers) × (Size.numbers ≤ length (now numbers)) ⌝ }
     ensures { λ _.
-        ⌜ now (numbers .exit) ≡ now (found .entry) ++ drop 6000 (now (numbers .entry)) ⌝ }
+        ⌜ now (numbers .exit) ≡ now (found .entry) ++ drop Size.numbers (now (numbers .entry)) ⌝ }
 {
     let mut i = 0;
-    while i < 6000 {
+    while i < sizes::NUMBERS {
         numbers[i] = found[i];
         i += 1;
     }
 }
 
 // Goldstein's calculation over the tables of an accepted library and netlist: leaves the six numbers
-// of each line in the first 6,000 numbers, and says how many sweeps each run took.
+// of each line in the numbers table, and says how many sweeps each run took.
 pub fn calculate(library: &[u32], netlist: &[u32], numbers: &mut [u32]) -> Counts
     requires { ⌜ Ready (now library) (now netlist) (now numbers) ⌝ }
     ensures { λ r.
@@ -463,7 +263,7 @@ pub fn calculate(library: &[u32], netlist: &[u32], numbers: &mut [u32]) -> Count
 {
     // The sweeps work on an array of their own: a reference to it is one machine word, so that the
     // row sum's calls of itself stay in registers.
-    let mut found = [0u32; 6000];
+    let mut found = [0u32; sizes::NUMBERS];
     let counts = analyse(library, netlist, &mut found);
     hand_over(&found, numbers);
     counts

@@ -1,6 +1,6 @@
 -- The laws of texts, fields, numerals and classes that other crates cite, and what this crate's own proofs share.
 -- Assumes nothing.
-use mathlib.Core.Bool.{Bool, true, false, _&&_, _||_}
+use mathlib.Core.Bool.{Bool, true, false, not, _&&_, _||_}
 use mathlib.Core.List.{List, [], _∷_, _++_, List·Memᴰ, List·Memᴰ·head, List·Memᴰ·tail, List·Memᴰ·cases-cons, List·Memᴰ·not-nil}
 use mathlib.Core.Logic.{_↔_, _⊎_, inl, inr, ⊎-elim}
 use mathlib.Core.Option.{none, some}
@@ -12,26 +12,13 @@ use lib.Dec.{leb, ltb, eqb, leb·suc-suc}
 use lib.ListN.{length, getD, take, drop, length-take, length-drop, drop-of-length-le}
 use lib.Seq.{drop-drop, getD-drop}
 use borrow.Author.Tests.{le-leb, lt-leb, eq-eqb, ne-eqb, leb-true, leb-false, ltb-true, eqb-true, eqb-false}
-use Rattle.text.specs.declared.Class.the-variants.{Digit, Upper, Lower, Comma, LineEnd, Other}
-use Rattle.text.specs.Class.{pick, between, classOf, isDigit, isUpperOrDigit}
+use Rattle.sizes.specs.Sizes as Size
+use Rattle.reading.proofs.Laws.{by-test, and-left, and-right}
+use Rattle.text.specs.declared.Class.the-variants.{Digit, Letter, Comma, LineEnd, Other}
+use Rattle.reading.specs.Choice.{pick}
+use Rattle.text.specs.Class.{between, classOf, isDigit, isLetterOrDigit, endOf, ends}
 use Rattle.text.specs.Lines.{cut, split, fields, unended, ended, lines, stop, span, part, partsFrom, nextAfter, fieldsFrom, linesFrom, sameBytes}
 use Rattle.text.specs.Numeral.{digitBelow, allDigits, value, noLeadingZero, wellFormed, numeral, decimal, nameByte, allName, nameForm}
-
--- ---- tests
-
-pub and-left : (a b : Bool) → (a && b) ≡ true → a ≡ true
-and-left true b h = refl
-and-left false b h = h
-
-pub and-right : (a b : Bool) → (a && b) ≡ true → b ≡ true
-and-right true b h = h
-and-right false true h = refl
-and-right false false h = h
-
--- A test is true or it is false.
-pub by-test : {A : Type 0} (t : Bool) → (t ≡ true → A) → (t ≡ false → A) → A
-by-test true yes-way no-way = yes-way refl
-by-test false yes-way no-way = no-way refl
 
 -- ---- classes
 
@@ -52,34 +39,57 @@ between-above low high b p = go (leb low b)
     go false = refl
 
 -- What is in no range, no comma and no line end is of no other class.
-pub class-other : (b : ℕ) → between 48 57 b ≡ false → between 65 90 b ≡ false → between 97 122 b ≡ false → (b ≡ 44 → ⊥) → (b ≡ 10 → ⊥) → classOf b ≡ Other
+pub class-other : (b : ℕ) → between 48 57 b ≡ false → between 65 90 b ≡ false → (b ≡ 44 → ⊥) → (b ≡ 10 → ⊥) → classOf b ≡ Other
 unfolding classOf pick
-class-other b d u l c e = rw (d, u, l, ne-eqb b 44 c, ne-eqb b 10 e)
+class-other b d u c e = rw (d, u, ne-eqb b 44 c, ne-eqb b 10 e)
 
 pub class-digit : (b : ℕ) → isDigit (classOf b) ≡ between 48 57 b
 unfolding classOf pick isDigit
-class-digit b = go (between 48 57 b) (between 65 90 b) (between 97 122 b) (eqb b 44) (eqb b 10)
+class-digit b = go (between 48 57 b) (between 65 90 b) (eqb b 44) (eqb b 10)
   where
-    go : (d u l c e : Bool) → isDigit (pick d Digit (pick u Upper (pick l Lower (pick c Comma (pick e LineEnd Other))))) ≡ d
-    go true u l c e = refl
-    go false true l c e = refl
-    go false false true c e = refl
-    go false false false true e = refl
-    go false false false false true = refl
-    go false false false false false = refl
+    go : (d u c e : Bool) → isDigit (pick d Digit (pick u Letter (pick c Comma (pick e LineEnd Other)))) ≡ d
+    go true u c e = refl
+    go false true c e = refl
+    go false false true e = refl
+    go false false false true = refl
+    go false false false false = refl
 
-pub class-name : (b : ℕ) → isUpperOrDigit (classOf b) ≡ nameByte b
-unfolding classOf pick isUpperOrDigit nameByte
-class-name b = go (between 48 57 b) (between 65 90 b) (between 97 122 b) (eqb b 44) (eqb b 10)
+pub class-name : (b : ℕ) → isLetterOrDigit (classOf b) ≡ nameByte b
+unfolding classOf pick isLetterOrDigit nameByte
+class-name b = go (between 48 57 b) (between 65 90 b) (eqb b 44) (eqb b 10)
   where
-    go : (d u l c e : Bool) → isUpperOrDigit (pick d Digit (pick u Upper (pick l Lower (pick c Comma (pick e LineEnd Other))))) ≡ (u || d)
-    go true true l c e = refl
-    go true false l c e = refl
-    go false true l c e = refl
-    go false false true c e = refl
-    go false false false true e = refl
-    go false false false false true = refl
-    go false false false false false = refl
+    go : (d u c e : Bool) → isLetterOrDigit (pick d Digit (pick u Letter (pick c Comma (pick e LineEnd Other)))) ≡ (u || d)
+    go true true c e = refl
+    go true false c e = refl
+    go false true c e = refl
+    go false false true e = refl
+    go false false false true = refl
+    go false false false false = refl
+
+between-other : (low high b m : ℕ) → between low high b ≡ true → m < low → eqb b m ≡ false
+unfolding between
+between-other low high b m h below =
+    let least : low ≤ b = leb-true low b (and-left (leb low b) (leb b high) h) in ne-eqb b m (λ e. omega arith)
+
+-- A line ends with byte 10, a field with a comma, byte 44.
+pub class-ends : (line : Bool) (b : ℕ) → ends line (classOf b) ≡ eqb b (endOf line)
+unfolding classOf pick ends endOf
+class-ends line b =
+    by-test (between 48 57 b) (λ d. rw d (sym (outside line (between-other 48 57 b 10 d (omega arith)) (between-other 48 57 b 44 d (omega arith)))))
+    (λ d. by-test (between 65 90 b) (λ u. rw (d, u) (sym (outside line (between-other 65 90 b 10 u (omega arith)) (between-other 65 90 b 44 u (omega arith)))))
+    (λ u. rw (d, u) (by-test (eqb b 44) (λ c. rw c (comma line (ne-eqb b 10 (λ e. omega (arith, eqb-true b 44 c))) c)) (λ c. rw c (by-test (eqb b 10) (λ e. rw e (ended line c e)) (λ e. rw e (sym (outside line e c))))))))
+  where
+    outside : (l : Bool) → eqb b 10 ≡ false → eqb b 44 ≡ false → eqb b (endOf l) ≡ false
+    outside true p q = p
+    outside false p q = q
+
+    comma : (l : Bool) → eqb b 10 ≡ false → eqb b 44 ≡ true → not l ≡ eqb b (endOf l)
+    comma true p q = sym p
+    comma false p q = sym q
+
+    ended : (l : Bool) → eqb b 44 ≡ false → eqb b 10 ≡ true → l ≡ eqb b (endOf l)
+    ended true p q = sym q
+    ended false p q = sym p
 
 -- A digit of a base up to ten is a byte of class `Digit` below the base's end.
 pub class-digit-below : (base b : ℕ) → base ≤ 10 → digitBelow base b ≡ (isDigit (classOf b) && ltb b (48 + base))
@@ -111,17 +121,6 @@ span-length mark (b ∷ s) = go (eqb b mark) (span-length mark s)
     go : (t : Bool) → span mark s ≤ length s → stop t (span mark s) ≤ suc (length s)
     go true h = omega arith
     go false h = omega arith
-
-mark-step : (mark b : ℕ) (s : List ℕ) (t : Bool) → eqb b mark ≡ t → (span mark s < length s → getD s (span mark s) 0 ≡ mark) → stop t (span mark s) < suc (length s) → getD (b ∷ s) (stop t (span mark s)) 0 ≡ mark
-unfolding stop
-mark-step mark b s true e rest h = eqb-true b mark e
-mark-step mark b s false e rest h = rest (omega arith)
-
--- Below the end, the first part is ended by the mark.
-pub span-mark : (mark : ℕ) (s : List ℕ) → span mark s < length s → getD s (span mark s) 0 ≡ mark
-unfolding span
-span-mark mark [] h = absurd (omega arith)
-span-mark mark (b ∷ s) h = mark-step mark b s (eqb b mark) refl (span-mark mark s) h
 
 pub length-part : (mark : ℕ) (s : List ℕ) (at : ℕ) → length (part mark s at) ≡ span mark (drop at s)
 unfolding part
@@ -177,11 +176,6 @@ partsFrom-step mark s at h =
 -- A part ends within the text, and where it ends below the text's end, the mark stands there.
 pub part-within : (mark : ℕ) (s : List ℕ) (at : ℕ) → at ≤ length s → at + length (part mark s at) ≤ length s
 part-within mark s at h = omega (arith, length-part mark s at, span-length mark (drop at s), length-drop at s)
-
-pub part-mark : (mark : ℕ) (s : List ℕ) (at : ℕ) → at + length (part mark s at) < length s → getD s (at + length (part mark s at)) 0 ≡ mark
-part-mark mark s at h =
-    rw (length-part mark s at, ← getD-drop at s (span mark (drop at s)) 0)
-    (span-mark mark (drop at s) (omega (arith, length-part mark s at, length-drop at s)))
 
 -- The cursor that `after` answers, and that it moves on.
 pub nextAfter-within : (s : List ℕ) (at : ℕ) (p : List ℕ) → at ≤ length s → nextAfter s at p ≡ at + length p + 1
@@ -249,22 +243,6 @@ linesFrom-unended text at h e =
 
 -- ---- lengths
 
-length-cut : (t : Bool) (b : ℕ) (ps : List (List ℕ)) → length (cut t b ps) ≤ suc (length ps)
-unfolding cut
-length-cut true b ps = omega arith
-length-cut false b [] = omega arith
-length-cut false b (p ∷ ps) = omega arith
-
-pub length-split : (mark : ℕ) (s : List ℕ) → length (split mark s) ≤ length s + 1
-unfolding split
-length-split mark [] = omega arith
-length-split mark (b ∷ s) = omega (arith, length-cut (eqb b mark) b (split mark s), length-split mark s)
-
--- A line has at most one field more than bytes.
-pub length-fields : (line : List ℕ) → length (fields line) ≤ length line + 1
-unfolding fields
-length-fields line = length-split 44 line
-
 length-ended : (t : Bool) (b : ℕ) (ps : List (List ℕ)) → length (ended (cut t b ps)) ≤ suc (length (ended ps))
 unfolding cut ended unended
 length-ended true b [] = omega arith
@@ -279,75 +257,7 @@ unfolding lines split ended unended
 length-lines [] = omega arith
 length-lines (b ∷ s) = omega (arith, length-ended (eqb b 10) b (split 10 s), length-lines s)
 
--- The bytes of parts, with a mark for each.
-unfoldable pub total : List (List ℕ) → ℕ
-total [] = 0
-total (p ∷ ps) = suc (length p) + total ps
-
-total-cut : (t : Bool) (b : ℕ) (ps : List (List ℕ)) → 0 < total ps → total (cut t b ps) ≡ suc (total ps)
-unfolding cut total
-total-cut true b ps h = omega arith
-total-cut false b [] h = absurd (omega arith)
-total-cut false b (p ∷ ps) h = omega arith
-
--- The parts together with their marks are as long as the text, and one more.
-pub split-total : (mark : ℕ) (s : List ℕ) → total (split mark s) ≡ length s + 1
-unfolding split total
-split-total mark [] = refl
-split-total mark (b ∷ s) =
-    let rest = split-total mark s in
-    omega (arith, total-cut (eqb b mark) b (split mark s) (omega arith))
-
-member-case : (p q : List ℕ) (ps : List (List ℕ)) → (List·Memᴰ p ps → length p < total ps) → (p ≡ q) ⊎ List·Memᴰ p ps → length p < suc (length q) + total ps
-member-case p q ps rest (inl e) = omega (arith, ap length e)
-member-case p q ps rest (inr m) = omega (arith, rest m)
-
-total-member : (p : List ℕ) (ps : List (List ℕ)) → List·Memᴰ p ps → length p < total ps
-unfolding total
-total-member p [] m = absurd (List·Memᴰ·not-nil m)
-total-member p (q ∷ ps) m =
-    member-case p q ps (total-member p ps) (List·Memᴰ·cases-cons m)
-
--- No part is longer than the text.
-pub split-member-length : (mark : ℕ) (s p : List ℕ) → List·Memᴰ p (split mark s) → length p ≤ length s
-split-member-length mark s p m = omega (arith, split-total mark s, total-member p (split mark s) m)
-
--- ---- marks
-
-free-empty : (mark : ℕ) (p : List ℕ) → p ≡ [] → List·Memᴰ mark p → ⊥
-free-empty mark p e d = List·Memᴰ·not-nil (subst (List·Memᴰ mark) e d)
-
-free-cons : (mark b : ℕ) (q : List ℕ) → (mark ≡ b → ⊥) → (List·Memᴰ mark q → ⊥) → (p : List ℕ) → p ≡ b ∷ q → List·Memᴰ mark p → ⊥
-free-cons mark b q other rest p e d = ⊎-elim other rest (List·Memᴰ·cases-cons (subst (List·Memᴰ mark) e d))
-
-free-cut : (mark b : ℕ) (t : Bool) → eqb b mark ≡ t → (ps : List (List ℕ)) → ((p : List ℕ) → List·Memᴰ p ps → List·Memᴰ mark p → ⊥) → (p : List ℕ) → List·Memᴰ p (cut t b ps) → List·Memᴰ mark p → ⊥
-unfolding cut
-free-cut mark b true e ps rest p m d =
-    ⊎-elim (λ h. free-empty mark p h d) (λ h. rest p h d) (List·Memᴰ·cases-cons m)
-free-cut mark b false e [] rest p m d =
-    ⊎-elim
-    (λ h. free-cons mark b [] (λ k. eqb-false b mark e (sym k)) List·Memᴰ·not-nil p h d)
-    (λ h. List·Memᴰ·not-nil h)
-    (List·Memᴰ·cases-cons m)
-free-cut mark b false e (q ∷ ps) rest p m d =
-    ⊎-elim
-    (λ h. free-cons mark b q (λ k. eqb-false b mark e (sym k)) (rest q (List·Memᴰ·head refl)) p h d)
-    (λ h. rest p (List·Memᴰ·tail h) d)
-    (List·Memᴰ·cases-cons m)
-
--- No part has the mark in it: no field has byte 44, and no line has byte 10.
-pub split-no-mark : (mark : ℕ) (s p : List ℕ) → List·Memᴰ p (split mark s) → List·Memᴰ mark p → ⊥
-unfolding split
-split-no-mark mark [] p m d =
-    ⊎-elim (λ h. free-empty mark p h d) List·Memᴰ·not-nil (List·Memᴰ·cases-cons m)
-split-no-mark mark (b ∷ s) p m d = free-cut mark b (eqb b mark) refl (split mark s) (split-no-mark mark s) p m d
-
-pub part-no-mark : (mark : ℕ) (s : List ℕ) (at : ℕ) → List·Memᴰ mark (part mark s at) → ⊥
-unfolding part
-part-no-mark mark s at d =
-    split-no-mark mark (drop at s) (part mark s at) (rw (split-step mark (drop at s)) (List·Memᴰ·head refl)) d
-
--- ---- texts put together from their parts
+-- ---- for a reader: texts put together from their parts
 
 pub split-join : (mark : ℕ) (p s : List ℕ) → (List·Memᴰ mark p → ⊥) → split mark (p ++ mark ∷ s) ≡ p ∷ split mark s
 unfolding split cut
@@ -456,16 +366,12 @@ module _ (base most : ℕ) (f : List ℕ) where
       bad : wellFormed base most f ≡ false → v < base ^ most
       bad h = let z : _≡_ {A = ℕ} 0 1 = cc (numeral-bad h) in omega arith
 
-pub decimal-below : (f : List ℕ) (v : ℕ) → decimal f ≡ some v → v < 100000
-unfolding decimal
-decimal-below f v e = numeral-below 10 5 f v (omega arith) e
-
 -- ---- names
 
 -- A cell name has 1 to 8 bytes.
-pub nameForm-length : (f : List ℕ) → nameForm f ≡ true → (1 ≤ length f) × (length f ≤ 8)
+pub nameForm-length : (f : List ℕ) → nameForm f ≡ true → (1 ≤ length f) × (length f ≤ Size.nameBytes)
 unfolding nameForm
 nameForm-length f h = (
-  leb-true 1 (length f) (and-left (leb 1 (length f)) (leb (length f) 8 && allName f) h),
-  leb-true (length f) 8 (and-left (leb (length f) 8) (allName f) (and-right (leb 1 (length f)) (leb (length f) 8 && allName f) h)),
+  leb-true 1 (length f) (and-left (leb 1 (length f)) (leb (length f) Size.nameBytes && allName f) h),
+  leb-true (length f) Size.nameBytes (and-left (leb (length f) Size.nameBytes) (allName f) (and-right (leb 1 (length f)) (leb (length f) Size.nameBytes && allName f) h)),
 )

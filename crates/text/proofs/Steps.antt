@@ -11,8 +11,10 @@ use lib.Dec.{eqb}
 use lib.ListN.{length, getD, take, drop, drop-of-length-le}
 use lib.Seq.{drop-cons, take-nil}
 use borrow.Author.Tests.{le-leb, lt-leb, eq-eqb, ne-eqb}
+use Rattle.sizes.specs.Sizes as Size
 use Rattle.text.specs.Lines.{stop, span, part, sameBytes}
-use Rattle.text.proofs.Laws.{and-left, digit-step}
+use Rattle.reading.proofs.Laws.{and-left}
+use Rattle.text.proofs.Laws.{digit-step}
 use Rattle.text.specs.Numeral.{digitBelow, allDigits, value, noLeadingZero, wellFormed, nameByte, allName, nameForm}
 
 module _ (mark : ℕ) (s : List ℕ) (i : ℕ) where
@@ -95,13 +97,13 @@ pub nameForm-empty : (f : List ℕ) → length f < 1 → nameForm f ≡ false
 unfolding nameForm
 nameForm-empty f h = rw (lt-leb 1 (length f) h)
 
-pub nameForm-long : (f : List ℕ) → 8 < length f → nameForm f ≡ false
+pub nameForm-long : (f : List ℕ) → Size.nameBytes < length f → nameForm f ≡ false
 unfolding nameForm
-nameForm-long f h = let some-byte : 1 ≤ length f = omega arith in rw (le-leb 1 (length f) some-byte, lt-leb (length f) 8 h)
+nameForm-long f h = let some-byte : 1 ≤ length f = omega arith in rw (le-leb 1 (length f) some-byte, lt-leb (length f) Size.nameBytes h)
 
-pub nameForm-bytes : (f : List ℕ) → 1 ≤ length f → length f ≤ 8 → nameForm f ≡ allName f
+pub nameForm-bytes : (f : List ℕ) → 1 ≤ length f → length f ≤ Size.nameBytes → nameForm f ≡ allName f
 unfolding nameForm
-nameForm-bytes f p q = rw (le-leb 1 (length f) p, le-leb (length f) 8 q)
+nameForm-bytes f p q = rw (le-leb 1 (length f) p, le-leb (length f) Size.nameBytes q)
 
 pub noLeadingZero-short : (f : List ℕ) → length f ≤ 1 → noLeadingZero f ≡ true
 unfolding noLeadingZero

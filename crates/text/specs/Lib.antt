@@ -2,4 +2,3 @@ pub mod Bytes
 pub mod Class
 pub mod Lines
 pub mod Numeral
-pub mod Refusal

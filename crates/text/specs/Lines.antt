@@ -7,7 +7,7 @@ use mathlib.Core.Option.{Option, none, some}
 use Prim.Native.Nat.{ℕ, suc, _+_}
 use lib.Dec.{leb, eqb}
 use lib.ListN.{length, take, drop}
-use Rattle.text.specs.Class.{pick, class-open}
+use Rattle.reading.specs.Choice.{pick, choice-open}
 
 -- A byte in front of the parts of what follows it: a mark starts a new part, any other byte stands in the first.
 unfoldable pub cut : Bool → ℕ → List (List ℕ) → List (List ℕ)
@@ -74,5 +74,5 @@ sameBytes (a ∷ s) (b ∷ t) = eqb a b && sameBytes s t
 
 -- Opens the page's definitions, where a figure computes with them.
 unfoldable pub lines-open : ℕ
-unfolding class-open cut split fields unended ended lines stop span part partsFrom nextAfter fieldsFrom linesFrom sameBytes
+unfolding choice-open cut split fields unended ended lines stop span part partsFrom nextAfter fieldsFrom linesFrom sameBytes
 lines-open = 0

@@ -6,7 +6,9 @@ use mathlib.Core.Option.{Option, none, some}
 use Prim.Native.Nat.{ℕ, _+_, _*_, _-_}
 use lib.Dec.{leb, ltb, eqb}
 use lib.ListN.{length}
-use Rattle.text.specs.Class.{pick, between, class-open}
+use Rattle.sizes.specs.Sizes as Size
+use Rattle.reading.specs.Choice.{pick}
+use Rattle.text.specs.Class.{between, class-open}
 use Rattle.text.specs.declared.Numeral.{Numeral}
 use Rattle.text.specs.declared.Numeral.the-variants.{Value, Bad}
 
@@ -38,7 +40,7 @@ numeral base most f = pick (wellFormed base most f) (some (value base 0 f)) none
 
 -- "Decimal fields have 1 to 5 digits, no leading zero (0 itself is well formed)."
 unfoldable pub decimal : List ℕ → Option ℕ
-decimal f = numeral 10 5 f
+decimal f = numeral 10 Size.decimalDigits f
 
 -- "1 to 8 bytes of A–Z, 0–9"
 unfoldable pub nameByte : ℕ → Bool
@@ -50,7 +52,7 @@ allName (b ∷ f) = nameByte b && allName f
 
 -- "A cell has a name (1 to 8 bytes of A–Z, 0–9)"
 unfoldable pub nameForm : List ℕ → Bool
-nameForm f = leb 1 (length f) && (leb (length f) 8 && allName f)
+nameForm f = leb 1 (length f) && (leb (length f) Size.nameBytes && allName f)
 
 -- What the answer of the two readers of numbers says: the value, or bad form.
 unfoldable pub numeralRead : Numeral → Option ℕ

@@ -1,39 +1,24 @@
 // The text layer: classes of bytes, lines and fields of a lent text, words, names and numbers.
 //
-// Open to other crates, each for every input: `class_of`, `part`, `line`, `field`, `after`, `same`, `is_name`, `decimal`,
-// `octal`, and the types `Class`, `Numeral` and `Refusal`.
+// Open to other crates, each for every input: `class_of`, `line`, `field`, `after`, `same`, `is_name`, `decimal`,
+// `octal`, and the types `Class` and `Numeral`.
 ghost use mathlib.Core.Path.{_≡_};
 ghost use mathlib.Core.Bool.{true};
 ghost use Prim.Native.Nat.{_+_, _-_, _^_, _≤_, _<_, min};
 ghost use lib.ListN.{length};
-ghost use Rattle.text.specs.Class.{classOf};
+ghost use Rattle.text.specs.Class.{classOf, ends, endOf};
 ghost use Rattle.text.specs.Lines.{part, nextAfter, sameBytes};
 ghost use Rattle.text.specs.Numeral.{digitBelow, allDigits, value, wellFormed, numeral, decimal, nameByte, nameForm, numeralRead};
 
-const COMMA: u8 = 44;
-
-const LINE_END: u8 = 10;
-
 const ZERO: u8 = 48;
-
-const NAME_MOST: usize = 8;
-
-const DECIMAL_MOST: usize = 5;
 
 // The most digits that `octal` reads, so that the value fits.
 const OCTAL_MOST: usize = 10;
 
-// Why a text is refused: document 01's number, and the line, 0 where no line is meant. The readers share it.
-pub struct Refusal {
-    pub number: u32,
-    pub line: u32,
-}
-
 // The class of a byte. `classOf` gives its cases.
 pub enum Class {
     Digit,
-    Upper,
-    Lower,
+    Letter,
     Comma,
     LineEnd,
     Other,
@@ -44,17 +29,30 @@ pub fn class_of(b: u8) -> Class
 {
     match b {
         48..=57 => Class::Digit,
-        65..=90 => Class::Upper,
-        97..=122 => Class::Lower,
+        65..=90 => Class::Letter,
         44 => Class::Comma,
         10 => Class::LineEnd,
         _ => Class::Other,
     }
 }
 
-// The part of the text from a cursor up to the next mark, or to the text's end; empty from a cursor past the end.
-pub fn part(text: &[u8], from: usize, mark: u8) -> &[u8]
-    ensures { λ r. ⌜ now r ≡ part mark (now (text .entry)) from ⌝ }
+// Whether a byte ends a line, or a field.
+fn ends(b: u8, line: bool) -> bool
+    ensures { λ r. ⌜ r ≡ ends line (classOf b) ⌝ }
+{
+    let class = class_of(b);
+    match class {
+        Class::Digit => false,
+        Class::Letter => false,
+        Class::Comma => !line,
+        Class::LineEnd => line,
+        Class::Other => false,
+    }
+}
+
+// The line, or the field, from a cursor up to its end or to the text's; empty from a cursor past the end.
+fn part(text: &[u8], from: usize, line: bool) -> &[u8]
+    ensures { λ r. ⌜ now r ≡ part (endOf line) (now (text .entry)) from ⌝ }
 {
     let n = text.len();
     if n < from {
@@ -62,7 +60,7 @@ pub fn part(text: &[u8], from: usize, mark: u8) -> &[u8]
     }
     let mut i = from;
     while i < n {
-        if text[i] == mark {
+        if ends(text[i], line) {
             return &text[from..i];
         }
         i += 1;
@@ -73,13 +71,13 @@ pub fn part(text: &[u8], from: usize, mark: u8) -> &[u8]
 pub fn line(text: &[u8], from: usize) -> &[u8]
     ensures { λ r. ⌜ now r ≡ part 10 (now (text .entry)) from ⌝ }
 {
-    part(text, from, LINE_END)
+    part(text, from, true)
 }
 
 pub fn field(line: &[u8], from: usize) -> &[u8]
     ensures { λ r. ⌜ now r ≡ part 44 (now (line .entry)) from ⌝ }
 {
-    part(line, from, COMMA)
+    part(line, from, false)
 }
 
 // The cursor after a part that starts at `from`: that of the next field of a line, or of the next line of a text. It is
@@ -118,7 +116,7 @@ fn name_byte(b: u8) -> bool
     let class = class_of(b);
     match class {
         Class::Digit => true,
-        Class::Upper => true,
+        Class::Letter => true,
         _ => false,
     }
 }
@@ -131,7 +129,7 @@ pub fn is_name(f: &[u8]) -> bool
     if n < 1 {
         return false;
     }
-    if NAME_MOST < n {
+    if sizes::NAME_BYTES < n {
         return false;
     }
     let mut i = 0;
@@ -234,7 +232,7 @@ fn read(f: &[u8], base: u8, most: usize) -> Numeral
 pub fn decimal(f: &[u8]) -> Numeral
     ensures { λ r. ⌜ numeralRead r ≡ decimal (now (f .entry)) ⌝ }
 {
-    read(f, 10, DECIMAL_MOST)
+    read(f, 10, sizes::DECIMAL_DIGITS)
 }
 
 // An octal field of at most so many digits. A `most` above 10 counts as 10, so that the value fits.

@@ -6,48 +6,63 @@ use crate::generate::{
 };
 use crate::library::{MOST_CELLS, MOST_ROWS};
 use crate::random::Random;
+use crate::refusal::*;
 use crate::{Refusal, MOST_BYTES};
 
 const WORDS: [&str; 6] = ["Name", "CC", "CO", "SC", "SO", "End"];
 
 /// The numbers that a damage of one place can be made for.
-const NUMBERS: [u32; 13] = [3, 4, 5, 6, 7, 8, 9, 10, 11, 12, 13, 14, 15];
+const NUMBERS: [u32; 13] = [
+    LIBRARY_FORM,
+    NAME_USED,
+    PINS_BAD,
+    GROUPS_BAD,
+    BIT_ABOVE,
+    ROW_IDLE,
+    CELLS_MANY,
+    NETLIST_FORM,
+    LINE_BAD,
+    CELL_UNKNOWN,
+    PINS_DIFFER,
+    DRIVEN_BEFORE,
+    MARKED_BEFORE,
+];
 
 /// Damages the pair for the number, if it has a place for that.
 fn damage(rng: &mut Random, pair: &mut Pair, number: u32) -> Option<Refusal> {
     let line = match number {
-        3 => library_form(rng, pair),
-        4 => used_name(rng, pair),
-        5 => {
+        LIBRARY_FORM => library_form(rng, pair),
+        NAME_USED => used_name(rng, pair),
+        PINS_BAD => {
             let entry = rng.below(non_zero(pair.cells.len())?) * ENTRY;
             bad_pins(rng, &mut pair.lib.lines[entry]);
             Some(entry)
         }
-        6 | 7 | 8 => {
+        GROUPS_BAD | BIT_ABOVE | ROW_IDLE => {
             let at = rows_place(rng, pair)?;
             let pins = pair.cells[at / ENTRY].pins;
             bad_rows(rng, &mut pair.lib.lines[at], at % ENTRY, pins, number);
             Some(at)
         }
-        9 => entry_33(rng, pair),
-        10 => netlist_form(rng, pair),
-        11 => {
+        CELLS_MANY => entry_33(rng, pair),
+        NETLIST_FORM => netlist_form(rng, pair),
+        LINE_BAD => {
             let at = rng.below(non_zero(pair.net.lines.len())?);
             bad_line_number(rng, &mut pair.net.lines[at]);
             Some(at)
         }
-        12 => {
+        CELL_UNKNOWN => {
             let at = gate_place(rng, pair)?;
             pair.net.lines[at][1] = fresh_name(rng, &pair.cells);
             Some(at)
         }
-        13 => {
+        PINS_DIFFER => {
             let at = gate_place(rng, pair)?;
             wrong_count(rng, &mut pair.net.lines[at]);
             Some(at)
         }
-        14 => driven_twice(rng, pair),
-        15 => marked_twice(rng, pair),
+        DRIVEN_BEFORE => driven_twice(rng, pair),
+        MARKED_BEFORE => marked_twice(rng, pair),
         _ => None,
     }?;
     Some(Refusal {
@@ -60,7 +75,7 @@ fn damage(rng: &mut Random, pair: &mut Pair, number: u32) -> Option<Refusal> {
 pub fn any_damage(rng: &mut Random, pair: &mut Pair) -> Refusal {
     loop {
         let number = *rng.pick(&NUMBERS);
-        // 3, 9 and 10 find a place in every pair.
+        // Both kinds of bad form and a 33rd entry find a place in every pair.
         if let Some(refusal) = damage(rng, pair, number) {
             return refusal;
         }
@@ -271,13 +286,13 @@ fn rows_place(rng: &mut Random, pair: &Pair) -> Option<usize> {
     Some(rng.below(cells) * ENTRY + rng.within(1, 4))
 }
 
-/// Damages a line of rows for 6, 7 or 8.
+/// Damages a line of rows for the groups, a bit above the columns, or a row that names too little.
 fn bad_rows(rng: &mut Random, line: &mut Fields, place: usize, pins: usize, number: u32) {
     let mut groups = groups_of(line);
     let observe = place % 2 == 0;
     let top = if observe { 2 * pins + 3 } else { 2 * pins };
     match number {
-        6 => match rng.below(4) {
+        GROUPS_BAD => match rng.below(4) {
             0 => groups.clear(),
             1 => {
                 groups.remove(rng.below(groups.len()));
@@ -297,7 +312,7 @@ fn bad_rows(rng: &mut Random, line: &mut Fields, place: usize, pins: usize, numb
                 groups[at].resize(rows, row);
             }
         },
-        7 => {
+        BIT_ABOVE => {
             let at = rng.below(groups.len());
             let row = rng.below(groups[at].len());
             // The lowest bit above the columns, or any that seven digits hold.
@@ -486,17 +501,17 @@ pub fn one_line(rng: &mut Random, pair: &mut Pair) -> Option<Refusal> {
 
 fn one_name_line(rng: &mut Random, pair: &mut Pair, lowest: &mut u32) -> Option<usize> {
     let mut at = (non_zero(pair.cells.len())? - 1) * ENTRY;
-    if take(rng, lowest, 9, false) {
+    if take(rng, lowest, CELLS_MANY, false) {
         at = entry_33(rng, pair)?;
     }
     let line = &mut pair.lib.lines[at];
-    if take(rng, lowest, 5, false) {
+    if take(rng, lowest, PINS_BAD, false) {
         bad_pins(rng, line);
     }
-    if at > 0 && take(rng, lowest, 4, false) {
+    if at > 0 && take(rng, lowest, NAME_USED, false) {
         line[1] = pair.cells[rng.below(at / ENTRY)].name.clone();
     }
-    if take(rng, lowest, 3, true) {
+    if take(rng, lowest, LIBRARY_FORM, true) {
         bad_entry_line(rng, line, 0);
     }
     Some(at)
@@ -508,12 +523,12 @@ fn one_rows_line(rng: &mut Random, pair: &mut Pair, lowest: &mut u32) -> Option<
     let pins = pair.cells[at / ENTRY].pins;
     let line = &mut pair.lib.lines[at];
     // Where 8 and 7 fall on one row, only 7 is left of them.
-    for number in [8, 7, 6] {
+    for number in [ROW_IDLE, BIT_ABOVE, GROUPS_BAD] {
         if take(rng, lowest, number, false) {
             bad_rows(rng, line, place, pins, number);
         }
     }
-    if take(rng, lowest, 3, true) {
+    if take(rng, lowest, LIBRARY_FORM, true) {
         bad_entry_line(rng, line, place);
     }
     Some(at)
@@ -523,23 +538,23 @@ fn one_rows_line(rng: &mut Random, pair: &mut Pair, lowest: &mut u32) -> Option<
 fn one_gate_line(rng: &mut Random, pair: &mut Pair, lowest: &mut u32) -> Option<usize> {
     non_zero(pair.cells.len())?;
     let cell = rng.pick(&pair.cells).clone();
-    let again = take(rng, lowest, 14, false);
+    let again = take(rng, lowest, DRIVEN_BEFORE, false);
     let driven: Vec<&Vec<u8>> = pair.net.lines.iter().filter_map(driven_line).collect();
     let number = (1..=1_000)
         .map(|number: u32| number.to_string().into_bytes())
         .find(|number| driven.contains(&number) == again)?;
     let mut line = vec![b"gate".to_vec(), cell.name, number.clone()];
     line.resize(3 + cell.pins, number);
-    if take(rng, lowest, 13, false) {
+    if take(rng, lowest, PINS_DIFFER, false) {
         wrong_count(rng, &mut line);
     }
-    if take(rng, lowest, 12, false) {
+    if take(rng, lowest, CELL_UNKNOWN, false) {
         line[1] = fresh_name(rng, &pair.cells);
     }
-    if take(rng, lowest, 11, false) {
+    if take(rng, lowest, LINE_BAD, false) {
         bad_line_number(rng, &mut line);
     }
-    if take(rng, lowest, 10, true) {
+    if take(rng, lowest, NETLIST_FORM, true) {
         bad_net_line(rng, &mut line);
     }
     pair.net.lines.push(line);
@@ -549,17 +564,17 @@ fn one_gate_line(rng: &mut Random, pair: &mut Pair, lowest: &mut u32) -> Option<
 /// An input or output once more past the end.
 fn one_mark_line(rng: &mut Random, pair: &mut Pair, lowest: &mut u32) -> Option<usize> {
     let (mark, number) = if rng.once_in(2) {
-        ("output", 15)
+        ("output", MARKED_BEFORE)
     } else {
-        ("input", 14)
+        ("input", DRIVEN_BEFORE)
     };
     let first = place_of(rng, pair, |line| line[0] == mark.as_bytes())?;
     let mut line = pair.net.lines[first].clone();
     *lowest = number;
-    if take(rng, lowest, 11, false) {
+    if take(rng, lowest, LINE_BAD, false) {
         bad_line_number(rng, &mut line);
     }
-    if take(rng, lowest, 10, false) {
+    if take(rng, lowest, NETLIST_FORM, false) {
         bad_net_line(rng, &mut line);
     }
     pair.net.lines.push(line);

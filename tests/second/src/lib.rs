@@ -10,6 +10,7 @@ pub mod generate;
 mod library;
 mod netlist;
 pub mod random;
+pub mod refusal;
 mod report;
 mod sweep;
 mod text;
@@ -20,6 +21,7 @@ mod tests;
 pub use cost::{Cost, LARGEST, NEVER, OVER};
 pub use library::{MOST_CELLS, MOST_PINS, MOST_ROWS};
 pub use netlist::MOST_LINES;
+use refusal::{REPORT_LONG, TEXT_LONG};
 pub use sweep::Counts;
 
 /// A text above this many bytes is refused at entry.
@@ -48,7 +50,10 @@ pub fn analyse(lib: &[u8], net: &[u8], room: usize) -> Answer {
 
 fn accepted(lib: &[u8], net: &[u8], room: usize) -> Result<(Vec<u8>, Counts), Refusal> {
     if lib.len() > MOST_BYTES || net.len() > MOST_BYTES {
-        return Err(Refusal { number: 2, line: 0 });
+        return Err(Refusal {
+            number: TEXT_LONG,
+            line: 0,
+        });
     }
     let library = library::read(lib)?;
     let netlist = netlist::read(net, &library)?;
@@ -56,7 +61,7 @@ fn accepted(lib: &[u8], net: &[u8], room: usize) -> Result<(Vec<u8>, Counts), Re
     let report = report::write(&netlist, &numbers, &counts);
     if report.len() > room {
         return Err(Refusal {
-            number: 17,
+            number: REPORT_LONG,
             line: 0,
         });
     }
@@ -73,7 +78,7 @@ pub fn report_into(lib: &[u8], net: &[u8], buffer: &mut [u8]) -> u64 {
         }
         Err(Refusal { number, line }) => {
             // A refusal at entry touches nothing; every later one clears the whole buffer.
-            if number > 2 {
+            if number > TEXT_LONG {
                 buffer.fill(0);
             }
             u64::from(number) * 1_000_000 + u64::from(line)

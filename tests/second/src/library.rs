@@ -1,5 +1,8 @@
 //! The cell library: at most 32 entries of six lines.
 
+use crate::refusal::{
+    BIT_ABOVE, CELLS_MANY, GROUPS_BAD, LIBRARY_FORM, NAME_USED, PINS_BAD, ROW_IDLE,
+};
 use crate::text::{self, Line, Lines, Name};
 use crate::Refusal;
 
@@ -87,7 +90,7 @@ pub fn read(text: &[u8]) -> Result<Library, Refusal> {
         let line = within(&mut lines)?;
         if !line.ended || line.bytes != b"End" {
             return Err(Refusal {
-                number: 3,
+                number: LIBRARY_FORM,
                 line: line.number,
             });
         }
@@ -100,16 +103,16 @@ fn at(line: u32) -> impl Fn(u32) -> Refusal {
     move |number| Refusal { number, line }
 }
 
-/// The next line of an entry. An entry broken off by the end is 3 at the line after the last.
+/// The next line of an entry. An entry broken off by the end is bad form at the line after the last.
 fn within<'a>(lines: &mut Lines<'a>) -> Result<Line<'a>, Refusal> {
     let after = lines.number() + 1;
     lines.next().ok_or(Refusal {
-        number: 3,
+        number: LIBRARY_FORM,
         line: after,
     })
 }
 
-/// `Name,NAME,n`: 3 form, 4 used before, 5 pins, 9 a 33rd entry.
+/// `Name,NAME,n`.
 fn name_line(line: &Line, library: &Library) -> Result<(Name, usize), u32> {
     let mut fields = text::fields(line.bytes);
     let word = fields.next();
@@ -118,23 +121,22 @@ fn name_line(line: &Line, library: &Library) -> Result<(Name, usize), u32> {
     let (Some(b"Name"), Some(name), Some(pins), None, true) =
         (word, name, pins, fields.next(), line.ended)
     else {
-        return Err(3);
+        return Err(LIBRARY_FORM);
     };
     if library.find(&name).is_some() {
-        return Err(4);
+        return Err(NAME_USED);
     }
     let pins = pins as usize;
     if pins < 1 || pins > MOST_PINS {
-        return Err(5);
+        return Err(PINS_BAD);
     }
     if library.cells.len() == MOST_CELLS {
-        return Err(9);
+        return Err(CELLS_MANY);
     }
     Ok((name, pins))
 }
 
-/// A line of rows: 3 form, 6 groups, 7 a bit above the columns, 8 nothing named. The rows are added
-/// to the list and the groups replaced.
+/// A line of rows. The rows are added to the list and the groups replaced.
 fn rows_line(
     line: &Line,
     word: &str,
@@ -147,19 +149,19 @@ fn rows_line(
     let first = rows.len();
     let mut fields = text::fields(line.bytes);
     if fields.next() != Some(word.as_bytes()) || !line.ended {
-        return Err(3);
+        return Err(LIBRARY_FORM);
     }
     // An M joins the row after it to the group before it, so it needs both.
     let mut joined = false;
     for field in fields {
         if field == b"M" {
             if joined || groups.is_empty() {
-                return Err(3);
+                return Err(LIBRARY_FORM);
             }
             joined = true;
             continue;
         }
-        let row = text::octal(field).ok_or(3u32)?;
+        let row = text::octal(field).ok_or(LIBRARY_FORM)?;
         if !joined {
             let start = rows.len() as u32;
             groups.push(Group { start, end: start });
@@ -169,7 +171,7 @@ fn rows_line(
         joined = false;
     }
     if joined {
-        return Err(3);
+        return Err(LIBRARY_FORM);
     }
     let wanted = match purpose {
         Use::Set => 2,
@@ -180,7 +182,7 @@ fn rows_line(
             .iter()
             .any(|group| (group.end - group.start) as usize > MOST_ROWS)
     {
-        return Err(6);
+        return Err(GROUPS_BAD);
     }
     // The highest column: pin 1 at 0 where the output is set, else "observe the output".
     let top = match purpose {
@@ -189,14 +191,14 @@ fn rows_line(
     };
     let rows = &rows[first..];
     if rows.iter().any(|row| row >> (top + 1) != 0) {
-        return Err(7);
+        return Err(BIT_ABOVE);
     }
     let unnamed = |row: u32| match purpose {
         Use::Set => row >> 1 == 0,
         Use::Observe => row >> top == 0,
     };
     if rows.iter().any(|&row| unnamed(row)) {
-        return Err(8);
+        return Err(ROW_IDLE);
     }
     Ok(())
 }

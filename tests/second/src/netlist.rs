@@ -1,6 +1,9 @@
 //! The netlist: inputs, outputs and gates in any order.
 
 use crate::library::{Library, MOST_PINS};
+use crate::refusal::{
+    CELL_UNKNOWN, DRIVEN_BEFORE, GATES_MANY, LINE_BAD, MARKED_BEFORE, NETLIST_FORM, PINS_DIFFER,
+};
 use crate::text::{self, Line, Lines};
 use crate::Refusal;
 
@@ -61,14 +64,14 @@ impl Netlist {
     /// Takes a line in, or answers the lowest number that holds of it.
     fn read_line(&mut self, line: &Line, library: &Library) -> Result<(), u32> {
         if !line.ended {
-            return Err(10);
+            return Err(NETLIST_FORM);
         }
         let mut fields = text::fields(line.bytes);
         match fields.next() {
             Some(b"input") => {
                 let marks = self.mark(only_number(fields)?)?;
                 if marks.driven {
-                    return Err(14);
+                    return Err(DRIVEN_BEFORE);
                 }
                 marks.driven = true;
                 marks.input = true;
@@ -77,13 +80,13 @@ impl Netlist {
             Some(b"output") => {
                 let marks = self.mark(only_number(fields)?)?;
                 if marks.output {
-                    return Err(15);
+                    return Err(MARKED_BEFORE);
                 }
                 marks.output = true;
                 Ok(())
             }
             Some(b"gate") => self.gate(fields, library),
-            _ => Err(10),
+            _ => Err(NETLIST_FORM),
         }
     }
 
@@ -92,14 +95,14 @@ impl Netlist {
         mut fields: impl Iterator<Item = &'a [u8]>,
         library: &Library,
     ) -> Result<(), u32> {
-        let name = fields.next().and_then(text::name).ok_or(10u32)?;
-        let output = fields.next().and_then(text::decimal).ok_or(10u32)?;
+        let name = fields.next().and_then(text::name).ok_or(NETLIST_FORM)?;
+        let output = fields.next().and_then(text::decimal).ok_or(NETLIST_FORM)?;
         // Every field is read before anything is judged: form comes first, then all line numbers.
         let mut in_range = on_range(output);
         let mut read = [0u16; MOST_PINS];
         let mut pins = 0;
         for field in fields {
-            let pin = text::decimal(field).ok_or(10u32)?;
+            let pin = text::decimal(field).ok_or(NETLIST_FORM)?;
             in_range &= on_range(pin);
             if pins < MOST_PINS && on_range(pin) {
                 read[pins] = pin as u16;
@@ -107,20 +110,20 @@ impl Netlist {
             pins += 1;
         }
         if !in_range {
-            return Err(11);
+            return Err(LINE_BAD);
         }
-        let cell = library.find(&name).ok_or(12u32)?;
+        let cell = library.find(&name).ok_or(CELL_UNKNOWN)?;
         if pins != library.cells[cell].pins {
-            return Err(13);
+            return Err(PINS_DIFFER);
         }
         let marks = self.mark(output)?;
         if marks.driven {
-            return Err(14);
+            return Err(DRIVEN_BEFORE);
         }
         marks.driven = true;
         // Never met: as many driven lines come before it as there are lines.
         if self.gates.len() == MOST_GATES {
-            return Err(16);
+            return Err(GATES_MANY);
         }
         let mut lines = [0; MOST_PINS + 1];
         for pin in 0..pins {
@@ -135,7 +138,7 @@ impl Netlist {
     /// The marks of a line that the text mentions.
     fn mark(&mut self, number: u32) -> Result<&mut Marks, u32> {
         if !on_range(number) {
-            return Err(11);
+            return Err(LINE_BAD);
         }
         let marks = &mut self.marks[number as usize];
         marks.mentioned = true;
@@ -151,6 +154,6 @@ fn on_range(number: u32) -> bool {
 fn only_number<'a>(mut fields: impl Iterator<Item = &'a [u8]>) -> Result<u32, u32> {
     match (fields.next().and_then(text::decimal), fields.next()) {
         (Some(number), None) => Ok(number),
-        _ => Err(10),
+        _ => Err(NETLIST_FORM),
     }
 }

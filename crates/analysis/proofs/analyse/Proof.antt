@@ -1,97 +1,82 @@
-use Rattle.analysis.specs.Outcome.{givenTexts}
-use Rattle.analysis.proofs.Checking.{texts-checked}
-use denote.Ref.{now}
+-- `analyse`: the entry and the library, the netlist text, and the end, one after the other. Assumes nothing.
 use mathlib.Core.Path.{sym, _∙_}
-use Rattle.analysis.specs.Answer.{answerRead, lentOf}
-use Rattle.analysis.proofs.Entering.{texts-cause, enters, stopped, accepted-by, refused-by-text}
+use denote.Ref.{now}
+use Rattle.cell_library.specs.Library.{library}
+use Rattle.outcome.specs.Answer.{lentOf}
+use Rattle.outcome.specs.Outcome.{Given, Lent, givenTexts, entry, tableShort, textLong}
+use Rattle.outcome.specs.Progress.{entryBy}
+use Rattle.outcome.proofs.Checking.{texts-checked}
+use Rattle.outcome.proofs.Entering.{texts-entry, entered}
+use Rattle.outcome.proofs.Promising.{Reached, unrefused-entry, reached, ready, promised}
+use Rattle.analysis.proofs.Reading.{netlist-read}
 use borrow.Author.Needs.{needs}
 use Rattle.analysis.proofs.analyse.Statement.{statement}
 use Rattle.analysis.proofs.analyse.Tie as tie
-use Rattle.analysis.proofs.analyse.Reads as reads
-use Rattle.analysis.proofs.analyse.Lts as lts
-use Rattle.analysis.proofs.clear_all.Reads as clear-all-reads
-use Rattle.analysis.proofs.entry_cause.Reads as entry-cause-reads
-use Rattle.analysis.proofs.work.Reads as work-reads
 
-entry-cause-requires : tie.Need-entry-cause-requires
-entry-cause-requires c κs = search needs
+-- ---- the places of the code that the answers speak of
+
+abbrev begins : tie.After-begin → tie.Start
+begins c = c .before .before .before .before .before .before .before .before
+
+abbrev begun : tie.After-read-netlist-arg2 → tie.After-begin
+begun c = c .before .before .before .before
+
+abbrev netlist-done : tie.After-finish-arg4 → tie.After-read-netlist
+netlist-done c = c .before .before .before .before .before .before
+
+abbrev finishes : tie.After-slice-known10 → tie.After-finish
+finishes c = c .before .before .before .before .before .before .before .before
+
+module _ (s : tie.Start) where
+  abbrev given : Given
+  given = givenTexts (now (s .args .lib)) (now (s .args .net))
+
+  abbrev lent : Lent
+  lent = lentOf (now (s .args .library)) (now (s .args .netlist)) (now (s .args .numbers)) (now (s .args .report))
+
+-- Where the call stands before its end.
+stands : (c : tie.After-read-netlist)
+    → let b = begun (c .before) in
+    Reached (given (begins b)) (lent (begins b)) (b .begin .last .1 .1 .0) (c .read-netlist .last .1 .1 .0) (c .read-netlist .result)
+unfolding givenTexts entry entryBy tableShort textLong
+stands c =
+    let b = begun (c .before) in
+    let s = begins b in
+    let h = b .begin .ensures in
+    reached (given s) (lent s) _ (b .begin .result)
+    (h .answers) (h .leaves) _ (c .read-netlist .result)
+    (netlist-read (now (s .args .lib)) (now (s .args .net)) (lent s) _ (b .begin .result) _ (c .read-netlist .result) (c .read-netlist .ensures))
+
+read-netlist-requires : tie.Need-read-netlist-requires
+read-netlist-requires c κs o =
+    let b = begun c in
+    let e = entered _ _ _ _ _ (unrefused-entry _ (library (now (begins b .args .lib))) (sym (b .begin .ensures .answers) ∙ o)) in
+    (e .net-short, e .netlist-long)
+
+finish-requires : tie.Need-finish-requires
+finish-requires c κs =
+    let n = netlist-done c in
+    let s = begins (begun (n .before)) in
+    ready (given s) (lent s) (texts-checked _ _) _ _ _ (stands n)
+    (λ e. entered _ _ _ _ _ (texts-entry (now (s .args .lib)) (now (s .args .net)) (lent s) ∙ e) .numbers-long)
 
 returns : tie.Need-returns
-unfolding answerRead
 returns c =
-    let a = c .before .before .before .before .before .before .before .before .args in
-    stopped (givenTexts (now (a .lib)) (now (a .net))) (texts-checked (now (a .lib)) (now (a .net))) (lentOf (now (a .library)) (now (a .netlist)) (now (a .numbers)) (now (a .report))) _ (texts-cause (now (a .lib)) (now (a .net)) (lentOf (now (a .library)) (now (a .netlist)) (now (a .numbers)) (now (a .report)))) (c .before .entry-cause .result) (c .before .entry-cause .ensures) (c .if1 .taken)
-
-work-requires : tie.Need-work-requires
-work-requires c κs =
-    let a = c .before .before .before .before .before .before .before .before .before .before .before .before .args in
-    enters (givenTexts (now (a .lib)) (now (a .net))) (texts-checked (now (a .lib)) (now (a .net))) (lentOf (now (a .library)) (now (a .netlist)) (now (a .numbers)) (now (a .report))) _ (texts-cause (now (a .lib)) (now (a .net)) (lentOf (now (a .library)) (now (a .netlist)) (now (a .numbers)) (now (a .report)))) (sym (c .before .before .before .before .if1 .left) ∙ c .before .before .before .before .before .entry-cause .ensures)
-
-enum-known-answer : tie.Need-enum-known-answer
-enum-known-answer c = search needs
-
-enum-known-answer-2 : tie.Need-enum-known-answer-2
-enum-known-answer-2 c = search needs
-
-clear-all-requires : tie.Need-clear-all-requires
-clear-all-requires c κs = search needs
-
-same-length : tie.Need-same-length
-same-length c = search needs
-
-same-length-2 : tie.Need-same-length-2
-same-length-2 c = search needs
-
-same-length-3 : tie.Need-same-length-3
-same-length-3 c = search needs
-
-same-length-4 : tie.Need-same-length-4
-same-length-4 c = search needs
-
-returns-2 : tie.Need-returns-2
-returns-2 c =
-    let a = c .before .before .before .before .before .before .before .before .before .before .before .before .before .before .before .before .before .before .before .before .before .before .before .before .args in
-    let w = c .before .before .before .before .before .before .before .before .before .before .before .work in
-    accepted-by (givenTexts (now (a .lib)) (now (a .net))) (texts-checked (now (a .lib)) (now (a .net))) (lentOf (now (a .library)) (now (a .netlist)) (now (a .numbers)) (now (a .report))) _ (texts-cause (now (a .lib)) (now (a .net)) (lentOf (now (a .library)) (now (a .netlist)) (now (a .numbers)) (now (a .report)))) (sym (c .before .before .before .before .before .before .before .before .before .before .before .before .before .before .before .before .if1 .left) ∙ c .before .before .before .before .before .before .before .before .before .before .before .before .before .before .before .before .before .entry-cause .ensures) _ (w .result) _ (w .ensures) (search needs)
-
-same-length-5 : tie.Need-same-length-5
-same-length-5 c = search needs
-
-same-length-6 : tie.Need-same-length-6
-same-length-6 c = search needs
-
-same-length-7 : tie.Need-same-length-7
-same-length-7 c = search needs
-
-same-length-8 : tie.Need-same-length-8
-same-length-8 c = search needs
-
-returns-3 : tie.Need-returns-3
-returns-3 c =
-    let a = c .before .before .before .before .before .before .before .before .before .before .before .before .before .before .before .before .before .before .before .before .before .before .before .before .before .before .before .before .before .before .before .before .before .before .before .before .before .args in
-    let w = c .before .before .before .before .before .before .before .before .before .before .before .before .before .before .before .before .before .before .before .before .before .before .before .before .work in
-    let k = c .before .before .before .before .before .before .before .before .clear-all in
-    refused-by-text (givenTexts (now (a .lib)) (now (a .net))) (texts-checked (now (a .lib)) (now (a .net))) (lentOf (now (a .library)) (now (a .netlist)) (now (a .numbers)) (now (a .report))) _ (texts-cause (now (a .lib)) (now (a .net)) (lentOf (now (a .library)) (now (a .netlist)) (now (a .numbers)) (now (a .report)))) (sym (c .before .before .before .before .before .before .before .before .before .before .before .before .before .before .before .before .before .before .before .before .before .before .before .before .before .before .before .before .before .if1 .left) ∙ c .before .before .before .before .before .before .before .before .before .before .before .before .before .before .before .before .before .before .before .before .before .before .before .before .before .before .before .before .before .before .entry-cause .ensures)
-    (lentOf (w .last .1 .1 .0) (w .last .1 .1 .1 .0) (w .last .1 .1 .1 .1 .0) (w .last .1 .1 .1 .1 .1 .0)) _ (w .result) _ (w .ensures) (search needs) (k .ensures)
-    (w .kept .1 .1 .0) (w .kept .1 .1 .1 .0) (w .kept .1 .1 .1 .1 .0) (w .kept .1 .1 .1 .1 .1 .0)
+    let f = finishes c in
+    let n = netlist-done (f .before) in
+    let b = begun (n .before) in
+    let s = begins b in
+    promised (given s) (lent s) (texts-checked _ _) _ _ (b .begin .kept .1 .1 .0) (n .read-netlist .kept .1 .1 .0) _ (stands n) _ _ (f .finish .ensures)
 
 pub analyse-spec : {M : Type 1} → statement M
 analyse-spec =
     tie.close
     (tie.spec
-    entry-cause-requires
-    returns
-    work-requires
-    enum-known-answer
-    enum-known-answer-2
-    clear-all-requires
-    same-length
-    same-length-2
-    same-length-3
-    same-length-4
-    returns-2
-    same-length-5
-    same-length-6
-    same-length-7
-    same-length-8
-    returns-3)
+    (λ c κs. search needs)
+    read-netlist-requires
+    finish-requires
+    (λ c. search needs)
+    (λ c. search needs)
+    (λ c. search needs)
+    (λ c. search needs)
+    returns)

@@ -3,73 +3,74 @@ use mathlib.Core.List.{List, [], _++_}
 use mathlib.Core.Path.{_≡_, refl, sym, ap, _∙_}
 use Prim.Native.Nat.{ℕ}
 use lib.ListN.{length, drop}
-use Rattle.text.specs.Refusal.{refused, read}
-use Rattle.cell_library.specs.Answer.{answerRead, countRead}
+use Rattle.sizes.specs.Sizes as Size
+use Rattle.table.proofs.Places.{cleared-all}
+use Rattle.reading.specs.Refusal.{refused, read}
+use Rattle.reading.specs.Verdict.{verdictRead, doneRead}
+use Rattle.reading.proofs.Laws.{done-read, done-refused}
 use Rattle.cell_library.specs.Library.{library}
-use Rattle.cell_library.specs.Layout.{librarySize, libraryWords, libraryAfter}
-use Rattle.cell_library.proofs.Walks.{cleared-size, past-size, cleared-whole, accepted-of, refused-of}
+use Rattle.cell_library.specs.Layout.{libraryWords, libraryAfter}
+use Rattle.cell_library.proofs.Walks.{cleared-empty, past-size}
 use borrow.Author.Needs.{needs}
 use Rattle.cell_library.proofs.read_library.Statement.{statement}
 use Rattle.cell_library.proofs.read_library.Tie as tie
 
-clear-requires : tie.Need-clear-requires
-clear-requires c κs = search needs
+-- ---- the places of the code that the answers speak of
+
+abbrev begun : tie.After-clear → tie.Start
+begun c = c .before .before .before .before
+
+abbrev cleared : tie.After-read-lines → tie.After-clear
+cleared c = c .before .before .before .before
+
+abbrev accepted : tie.After-enum-told → tie.After-read-lines
+accepted c = c .before .before .before .before
+
+abbrev stopped : tie.After-enum-told2 → tie.After-read-lines
+stopped c = c .before .before .before .before
+
+-- The table holds no cell before the first line is read.
+empty : (c : tie.After-clear) → c .clear .last .0 ≡ libraryWords [] ++ drop Size.library (begun c .args .table .now)
+empty c = c .clear .ensures ∙ cleared-empty (begun c .args .table .now) (begun c .pre .1)
+
+kept : (c : tie.After-clear) → drop Size.library (c .clear .last .0) ≡ drop Size.library (begun c .args .table .now)
+kept c = ap (drop Size.library) (empty c) ∙ past-size [] (drop Size.library (begun c .args .table .now))
 
 read-lines-requires : tie.Need-read-lines-requires
 read-lines-requires c κs =
-    let t = c .before .before .before .before .before .before .before .args .table .now in
-    let empty = c .before .before .before .clear .ensures ∙ cleared-size t (c .before .before .before .before .before .before .before .pre .1) in
-    (c .before .before .before .before .before .before .before .pre .0, empty ∙ ap (λ (l : List ℕ). libraryWords [] ++ l) (sym (ap (drop librarySize) empty ∙ past-size [] (drop librarySize t))))
-
-enum-told : tie.Need-enum-told
-enum-told c = search needs
-
-enum-told-2 : tie.Need-enum-told-2
-enum-told-2 c = search needs
-
-clear-requires-2 : tie.Need-clear-requires-2
-clear-requires-2 c κs = search needs
-
-same-length : tie.Need-same-length
-same-length c = search needs
+    let t = c .before .before .before in
+    (begun t .pre .0, empty t ∙ ap (λ (l : List ℕ). libraryWords [] ++ l) (sym (kept t)))
 
 returns : tie.Need-returns
-unfolding answerRead libraryAfter
+unfolding verdictRead libraryAfter
 returns c =
-    let t = c .before .before .before .before .before .before .before .before .before .before .before .before .args .table .now in
-    let s = c .before .before .before .before .before .before .before .before .before .before .before .before .args .text .now in
-    let empty = c .before .before .before .before .before .before .before .before .clear .ensures ∙ cleared-size t (c .before .before .before .before .before .before .before .before .before .before .before .before .pre .1) in
-    let kept : drop librarySize (c .before .before .before .before .before .before .before .before .clear .last .0) ≡ drop librarySize t = ap (drop librarySize) empty ∙ past-size [] (drop librarySize t) in
-    let told : read (c .enum-told .given .0 .0) ≡ countRead (library s) = sym (ap answerRead (c .enum-told .given .1)) ∙ c .before .before .before .before .read-lines .ensures .0 in (
-      c .before .before .before .before .read-lines .ensures .0,
-      accepted-of (library s) (c .enum-told .given .0 .0) told
-          (λ cells e. c .before .before .before .before .read-lines .ensures .1 cells e ∙ rw (e, kept)),
-    )
-
-same-length-2 : tie.Need-same-length-2
-same-length-2 c = search needs
+    let r = accepted c in
+    let s = begun (cleared r) .args .text .now in
+    let told : read tt ≡ doneRead (library s) = sym (ap verdictRead (c .enum-told .given .1)) ∙ r .read-lines .ensures .0 in
+    (r .read-lines .ensures .0, done-read (library s) told (λ cells e. r .read-lines .ensures .1 cells e ∙ rw (e, kept (cleared r))))
 
 returns-2 : tie.Need-returns-2
-unfolding answerRead libraryAfter
+unfolding verdictRead libraryAfter
 returns-2 c =
-    let t = c .before .before .before .before .before .before .before .before .before .before .before .before .before .before .before .before .args .table .now in
-    let s = c .before .before .before .before .before .before .before .before .before .before .before .before .before .before .before .before .args .text .now in
-    let x = c .before .before .before .before .enum-told2 .given .0 .0 in
-    let told : refused (x .number) (x .line) ≡ countRead (library s) = sym (ap answerRead (c .before .before .before .before .enum-told2 .given .1)) ∙ c .before .before .before .before .before .before .before .before .read-lines .ensures .0 in
-    let stop : library s ≡ refused (x .number) (x .line) = refused-of (library s) (x .number) (x .line) told in
-    let long : length (c .before .before .before .before .before .before .before .before .read-lines .last .1 .0) ≡ length t = c .before .before .before .before .before .before .before .before .read-lines .kept .1 .0 ∙ c .before .before .before .before .before .before .before .before .before .before .before .before .clear .kept .0 in
-    (c .before .before .before .before .before .before .before .before .read-lines .ensures .0, c .before .before .clear2 .ensures ∙ cleared-whole (c .before .before .before .before .before .before .before .before .read-lines .last .1 .0) (length t) long ∙ rw stop refl)
+    let k = c .before .before .before .before in
+    let r = stopped k in
+    let s = begun (cleared r) .args .text .now in
+    let x = k .enum-told2 .given .0 .0 in
+    let told : refused (x .number) (x .line) ≡ doneRead (library s) = sym (ap verdictRead (k .enum-told2 .given .1)) ∙ r .read-lines .ensures .0 in
+    let stop : library s ≡ refused (x .number) (x .line) = done-refused (library s) (x .number) (x .line) told in
+    let long : length (r .read-lines .last .1 .0) ≡ length (begun (cleared r) .args .table .now) = r .read-lines .kept .1 .0 ∙ cleared r .clear .kept .0 in
+    (r .read-lines .ensures .0, c .before .before .clear2 .ensures ∙ cleared-all (r .read-lines .last .1 .0) ∙ rw (stop, long) refl)
 
 pub read-library-spec : {M : Type 1} → statement M
 read-library-spec =
     tie.close
     (tie.spec
-    clear-requires
+    (λ c κs. search needs)
     read-lines-requires
-    enum-told
-    enum-told-2
-    clear-requires-2
-    same-length
+    (λ c. search needs)
+    (λ c. search needs)
+    (λ c κs. search needs)
+    (λ c. search needs)
     returns
-    same-length-2
+    (λ c. search needs)
     returns-2)

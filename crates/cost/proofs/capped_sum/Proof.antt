@@ -8,20 +8,8 @@ use Rattle.cost.proofs.Laws.{sum-never, sum-over, sum-exact}
 use Rattle.cost.proofs.capped_sum.Statement.{statement}
 use Rattle.cost.proofs.capped_sum.Tie as tie
 
-returns : tie.Need-returns
-returns c = sym (sum-never _ _ (inl (omega arith)))
-
-returns-2 : tie.Need-returns-2
-returns-2 c = sym (sum-never _ _ (inr (omega arith)))
-
-add-sum : tie.Need-add-sum
-add-sum c = search needs
-
 returns-3 : tie.Need-returns-3
 returns-3 c = sym (sum-over _ _ (omega arith) (omega arith) (inr (inr (omega arith))))
 
-returns-4 : tie.Need-returns-4
-returns-4 c = sym (sum-exact _ _ (omega arith))
-
 pub capped-sum-spec : {M : Type 1} → statement M
-capped-sum-spec = tie.close (tie.spec returns returns-2 add-sum returns-3 returns-4)
+capped-sum-spec = tie.close (tie.spec (λ c. sym (sum-never _ _ (inl (omega arith)))) (λ c. sym (sum-never _ _ (inr (omega arith)))) (λ c. search needs) returns-3 (λ c. sym (sum-exact _ _ (omega arith))))

@@ -5,19 +5,13 @@ use Rattle.cost.specs.Cost.{counted, lesser}
 use Rattle.cost.proofs.least.Statement.{statement}
 use Rattle.cost.proofs.least.Tie as tie
 
-count-requires : tie.Need-count-requires
-count-requires c κs = search needs
-
 returns : tie.Need-returns
 unfolding lesser counted
 returns c = omega arith
-
-count-requires-2 : tie.Need-count-requires-2
-count-requires-2 c κs = search needs
 
 returns-2 : tie.Need-returns-2
 unfolding lesser counted
 returns-2 c = omega arith
 
 pub least-spec : {M : Type 1} → statement M
-least-spec = tie.close (tie.spec count-requires returns count-requires-2 returns-2)
+least-spec = tie.close (tie.spec (λ c κs. search needs) returns (λ c κs. search needs) returns-2)

@@ -1,59 +1,79 @@
 -- `admit` checks a statement of each kind and admits it. Assumes nothing.
+use mathlib.Core.Bool.{true}
+use mathlib.Core.Path.{_≡_, refl}
 use borrow.Author.Tests.{not-true, not-false}
-use Rattle.netlist.proofs.Outcomes.{form-10, form-none, kind-input, kind-output, kind-gate}
+use Rattle.netlist.specs.declared.RawStatement.{RawStatement}
+use Rattle.netlist.specs.Netlist.{Mark, input, output, kindOf}
+use Rattle.netlist.proofs.Outcomes.{form-bad, formless, kind-mark, kind-gate, kind-unknown}
 use borrow.Author.Needs.{needs}
 use Rattle.netlist.proofs.admit.Statement.{statement}
 use Rattle.netlist.proofs.admit.Tie as tie
 
+-- ---- the places of the code that the answers speak of
+
+abbrev given : tie.Else1 → RawStatement
+given c = c .before .before .before .args .s
+
+abbrev first : tie.After-slice-known2 → tie.Then2
+first c = c .before .before .before .before
+
+abbrev second : tie.After-slice-known3 → tie.Then3
+second c = c .before .before .before .before
+
+abbrev third : tie.After-slice-known4 → tie.Then4
+third c = c .before .before .before .before
+
+formed : (c : tie.Else1) → given c .form ≡ true
+formed c = not-false (given c .form) (c .if1 .left)
+
 returns : tie.Need-returns
-returns c cells rest ss tail w lib suited held said =
-    rw (form-none w (c .before .before .before .args .s) said (not-true (c .before .before .before .args .s .form) (c .if1 .taken))) (form-10 cells ss tail _ held)
-
-admit-input-requires : tie.Need-admit-input-requires
-admit-input-requires c κs = search needs
-
-same-length : tie.Need-same-length
-same-length c = search needs
+returns c cells w lib is ss h =
+    let s = c .before .before .before .args .s in
+    rw (formless s w is (not-true (s .form) (c .if1 .taken))) (form-bad cells h)
 
 returns-2 : tie.Need-returns-2
-returns-2 c cells rest ss tail w lib suited held said =
-    let s = c .before .before .before .before .before .before .before .before .args .s in
-    rw (kind-input w s said (not-false (s .form) (c .before .before .before .before .before .if1 .left)) (c .before .before .before .before .if2 .taken)) (c .before .before .admit-input .ensures cells ss tail held)
-
-admit-output-requires : tie.Need-admit-output-requires
-admit-output-requires c κs = search needs
-
-same-length-2 : tie.Need-same-length-2
-same-length-2 c = search needs
+returns-2 c cells w lib is ss h =
+    let t = first c in
+    rw (kind-mark (given (t .before)) (formed (t .before)) input w is (t .if2 .taken))
+    (c .before .before .admit-mark .ensures cells input refl refl ss h)
 
 returns-3 : tie.Need-returns-3
-returns-3 c cells rest ss tail w lib suited held said =
-    let s = c .before .before .before .before .before .before .before .before .before .args .s in
-    rw (kind-output w s said (not-false (s .form) (c .before .before .before .before .before .before .if1 .left)) (c .before .before .before .before .if3 .taken)) (c .before .before .admit-output .ensures cells ss tail held)
-
-admit-gate-requires : tie.Need-admit-gate-requires
-admit-gate-requires c κs = search needs
-
-same-length-3 : tie.Need-same-length-3
-same-length-3 c = search needs
+returns-3 c cells w lib is ss h =
+    let t = second c in
+    let e = t .before .before in
+    rw (kind-mark (given e) (formed e) output w is (t .if3 .taken))
+    (c .before .before .admit-mark2 .ensures cells output refl refl ss h)
 
 returns-4 : tie.Need-returns-4
-returns-4 c cells rest ss tail w lib suited held said =
-    let s = c .before .before .before .before .before .before .before .before .before .args .s in
-    let found = kind-gate w s said (not-false (s .form) (c .before .before .before .before .before .before .if1 .left)) (c .before .before .before .before .before .if2 .left) (c .before .before .before .before .if3 .left) in
-    rw (found .1) (c .before .before .admit-gate .ensures cells rest ss tail (found .0) lib suited held (found .2))
+returns-4 c cells w lib is ss h =
+    let t = third c in
+    let e = t .before .before .before in
+    let found = kind-gate (given e) (formed e) w is (t .if4 .taken) in
+    rw (found .1) (c .before .before .admit-gate .ensures cells (found .0) lib (found .2) ss h)
+
+returns-5 : tie.Need-returns-5
+returns-5 c cells w lib is ss h =
+    rw (kind-unknown (given (c .before .before .before)) w is marks (c .if4 .left)) (form-bad cells h)
+  where
+    marks : (m : Mark) → given (c .before .before .before) .kind ≡ kindOf m → ⊥
+    marks input k = c .before .before .if2 .left k
+    marks output k = c .before .if3 .left k
 
 pub admit-spec : {M : Type 1} → statement M
 admit-spec =
     tie.close
     (tie.spec
     returns
-    admit-input-requires
-    same-length
+    (λ c. search needs)
+    (λ c κs. search needs)
+    (λ c. search needs)
     returns-2
-    admit-output-requires
-    same-length-2
+    (λ c. search needs)
+    (λ c. search needs)
+    (λ c κs. search needs)
+    (λ c. search needs)
     returns-3
-    admit-gate-requires
-    same-length-3
-    returns-4)
+    (λ c κs. search needs)
+    (λ c. search needs)
+    returns-4
+    returns-5)

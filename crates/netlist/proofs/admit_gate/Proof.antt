@@ -1,79 +1,79 @@
 -- `admit_gate` checks a gate and admits it. Assumes nothing.
+use mathlib.Core.List.{List}
 use mathlib.Core.Path.{_≡_, sym, _∙_}
 use Prim.Native.Nat.{_<_}
 use native.Mathlib.Omega.{arith}
 use lib.ListN.{getD}
-use Rattle.netlist.proofs.Outcomes.{gate-own, gate-14, gate-16, gate-admitted}
+use Rattle.sizes.specs.Places.{driverPlace}
+use Rattle.sizes.specs.Sizes as Size
+use Rattle.cell_library.specs.Cells.{Cell}
+use Rattle.netlist.specs.Netlist.{Gate}
+use Rattle.netlist.specs.Admitting.{IsGate, gateCause}
+use Rattle.cell_library.specs.Layout.{LibraryHolds}
+use Rattle.netlist.proofs.Outcomes.{gate-own, gate-driven, gate-many, gate-admitted}
 use borrow.Author.Needs.{needs}
 use Rattle.netlist.proofs.admit_gate.Statement.{statement}
 use Rattle.netlist.proofs.admit_gate.Tie as tie
 
-gate-cause-requires : tie.Need-gate-cause-requires
-gate-cause-requires c κs = search needs
+-- ---- the places of the code that the answers speak of
+
+abbrev begun : tie.Else1 → tie.Start
+begun c = c .before .before .before .before
+
+abbrev uncaused : tie.After-word → tie.Else1
+uncaused c = c .before .before .before
+
+abbrev undriven : tie.After-word2 → tie.Else2
+undriven c = c .before .before
+
+abbrev counted : tie.After-store-gate → tie.After-word2
+counted c = c .before .before .before
+
+own : {cells : List Cell} {g : Gate} (c : tie.Else1)
+    → LibraryHolds (begun c .args .library .now) cells → IsGate g (begun c .args .s) → 0 ≡ gateCause cells g
+own {cells} {g} c lib is = sym (c .if1 .left) ∙ c .before .gate-cause .ensures cells g lib is
+
+free : {g : Gate} (c : tie.Else2)
+    → let a = begun (uncaused (c .before)) .args in
+    IsGate g (a .s) → getD (a .table .now) (driverPlace (g .line)) 0 ≡ 0
+free c is = rw (← is .line) (sym (c .before .word .ensures) ∙ c .if2 .left)
 
 returns : tie.Need-returns
-returns c cells rest ss tail g lib suited held said =
-    gate-own cells ss tail _ held g _ (c .before .gate-cause .ensures cells rest g lib suited said) (c .if1 .taken)
-
-cast-word : tie.Need-cast-word
-cast-word c = search needs
-
-word-requires : tie.Need-word-requires
-word-requires c κs = search needs
-
-same-length : tie.Need-same-length
-same-length c = search needs
+returns c cells g lib is ss h = gate-own cells h g _ (c .before .gate-cause .ensures cells g lib is) (c .if1 .taken)
 
 returns-2 : tie.Need-returns-2
-returns-2 c cells rest ss tail g lib suited held said =
-    let a = c .before .before .before .before .before .before .before .before .args in
-    let t = a .table .now in
-    let own = sym (c .before .before .before .before .if1 .left) ∙ c .before .before .before .before .before .gate-cause .ensures cells rest g lib suited said in
-    gate-14 cells ss tail t held g own (λ e. c .if2 .taken (c .before .word .ensures ∙ rw (said .line) e))
-
-word-requires-2 : tie.Need-word-requires-2
-word-requires-2 c κs = search needs
-
-same-length-2 : tie.Need-same-length-2
-same-length-2 c = search needs
+returns-2 c cells g lib is ss h =
+    gate-driven cells h g (own (uncaused (c .before)) lib is) (λ e. c .if2 .taken (c .before .word .ensures ∙ rw (is .line) e))
 
 returns-3 : tie.Need-returns-3
-returns-3 c cells rest ss tail g lib suited held said =
-    let a = c .before .before .before .before .before .before .before .before .before .before .before .args in
-    let t = a .table .now in
-    let own = sym (c .before .before .before .before .before .before .before .if1 .left) ∙ c .before .before .before .before .before .before .before .before .gate-cause .ensures cells rest g lib suited said in
-    let free : getD t (g .line) 0 ≡ 0 = rw (← said .line) (sym (c .before .before .before .before .word .ensures) ∙ c .before .before .before .if2 .left) in
-    gate-16 cells ss tail t held g own free (omega (arith, c .before .word2 .ensures))
-
-store-gate-requires : tie.Need-store-gate-requires
-store-gate-requires c κs = search needs
-
-same-length-3 : tie.Need-same-length-3
-same-length-3 c = search needs
+returns-3 c cells g lib is ss h =
+    let e = undriven (c .before) in
+    gate-many cells h g (own (uncaused (e .before)) lib is) (free e is) (omega (arith, c .before .word2 .ensures))
 
 returns-4 : tie.Need-returns-4
-returns-4 c cells rest ss tail g lib suited held said =
-    let a = c .before .before .before .before .before .before .before .before .before .before .before .before .before .before .before .args in
-    let t = a .table .now in
-    let own = sym (c .before .before .before .before .before .before .before .before .before .before .before .if1 .left) ∙ c .before .before .before .before .before .before .before .before .before .before .before .before .gate-cause .ensures cells rest g lib suited said in
-    let free : getD t (g .line) 0 ≡ 0 = rw (← said .line) (sym (c .before .before .before .before .before .before .before .before .word .ensures) ∙ c .before .before .before .before .before .before .before .if2 .left) in
-    let few : getD t 0 0 < 1000 = omega (arith, c .before .before .before .before .before .word2 .ensures) in
-    let done = gate-admitted cells ss tail t held g own free (a .s) said suited few in
-    (done .0, c .before .before .store-gate .ensures ∙ rw (c .before .before .before .before .before .word2 .ensures) (done .1))
+returns-4 c cells g lib is ss h =
+    let last = c .before .before in
+    let n = counted last in
+    let e = undriven n in
+    let a = begun (uncaused (e .before)) .args in
+    let few : getD (a .table .now) 0 0 < Size.gates = omega (arith, n .word2 .ensures) in
+    let done = gate-admitted cells h g (own (uncaused (e .before)) lib is) (free e is) (a .s) is (lib .fits) few in
+    record { answers = done .answers; leaves = last .store-gate .ensures ∙ rw (n .word2 .ensures) (done .leaves) }
 
 pub admit-gate-spec : {M : Type 1} → statement M
 admit-gate-spec =
     tie.close
     (tie.spec
-    gate-cause-requires
+    (λ c κs. search needs)
     returns
-    cast-word
-    word-requires
-    same-length
+    (λ c. search needs)
+    (λ c κs. search needs)
+    (λ c. search needs)
     returns-2
-    word-requires-2
-    same-length-2
+    (λ c κs. search needs)
+    (λ c. search needs)
+    (λ c. search needs)
     returns-3
-    store-gate-requires
-    same-length-3
+    (λ c κs. search needs)
+    (λ c. search needs)
     returns-4)

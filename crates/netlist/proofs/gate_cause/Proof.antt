@@ -1,38 +1,47 @@
 -- `gate_cause` weighs a gate's own numbers. Assumes nothing.
-use mathlib.Core.Bool.{not}
-use mathlib.Core.Path.{_∙_}
-use lib.Dec.{eqb}
-use Rattle.netlist.proofs.Causes.{noCell, pinsAt-cell}
+use mathlib.Core.Bool.{Bool, not, _||_}
+use mathlib.Core.List.{[]}
+use mathlib.Core.Path.{sym, ap, _∙_}
+use Prim.Native.Nat.{ℕ}
+use lib.Dec.{leb, eqb}
+use Rattle.cell_library.specs.Cells.{Cell}
+use Rattle.netlist.proofs.Causes.{pinsAt-cell}
 use Rattle.netlist.proofs.Outcomes.{gate-flags}
 use borrow.Author.Needs.{needs}
 use Rattle.netlist.proofs.gate_cause.Statement.{statement}
 use Rattle.netlist.proofs.gate_cause.Tie as tie
 
-line-bad-requires : tie.Need-line-bad-requires
-line-bad-requires c κs = search needs
+abbrev begun : tie.After-line-bad → tie.Start
+begun c = c .before .before
 
-count-requires : tie.Need-count-requires
-count-requires c κs = search needs
+abbrev counted : tie.After-pins-of → tie.After-count
+counted c = c .before .before
 
-pins-of-requires : tie.Need-pins-of-requires
-pins-of-requires c κs = search needs
-
-cast-pins : tie.Need-cast-pins
-cast-pins c = search needs
-
-lowest-requires : tie.Need-lowest-requires
-lowest-requires c κs = search needs
+-- No cell, where a reader of a list wants one.
+abbrev noCell : Cell
+noCell = record { name = []; pins = 0; cc = []; co = []; sc = []; so = [] }
 
 returns : tie.Need-returns
-returns c cells rest g held suited said =
-    let s = c .before .before .before .before .before .before .before .args .s in
-    let n = c .before .before .before .count .ensures cells rest held (suited .fits) in
+returns c cells g lib is =
+    let n = counted (c .before) in
+    let ranged = n .before .before in
+    let s = begun ranged .args .s in
     c .lowest .ensures
-    ∙ rw (c .before .before .before .before .before .line-bad .ensures, n)
-    (gate-flags cells g s said (not (eqb (c .before .pins-of .result) (s .count)))
-    (λ known. rw (c .before .pins-of .ensures cells rest noCell held (suited .fits) known, pinsAt-cell cells (s .cell) noCell known)))
+    ∙ gate-flags cells g s is _ _ _
+    (ap (λ (b : Bool). b || s .bad) (ranged .line-bad .ensures))
+    (ap (λ (k : ℕ). leb k (s .cell)) (n .count .ensures cells lib))
+    (λ known.
+    ap (λ (k : ℕ). not (eqb k (s .count)))
+    (c .before .pins-of .ensures cells noCell lib known
+    ∙ sym (pinsAt-cell cells (s .cell) noCell known)))
 
 pub gate-cause-spec : {M : Type 1} → statement M
 gate-cause-spec =
     tie.close
-    (tie.spec line-bad-requires count-requires pins-of-requires cast-pins lowest-requires returns)
+    (tie.spec
+    (λ c κs. search needs)
+    (λ c κs. search needs)
+    (λ c κs. search needs)
+    (λ c. search needs)
+    (λ c κs. search needs)
+    returns)

@@ -2,20 +2,18 @@
 use mathlib.Core.Path.{sym, _∙_}
 use lib.Dec.{ltb}
 use borrow.Author.Tests.{ltb-true, ltb-false}
-use Rattle.text.proofs.Laws.{by-test}
+use Rattle.sizes.specs.Sizes as Size
+use Rattle.reading.proofs.Laws.{by-test}
 use Rattle.netlist.proofs.Causes.{lineBad-low, lineBad-high, lineBad-good}
 use Rattle.netlist.proofs.line_bad.Statement.{statement}
 use Rattle.netlist.proofs.line_bad.Tie as tie
 
-returns : tie.Need-returns
-returns c = sym (lineBad-low _ (c .if1 .taken))
-
 returns-2 : tie.Need-returns-2
 returns-2 c =
     let l = c .before .args .l in
-    by-test (ltb 1000 l)
-    (λ e. e ∙ sym (lineBad-high l (c .if1 .left) (ltb-true 1000 l e)))
-    (λ e. e ∙ sym (lineBad-good l (c .if1 .left) (ltb-false 1000 l e)))
+    by-test (ltb Size.lines l)
+    (λ e. e ∙ sym (lineBad-high l (c .if1 .left) (ltb-true Size.lines l e)))
+    (λ e. e ∙ sym (lineBad-good l (c .if1 .left) (ltb-false Size.lines l e)))
 
 pub line-bad-spec : {M : Type 1} → statement M
-line-bad-spec = tie.close (tie.spec returns returns-2)
+line-bad-spec = tie.close (tie.spec (λ c. sym (lineBad-low _ (c .if1 .taken))) returns-2)

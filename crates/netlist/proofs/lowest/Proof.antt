@@ -1,6 +1,6 @@
 -- `lowest` weighs the causes in the numbers' order. Assumes nothing.
-use Rattle.text.specs.Class.{pick}
-use Rattle.netlist.specs.Plain.{lowest}
+use Rattle.reading.specs.Choice.{pick}
+use Rattle.netlist.specs.Lowest.{lowest}
 use Rattle.netlist.proofs.lowest.Statement.{statement}
 use Rattle.netlist.proofs.lowest.Tie as tie
 

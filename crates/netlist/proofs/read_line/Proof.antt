@@ -3,18 +3,10 @@ use borrow.Author.Needs.{needs}
 use Rattle.netlist.proofs.read_line.Statement.{statement}
 use Rattle.netlist.proofs.read_line.Tie as tie
 
-statement-of-requires : tie.Need-statement-of-requires
-statement-of-requires c κs = search needs
-
-admit-requires : tie.Need-admit-requires
-admit-requires c κs = search needs
-
-same-length : tie.Need-same-length
-same-length c = search needs
-
 returns : tie.Need-returns
-returns c cells rest ss tail lib suited held =
-    c .before .before .admit .ensures cells rest ss tail _ lib suited held (c .before .before .before .before .statement-of .ensures cells rest lib suited)
+returns c cells lib ss h =
+    let admitted = c .before .before in
+    admitted .admit .ensures cells _ lib (admitted .before .before .statement-of .ensures cells lib) ss h
 
 pub read-line-spec : {M : Type 1} → statement M
-read-line-spec = tie.close (tie.spec statement-of-requires admit-requires same-length returns)
+read-line-spec = tie.close (tie.spec (λ c κs. search needs) (λ c κs. search needs) (λ c. search needs) returns)

@@ -1,99 +1,111 @@
 -- `statement_of` reads the statement of a line by its first field. Assumes nothing.
-use mathlib.Core.Path.{ap, _∙_}
+use mathlib.Core.Bool.{Bool, false}
+use mathlib.Core.List.{List}
+use mathlib.Core.Path.{_≡_, refl, ap, _∙_}
+use Prim.Native.Nat.{ℕ}
+use Rattle.reading.specs.Choice.{pick}
 use Rattle.text.specs.Bytes.{bytes}
-use Rattle.text.specs.Lines.{nextAfter}
-use Rattle.netlist.proofs.Forms.{same-is, says-input, says-output, says-gate, says-other}
+use Rattle.text.specs.Lines.{part, nextAfter, sameBytes}
+use Rattle.netlist.specs.Netlist.{input, output, statementOf}
+use Rattle.netlist.proofs.Forms.{stands-none, same-is, all-fields}
 use borrow.Author.Needs.{needs}
 use Rattle.netlist.proofs.statement_of.Statement.{statement}
 use Rattle.netlist.proofs.statement_of.Tie as tie
 
-field-requires : tie.Need-field-requires
-field-requires c κs = search needs
+-- ---- the places of the code that the answers speak of
 
-after-requires : tie.Need-after-requires
-after-requires c κs = search needs
+abbrev begun : tie.After-field → tie.Start
+begun c = c .before .before .before
 
-slice-aggregate-same : tie.Need-slice-aggregate-same
-slice-aggregate-same c = search needs
+abbrev cut : tie.After-same → tie.After-after
+cut c = c .before .before
 
-same-requires : tie.Need-same-requires
-same-requires c κs = search needs
+abbrev no-input : tie.After-same2 → tie.Else1
+no-input c = c .before .before
 
-mark-from-requires : tie.Need-mark-from-requires
-mark-from-requires c κs = search needs
+abbrev no-output : tie.After-same3 → tie.Else2
+no-output c = c .before .before
+
+module _ (c : tie.After-after) where
+  abbrev line : List ℕ
+  line = begun (c .before) .args .line .now
+
+  behind : c .after .result ≡ nextAfter line 0 (part 44 line 0)
+  behind = c .after .ensures ∙ ap (nextAfter line 0) (c .before .field .ensures)
+
+  -- What `same` answered of the first field.
+  tested : (word : List ℕ) {t b : Bool} → t ≡ sameBytes (c .before .field .result .now) word → t ≡ b → sameBytes (part 44 line 0) word ≡ b
+  tested word said e = same-is word (c .before .field .ensures) said e
+
+other-input : (c : tie.Else1) → sameBytes (part 44 (line (cut (c .before))) 0) (bytes "input") ≡ false
+unfolding bytes
+other-input c = tested (cut (c .before)) (bytes "input") (c .before .same .ensures) (c .if1 .left)
+
+other-output : (c : tie.Else2) → sameBytes (part 44 (line (cut (no-input (c .before) .before))) 0) (bytes "output") ≡ false
+unfolding bytes
+other-output c = tested (cut (no-input (c .before) .before)) (bytes "output") (c .before .same2 .ensures) (c .if2 .left)
 
 returns : tie.Need-returns
-unfolding bytes
-returns c cells rest lib suited =
-    let s = c .before .before .before .before .before .before .before .before .args .line .now in
-    let f = c .before .before .before .before .before .field .ensures in
-    let next = c .before .before .before .before .after .ensures ∙ ap (nextAfter s 0) f in
-    says-input cells s (c .mark-from .result) (same-is (bytes "input") f (c .before .before .same .ensures) (c .before .if1 .taken)) (rw (← next) (c .mark-from .ensures))
-
-slice-aggregate-same-2 : tie.Need-slice-aggregate-same-2
-slice-aggregate-same-2 c = search needs
-
-same-requires-2 : tie.Need-same-requires-2
-same-requires-2 c κs = search needs
-
-mark-from-requires-2 : tie.Need-mark-from-requires-2
-mark-from-requires-2 c κs = search needs
+unfolding bytes statementOf pick
+returns c cells lib =
+    let t = c .before in
+    let f = cut (t .before) in
+    rw (all-fields (line f), tested f (bytes "input") (t .before .same .ensures) (t .if1 .taken), ← behind f)
+    (c .mark-from .ensures input refl)
 
 returns-2 : tie.Need-returns-2
-unfolding bytes
-returns-2 c cells rest lib suited =
-    let s = c .before .before .before .before .before .before .before .before .before .before .before .args .line .now in
-    let f = c .before .before .before .before .before .before .before .before .field .ensures in
-    let next = c .before .before .before .before .before .before .before .after .ensures ∙ ap (nextAfter s 0) f in
-    says-output cells s (c .mark-from2 .result) (same-is (bytes "input") f (c .before .before .before .before .before .same .ensures) (c .before .before .before .before .if1 .left)) (same-is (bytes "output") f (c .before .before .same2 .ensures) (c .before .if2 .taken))
-    (rw (← next) (c .mark-from2 .ensures))
-
-slice-aggregate-same-3 : tie.Need-slice-aggregate-same-3
-slice-aggregate-same-3 c = search needs
-
-same-requires-3 : tie.Need-same-requires-3
-same-requires-3 c κs = search needs
-
-gate-from-requires : tie.Need-gate-from-requires
-gate-from-requires c κs = search needs
+unfolding bytes statementOf pick
+returns-2 c cells lib =
+    let t = c .before in
+    let i = no-input (t .before) in
+    let f = cut (i .before) in
+    rw (all-fields (line f), other-input i, tested f (bytes "output") (t .before .same2 .ensures) (t .if2 .taken), ← behind f)
+    (c .mark-from2 .ensures output refl)
 
 returns-3 : tie.Need-returns-3
-unfolding bytes
-returns-3 c cells rest lib suited =
-    let s = c .before .before .before .before .before .before .before .before .before .before .before .before .before .before .args .line .now in
-    let f = c .before .before .before .before .before .before .before .before .before .before .before .field .ensures in
-    let next = c .before .before .before .before .before .before .before .before .before .before .after .ensures ∙ ap (nextAfter s 0) f in
-    says-gate cells s (c .gate-from .result) (same-is (bytes "input") f (c .before .before .before .before .before .before .before .before .same .ensures) (c .before .before .before .before .before .before .before .if1 .left)) (same-is (bytes "output") f (c .before .before .before .before .before .same2 .ensures) (c .before .before .before .before .if2 .left))
-    (same-is (bytes "gate") f (c .before .before .same3 .ensures) (c .before .if3 .taken)) (rw (← next) (c .gate-from .ensures cells rest lib suited))
-
-malformed-requires : tie.Need-malformed-requires
-malformed-requires c κs = search needs
+unfolding bytes statementOf pick
+returns-3 c cells lib =
+    let t = c .before in
+    let o = no-output (t .before) in
+    let i = no-input (o .before) in
+    let f = cut (i .before) in
+    rw (
+      all-fields (line f),
+      other-input i,
+      other-output o,
+      tested f (bytes "gate") (t .before .same3 .ensures) (t .if3 .taken),
+      ← behind f,
+    )
+    (c .gate-from .ensures cells lib)
 
 returns-4 : tie.Need-returns-4
-unfolding bytes
-returns-4 c cells rest lib suited =
-    let s = c .before .before .before .before .before .before .before .before .before .before .before .before .before .before .args .line .now in
-    let f = c .before .before .before .before .before .before .before .before .before .before .before .field .ensures in
-    says-other cells s (c .malformed .result) (same-is (bytes "input") f (c .before .before .before .before .before .before .before .before .same .ensures) (c .before .before .before .before .before .before .before .if1 .left)) (same-is (bytes "output") f (c .before .before .before .before .before .same2 .ensures) (c .before .before .before .before .if2 .left))
-    (same-is (bytes "gate") f (c .before .before .same3 .ensures) (c .before .if3 .left)) (c .malformed .ensures)
+unfolding bytes statementOf pick
+returns-4 c cells lib =
+    let t = c .before in
+    let o = no-output (t .before) in
+    let i = no-input (o .before) in
+    let f = cut (i .before) in
+    stands-none _ _
+    (rw (all-fields (line f), other-input i, other-output o, tested f (bytes "gate") (t .before .same3 .ensures) (t .if3 .left)))
+    (c .malformed .ensures)
 
 pub statement-of-spec : {M : Type 1} → statement M
 statement-of-spec =
     tie.close
     (tie.spec
-    field-requires
-    after-requires
-    slice-aggregate-same
-    same-requires
-    mark-from-requires
+    (λ c κs. search needs)
+    (λ c κs. search needs)
+    (λ c. search needs)
+    (λ c κs. search needs)
+    (λ c κs. search needs)
     returns
-    slice-aggregate-same-2
-    same-requires-2
-    mark-from-requires-2
+    (λ c. search needs)
+    (λ c κs. search needs)
+    (λ c κs. search needs)
     returns-2
-    slice-aggregate-same-3
-    same-requires-3
-    gate-from-requires
+    (λ c. search needs)
+    (λ c κs. search needs)
+    (λ c κs. search needs)
     returns-3
-    malformed-requires
+    (λ c κs. search needs)
     returns-4)

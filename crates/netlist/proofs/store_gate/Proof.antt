@@ -3,58 +3,58 @@ use mathlib.Core.List.{List}
 use mathlib.Core.Path.{ap, _∙_}
 use Prim.Native.Nat.{ℕ, _+_, min}
 use lib.ListN.{set, take}
-use Rattle.netlist.specs.Layout.{mentionPlace}
-use Rattle.netlist.specs.Plain.{mentionAll, gateStored}
+use Rattle.sizes.specs.Places.{mentionPlace}
+use Rattle.sizes.specs.Sizes as Size
+use Rattle.netlist.specs.Admitting.{mentionAll, gateStored, gateAdded}
 use borrow.Author.Needs.{needs}
 use Rattle.netlist.proofs.store_gate.Statement.{statement}
 use Rattle.netlist.proofs.store_gate.Tie as tie
 
-cast-put : tie.Need-cast-put
-cast-put c = search needs
+-- ---- the places of the code that the answers speak of
 
-put-requires : tie.Need-put-requires
-put-requires c κs = search needs
+abbrev begun : tie.After-put → tie.Start
+begun c = c .before .before .before .before
 
-mention-requires : tie.Need-mention-requires
-mention-requires c κs = search needs
+abbrev driven : tie.After-mention → tie.After-put
+driven c = c .before .before .before .before
 
-mention-pins-requires : tie.Need-mention-pins-requires
-mention-pins-requires c κs = search needs
+abbrev mentioned : tie.After-mention-pins → tie.After-mention
+mentioned c = c .before .before .before .before
 
-put-gate-requires : tie.Need-put-gate-requires
-put-gate-requires c κs = search needs
+abbrev read : tie.After-put-gate → tie.After-mention-pins
+read c = c .before .before .before .before
 
-add-put : tie.Need-add-put
-add-put c = search needs
-
-put-requires-2 : tie.Need-put-requires-2
-put-requires-2 c κs = search needs
-
-same-length : tie.Need-same-length
-same-length c = search needs
+abbrev stored : tie.After-put2 → tie.After-put-gate
+stored c = c .before .before .before .before
 
 returns : tie.Need-returns
+unfolding gateAdded mentionAll
 returns c =
-    let a = c .before .before .before .before .before .before .before .before .before .before .before .before .before .before .before .before .before .before .before .before .before .before .args in
-    let s = a .s in
-    c .before .before .put2 .ensures
-    ∙ ap (λ (t : List ℕ). set t 0 (a .g + 1))
-    (c .before .before .before .before .before .before .put-gate .ensures
-    ∙ ap (gateStored (a .g) (s .cell) (s .line) (s .pins))
-    (c .before .before .before .before .before .before .before .before .before .before .mention-pins .ensures
-    ∙ ap (mentionAll (take (min (s .count) 8) (s .pins)))
-    (c .before .before .before .before .before .before .before .before .before .before .before .before .before .before .mention .ensures ∙ ap (λ (t : List ℕ). set t (mentionPlace (s .line)) 1) (c .before .before .before .before .before .before .before .before .before .before .before .before .before .before .before .before .before .before .put .ensures))))
+    let counts = c .before .before in
+    let gates = stored counts in
+    let pins = read gates in
+    let lines = mentioned pins in
+    let drives = driven lines in
+    let g = begun drives .args .g in
+    let s = begun drives .args .s in
+    counts .put2 .ensures
+    ∙ ap (λ (t : List ℕ). set t 0 (g + 1))
+    (gates .put-gate .ensures
+    ∙ ap (gateStored g (s .cell) (s .line) (s .pins))
+    (pins .mention-pins .ensures
+    ∙ ap (mentionAll (take (min (s .count) Size.pins) (s .pins)))
+    (lines .mention .ensures ∙ ap (λ (t : List ℕ). set t (mentionPlace (s .line)) 1) (drives .put .ensures))))
 
 pub store-gate-spec : {M : Type 1} → statement M
 store-gate-spec =
     tie.close
     (tie.spec
-    cast-put
-    put-requires
-    mention-requires
-    mention-pins-requires
-    put-gate-requires
-    add-put
-    put-requires-2
-    same-length
+    (λ c. search needs)
+    (λ c κs. search needs)
+    (λ c κs. search needs)
+    (λ c κs. search needs)
+    (λ c κs. search needs)
+    (λ c. search needs)
+    (λ c κs. search needs)
+    (λ c. search needs)
     returns)

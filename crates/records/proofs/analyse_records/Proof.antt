@@ -1,4 +1,6 @@
--- `records::analyse_records` meets its contract: a walk of its MIR, by hand. The library and the table are lent again to `prepare`; the table is lent again and the library is lent as `&` to `walk`; and the three tables and the report buffer go to `finish` for good.
+-- `records::analyse_records` meets its contract: a walk of its MIR, by hand. The library and the table are lent again to
+-- `prepare`; the table is lent again and the library is lent as `&` to `walk`; and the three tables and the report buffer go to
+-- `finish` for good.
 -- All that the proof knows of the three is that they meet their contracts.
 -- Assumes nothing.
 use mathlib.Core.Path.{_≡_, refl, sym, _∙_, ap, subst}
@@ -30,7 +32,6 @@ use denote.Builtin.{u8, u32, usize}
 use denote.Ref.{RefT}
 use denote.Slice.{sliceTy, sliceVal, slice-vals, MutSlice, ShrSlice, Room, finally, mut-slice-tells, shr-slice-tells, shr-slice-copy}
 use denote.Steps.{only, owned, peeks, heard, nothing}
-use denote.Struct.Laws as LL
 use denote.Enum.Laws as EL
 use denote.Triple.Entry.{onEntry}
 use denote.Triple.Spec.{Meets, tripleOf}
@@ -42,19 +43,20 @@ use denote.Triple.Walked.{says, Stays, gave-slice, stay-none-slice, walkOf, goes
 use denote.Exit.{yes}
 use denote.Signature.{plain}
 use borrow.Rule.Slice.Reshare.{keptS}
-use Rattle.analysis.specs.Answer.{lentOf}
-use Rattle.analysis.specs.Demands.{Promised}
-use Rattle.records.specs.Outcome.{givenRecords, answerRead, Prepared, Finished}
+use Rattle.outcome.specs.Answer.{answerRead, lentOf}
+use Rattle.outcome.specs.Demands.{Promised}
+use Rattle.outcome.specs.Progress.{Finished}
+use Rattle.records.specs.Outcome.{givenRecords, Prepared}
 use Rattle.records.specs.Walk.{Walked}
 use Rattle.records.specs.declared.Record.{Record}
-use Rattle.records.specs.declared.Status.{Status}
-use Rattle.records.specs.declared.Answer.{Answer}
-use Rattle.records.proofs.Answer as Ans
-use Rattle.records.proofs.Answer.Laws as Ans′
+use Rattle.outcome.specs.declared.Progress.{Progress}
+use Rattle.outcome.specs.declared.Answer.{Answer}
+use Rattle.outcome.proofs.Answer as Ans
+use Rattle.outcome.proofs.Answer.Laws as Ans′
+use Rattle.outcome.proofs.Progress as S
+use Rattle.outcome.proofs.Progress.Laws as S′
 use Rattle.records.proofs.Record as R
-use Rattle.records.proofs.Status as S
-use Rattle.records.proofs.Status.Laws as S′
-use Rattle.records.proofs.Calling.{ready, promised}
+use Rattle.records.proofs.Calling.{ready-then, promised-then}
 use Rattle.records.proofs.Relending.{Withheld, hand-on, take-back}
 use Rattle.records.proofs.Shared.{lends-shared, shared-back}
 use Rattle.records.proofs.prepare as prepare
@@ -65,17 +67,18 @@ use Rattle.records.proofs.walk as walk
 use Rattle.records.proofs.walk.Symbol as walk-def
 use Rattle.records.proofs.walk.Symbol.{name as #records·walk}
 use Rattle.records.proofs.walk.Met as walk-thm
-use Rattle.records.proofs.finish as finish
-use Rattle.records.proofs.finish.Symbol as finish-def
-use Rattle.records.proofs.finish.Symbol.{name as #records·finish}
-use Rattle.records.proofs.finish.Met as finish-thm
+use Rattle.outcome.proofs.finish as finish
+use Rattle.outcome.proofs.finish.Symbol as finish-def
+use Rattle.outcome.proofs.finish.Symbol.{name as #outcome·finish}
+use Rattle.outcome.proofs.finish.Met as finish-thm
 use Rattle.records.proofs.analyse_records.Key.{name as #records·analyse_records}
 use Rattle.records.proofs.analyse_records as call
 use Rattle.records.proofs.analyse_records.Statement as stated
 use Rattle.records.proofs.analyse_records.Code as code
 use Rattle.records.proofs.analyse_records.Code.Mir as pieces
 
--- where the local k stands in a context in which so many entries come before the locals: the last local is 25, and each has two entries
+-- where the local k stands in a context in which so many entries come before the locals: the last local is 25, and each has two
+-- entries
 abbrev at : ℕ → ℕ → ℕ
 at before k = before + (25 - k) * 2
 
@@ -178,7 +181,7 @@ module _ {M : Type 1} (𝓤 : URA M) (H : Heap 𝓤) (A : Atoms 𝓤) (W : Given
       -- [text; records; library; table; numbers; report; the result]
       nothing ! $ move ! (6 ∷ 0 ∷ []) $ fjoin ! $ move ! (5 ∷ 0 ∷ []) $ fjoin ! $ move ! (4 ∷ 0 ∷ []) $ fjoin ! $ move ! (3 ∷ 0 ∷ []) $ fjoin ! $ move ! (2 ∷ 0 ∷ []) $ fjoin ! $ move ! (1 ∷ 0 ∷ []) $ fjoin ! $ frame ! $ done !
 
-  module _ (𝓣 : Tables 𝓤 H) (fm : FmC 𝓤 H (W .laws) (𝓣 .C)) (known₁ : Triple 𝓤 (𝓣 .C #records·prepare) (Prepare 𝓤 H A mem run)) (known₂ : Triple 𝓤 (𝓣 .C #records·walk) (Walk 𝓤 H A mem run)) (known₃ : Triple 𝓤 (𝓣 .C #records·finish) (Finish 𝓤 H A mem run))
+  module _ (𝓣 : Tables 𝓤 H) (fm : FmC 𝓤 H (W .laws) (𝓣 .C)) (known₁ : Triple 𝓤 (𝓣 .C #records·prepare) (Prepare 𝓤 H A mem run)) (known₂ : Triple 𝓤 (𝓣 .C #records·walk) (Walk 𝓤 H A mem run)) (known₃ : Triple 𝓤 (𝓣 .C #outcome·finish) (Finish 𝓤 H A mem run))
       (room₁ : Room u8 (length (text .now))) (room₂ : Room R.the-row (length (recs .now))) (room₃ : Room u32 (length lib₀)) (room₄ : Room u32 (length ts₀)) (room₅ : Room u32 (length num)) (room₆ : Room u8 (length rep))
       (l₀ l₁ l₂ l₃ l₄ l₅ l₆ l₇ l₈ l₉ l₁₀ l₁₁ l₁₂ l₁₃ l₁₄ l₁₅ l₁₆ l₁₇ l₁₈ l₁₉ l₂₀ l₂₁ l₂₂ l₂₃ l₂₄ l₂₅ : ℕ) where
     abbrev C : Calls 𝓤 H
@@ -230,7 +233,8 @@ module _ {M : Type 1} (𝓤 : URA M) (H : Heap 𝓤) (A : Atoms 𝓤) (W : Given
     abbrev En : Env 𝓤 H
     En = (Ans′.mir, l₀) ∷ (τ₁, l₁) ∷ (τ₂, l₂) ∷ (τ₃, l₃) ∷ (τ₄, l₄) ∷ (τ₅, l₅) ∷ (τ₆, l₆) ∷ (S′.mir, l₇) ∷ (S′.mir, l₈) ∷ (ρ, l₉) ∷ (σ, l₁₀) ∷ (ρ, l₁₁) ∷ (σ, l₁₂) ∷ (word, l₁₃) ∷ (ρ, l₁₄) ∷ (σ, l₁₅) ∷ (ρ′, l₁₆) ∷ (σ′, l₁₇) ∷ (ρ, l₁₈) ∷ (σ, l₁₉) ∷ (ρ, l₂₀) ∷ (σ, l₂₁) ∷ (ρ, l₂₂) ∷ (σ, l₂₃) ∷ (ρ″, l₂₄) ∷ (σ″, l₂₅) ∷ []
 
-    -- the locals, the last first: the library and the table have m and n entries, and seven and eight are what stands in `begun` and `status`
+    -- the locals, the last first: the library and the table have m and n entries, and seven and eight are what stands in
+    -- `begun` and `progress`
     abbrev Locals : ℕ → ℕ → Item 𝓤 → Item 𝓤 → List (Item 𝓤)
     Locals m n seven eight =
         ‵ (froom σ″ l₂₅ 0) ∷ ‵ (fdies σ″ l₂₅) ∷ ‵ (froom ρ″ l₂₄ 0) ∷ ‵ (fdies ρ″ l₂₄) ∷ ‵ (froom σ l₂₃ 0) ∷ ‵ (fdies σ l₂₃) ∷ ‵ (froom ρ l₂₂ 0) ∷ ‵ (fdies ρ l₂₂)
@@ -248,19 +252,19 @@ module _ {M : Type 1} (𝓤 : URA M) (H : Heap 𝓤) (A : Atoms 𝓤) (W : Given
     abbrev room-begun : Item 𝓤
     room-begun = ‵ (froom S′.mir l₇ 0)
 
-    abbrev room-status : Item 𝓤
-    room-status = ‵ (froom S′.mir l₈ 0)
+    abbrev room-progress : Item 𝓤
+    room-progress = ‵ (froom S′.mir l₈ 0)
 
-    abbrev full-begun : Status → Item 𝓤
+    abbrev full-begun : Progress → Item 𝓤
     full-begun s = ‵ (fat fullShare S′.mir l₇ 0 (S′.lowered s))
 
-    abbrev full-status : Status → Item 𝓤
-    full-status s = ‵ (fat fullShare S′.mir l₈ 0 (S′.lowered s))
+    abbrev full-progress : Progress → Item 𝓤
+    full-progress s = ‵ (fat fullShare S′.mir l₈ 0 (S′.lowered s))
 
     -- the last call
-    module _ (s s′ : Status) (lib ts₁ ts : List ℕ) (is′ : Is S.the-row s′ (S′.lowered s′ ∷ [])) (e₃ : length lib ≡ length lib₀) (e₄ : length ts ≡ length ts₀)
+    module _ (s s′ : Progress) (lib ts₁ ts : List ℕ) (is′ : Is S.the-row s′ (S′.lowered s′ ∷ [])) (e₃ : length lib ≡ length lib₀) (e₄ : length ts ≡ length ts₀)
         (said₁ : Prepared (text .now) lib₀ ts₀ (length num) s lib ts₁) (said₂ : Walked lib s ts₁ (recs .now) s′ ts) where
-      abbrev passed₃ : RefT (List ℕ) × (RefT (List ℕ) × (RefT (List ℕ) × (RefT (List ℕ) × (Status × Unit {0}))))
+      abbrev passed₃ : RefT (List ℕ) × (RefT (List ℕ) × (RefT (List ℕ) × (RefT (List ℕ) × (Progress × Unit {0}))))
       passed₃ = (x₃ γ₃ lib, (x₄ γ₄ ts, (x₅, (x₆, (s′, tt)))))
 
       abbrev to₃ : Finish 𝓤 H A mem run .Ghost
@@ -270,11 +274,11 @@ module _ {M : Type 1} (𝓤 : URA M) (H : Heap 𝓤) (A : Atoms 𝓤) (W : Given
       goes₃ : ent 𝓤 (⋆ 𝓤 H A (‵ (flft κ₃ q₃) ∷ ‵ (flft κ₄ q₄) ∷ ‵ (flft κ₅ q₅) ∷ ‵ (flft κ₆ q₆) ∷ ‵ (Library κ₃ γ₃ lib (length lib)) ∷ ‵ (Table κ₄ γ₄ ts (length ts)) ∷ ‵ Numbers ∷ ‵ Report ∷ [])) (Finish 𝓤 H A mem run .pre to₃)
       goes₃ =
           qed W (‵ (flft κ₃ q₃) ∷ ‵ (flft κ₄ q₄) ∷ ‵ (flft κ₅ q₅) ∷ ‵ (flft κ₆ q₆) ∷ ‵ (Library κ₃ γ₃ lib (length lib)) ∷ ‵ (Table κ₄ γ₄ ts (length ts)) ∷ ‵ Numbers ∷ ‵ Report ∷ []) ∵
-          says ! (ready (text .now) lib₀ ts₀ num rep (recs .now) s s′ lib ts₁ ts said₁ said₂) $
+          says ! (ready-then (text .now) lib₀ ts₀ num rep (recs .now) s s′ lib ts₁ ts said₁ said₂) $
           nothing ! $ move ! (4 ∷ 0 ∷ []) $ join ! $ move ! (3 ∷ 0 ∷ []) $ join ! $ move ! (2 ∷ 0 ∷ []) $ join ! $ move ! (1 ∷ 0 ∷ []) $ join ! $
-          nothing ! $ owned ! S.the-row (Is S.the-row) (LL.makes S.the-type S′.the-plain 𝓤 H A) s′ _ is′ $ fjoin ! $ move ! (5 ∷ 0 ∷ []) $ fjoin ! $ move ! (4 ∷ 0 ∷ []) $ fjoin ! $ move ! (3 ∷ 0 ∷ []) $ fjoin ! $ move ! (2 ∷ 0 ∷ []) $ fjoin ! $ move ! (1 ∷ 0 ∷ []) $ frame ! $ done !
+          nothing ! $ owned ! S.the-row (Is S.the-row) (EL.makes S.the-type S′.the-plain 𝓤 H A) s′ _ is′ $ fjoin ! $ move ! (5 ∷ 0 ∷ []) $ fjoin ! $ move ! (4 ∷ 0 ∷ []) $ fjoin ! $ move ! (3 ∷ 0 ∷ []) $ fjoin ! $ move ! (2 ∷ 0 ∷ []) $ fjoin ! $ move ! (1 ∷ 0 ∷ []) $ frame ! $ done !
 
-      third : Sq W (At lib ts (full-begun s) (full-status s′)) (runs C Λ En pieces.t-12 (atRet En Post))
+      third : Sq W (At lib ts (full-begun s) (full-progress s′)) (runs C Λ En pieces.t-12 (atRet En Post))
       third =
           assigns ! (addr ! (from ! (fld ! refl (hop ! (look-in ! (at 12 3) (sub ! 0 refl (whole !))) (stop !))))) (from ! (stop !)) (init ! (at 12 18) refl (tt, tt)) $
           assigns ! (agg ! (and-then ! (load ! (from ! (stop !)) (look ! (at 12 18) refl)) (and-then ! (load ! (from ! (fld ! refl (stop !))) (look-in ! (at 12 3) (sub ! 1 refl (whole !)))) (no-more !)))) (from ! (stop !)) (init ! (at 12 19) refl (tt, (tt, (record { fits = subst (Room u32) (sym e₃) room₃ .0 }, tt)))) $
@@ -284,12 +288,13 @@ module _ {M : Type 1} (𝓤 : URA M) (H : Heap 𝓤) (A : Atoms 𝓤) (W : Given
           assigns ! (agg ! (and-then ! (load ! (from ! (stop !)) (look ! (at 12 22) refl)) (and-then ! (load ! (from ! (fld ! refl (stop !))) (look-in ! (at 12 5) (sub ! 1 refl (whole !)))) (no-more !)))) (from ! (stop !)) (init ! (at 12 23) refl (tt, (tt, (record { fits = room₅ .0 }, tt)))) $
           assigns ! (addr ! (from ! (fld ! refl (hop ! (look-in ! (at 12 6) (sub ! 0 refl (whole !))) (stop !))))) (from ! (stop !)) (init ! (at 12 24) refl (tt, tt)) $
           assigns ! (agg ! (and-then ! (load ! (from ! (stop !)) (look ! (at 12 24) refl)) (and-then ! (load ! (from ! (fld ! refl (stop !))) (look-in ! (at 12 6) (sub ! 1 refl (whole !)))) (no-more !)))) (from ! (stop !)) (init ! (at 12 25) refl (tt, (tt, (record { fits = room₆ .0 }, tt)))) $
-          -- [text; lft₁; records; lft₂; library; lft₃; table; lft₄; numbers; lft₅; report; lft₆; _25; …]: the four go to `finish` for good
+          -- [text; lft₁; records; lft₂; library; lft₃; table; lft₄; numbers; lft₅; report; lft₆; _25; …]: the four go to
+          -- `finish` for good
           move ! (5 ∷ 7 ∷ 9 ∷ 11 ∷ 4 ∷ 6 ∷ 8 ∷ 10 ∷ []) $ group ! 8 $ use1 W (raw (Finish 𝓤 H A mem run .pre to₃)) goes₃ $
           calls-at ! fm (Finish 𝓤 H A mem run) known₃ to₃ (and-then ! (load ! (from ! (stop !)) (look ! (at 5 19) refl)) (and-then ! (load ! (from ! (stop !)) (look ! (at 5 21) refl)) (and-then ! (load ! (from ! (stop !)) (look ! (at 5 23) refl)) (and-then ! (load ! (from ! (stop !)) (look ! (at 5 25) refl)) (and-then ! (load ! (from ! (stop !)) (look ! (at 5 8) refl)) (no-more !)))))) (λ w.
           use1 W (later (some (λ (r : Answer). ((‵ (flft κ₃ q₃) ⊛ ‵ (flft κ₄ q₄) ⊛ ‵ (flft κ₅ q₅) ⊛ ‵ (flft κ₆ q₆) ⊛ ‵ ftrue) ⊛ ‵ (Ans.the-row .own r (w ∷ []))) ⊛ raw (ensured 𝓤 H A finish.ended (finish.clauses 𝓤 H A mem run) (κ₃, (κ₄, (κ₅, (κ₆, tt)))) passed₃ tt r)))) (id⊢ 𝓤 _) $ await ! tt $ pick ! (λ r.
-          split ! $ move ! (1 ∷ []) $ use1 W (some (λ (zs : List ℕ × (List ℕ × (List ℕ × (List ℕ × (Unit {0} × Unit {0}))))). ‵ (lasts finish.ended (κ₃, (κ₄, (κ₅, (κ₆, tt)))) passed₃ zs) ⊛ raw (fact 𝓤 (Finished s′ (lentOf lib ts num rep) r (lentOf (zs .0) (zs .1 .0) (zs .1 .1 .0) (zs .1 .1 .1 .0)))))) (id⊢ 𝓤 _) $ pick ! (λ zs.
-          split ! $ move ! (1 ∷ []) $ heard ! (Finished s′ (lentOf lib ts num rep) r (lentOf (zs .0) (zs .1 .0) (zs .1 .1 .0) (zs .1 .1 .1 .0))) (λ said₃. fsplit ! $ fsplit ! $ move ! (1 ∷ []) $ feqL ! (λ f₃. move ! (1 ∷ []) $ fsplit ! $ fsplit ! $ move ! (1 ∷ []) $ feqL ! (λ f₄. move ! (1 ∷ []) $ fsplit ! $ fsplit ! $ move ! (1 ∷ []) $ feqL ! (λ f₅. move ! (1 ∷ []) $ fsplit ! $ fsplit ! $ move ! (1 ∷ []) $ feqL ! (λ f₆.
+          split ! $ move ! (1 ∷ []) $ use1 W (some (λ (zs : List ℕ × (List ℕ × (List ℕ × (List ℕ × (Unit {0} × Unit {0}))))). ‵ (lasts finish.ended (κ₃, (κ₄, (κ₅, (κ₆, tt)))) passed₃ zs) ⊛ raw (fact 𝓤 (Finished s′ (lentOf lib ts num rep) (lentOf (zs .0) (zs .1 .0) (zs .1 .1 .0) (zs .1 .1 .1 .0)) (answerRead r))))) (id⊢ 𝓤 _) $ pick ! (λ zs.
+          split ! $ move ! (1 ∷ []) $ heard ! (Finished s′ (lentOf lib ts num rep) (lentOf (zs .0) (zs .1 .0) (zs .1 .1 .0) (zs .1 .1 .1 .0)) (answerRead r)) (λ said₃. fsplit ! $ fsplit ! $ move ! (1 ∷ []) $ feqL ! (λ f₃. move ! (1 ∷ []) $ fsplit ! $ fsplit ! $ move ! (1 ∷ []) $ feqL ! (λ f₄. move ! (1 ∷ []) $ fsplit ! $ fsplit ! $ move ! (1 ∷ []) $ feqL ! (λ f₅. move ! (1 ∷ []) $ fsplit ! $ fsplit ! $ move ! (1 ∷ []) $ feqL ! (λ f₆.
           -- [report's last; …; numbers'; table's; library's; the tokens and the result; text; lft₁; records; lft₂; _25; …]
           move ! (5 ∷ []) $ split ! $ move ! (1 ∷ []) $ peeks ! Ans.the-row (Is Ans.the-row) (shows 𝓤 H A Ans.the-row) r (w ∷ []) (λ is.
           land ! (from ! (stop !)) (init ! (at 11 0) refl (EL.lawful Ans.the-type Ans′.the-laws 𝓤 H A W tt .typed r _ is .0)) $
@@ -297,11 +302,11 @@ module _ {M : Type 1} (𝓤 : URA M) (H : Heap 𝓤) (A : Atoms 𝓤) (W : Given
           move ! (at 11 0 ∷ suc (at 11 0) ∷ []) $ free1 ! $ move ! (at 11 1 ∷ suc (at 11 1) ∷ []) $ free1 ! $ move ! (at 11 2 ∷ suc (at 11 2) ∷ []) $ free1 ! $ move ! (at 11 3 ∷ suc (at 11 3) ∷ []) $ free1 ! $ move ! (at 11 4 ∷ suc (at 11 4) ∷ []) $ free1 ! $ move ! (at 11 5 ∷ suc (at 11 5) ∷ []) $ free1 ! $ move ! (at 11 6 ∷ suc (at 11 6) ∷ []) $ free1 ! $ move ! (at 11 7 ∷ suc (at 11 7) ∷ []) $ free1 ! $ move ! (at 11 8 ∷ suc (at 11 8) ∷ []) $ free1 ! $ move ! (at 11 9 ∷ suc (at 11 9) ∷ []) $ free1 ! $ move ! (at 11 10 ∷ suc (at 11 10) ∷ []) $ free1 ! $ move ! (at 11 11 ∷ suc (at 11 11) ∷ []) $ free1 ! $ move ! (at 11 12 ∷ suc (at 11 12) ∷ []) $ free1 ! $ move ! (at 11 13 ∷ suc (at 11 13) ∷ []) $ free1 ! $ move ! (at 11 14 ∷ suc (at 11 14) ∷ []) $ free1 ! $ move ! (at 11 15 ∷ suc (at 11 15) ∷ []) $ free1 ! $ move ! (at 11 16 ∷ suc (at 11 16) ∷ []) $ free1 ! $ move ! (at 11 17 ∷ suc (at 11 17) ∷ []) $ free1 ! $ move ! (at 11 18 ∷ suc (at 11 18) ∷ []) $ free1 ! $ move ! (at 11 19 ∷ suc (at 11 19) ∷ []) $ free1 ! $ move ! (at 11 20 ∷ suc (at 11 20) ∷ []) $ free1 ! $ move ! (at 11 21 ∷ suc (at 11 21) ∷ []) $ free1 ! $ move ! (at 11 22 ∷ suc (at 11 22) ∷ []) $ free1 ! $ move ! (at 11 23 ∷ suc (at 11 23) ∷ []) $ free1 ! $ move ! (at 11 24 ∷ suc (at 11 24) ∷ []) $ free1 ! $ move ! (at 11 25 ∷ suc (at 11 25) ∷ []) $ free1 ! $ free0 ! $
           keep ! (1 ∷ 8 ∷ 10 ∷ 7 ∷ 9 ∷ 6 ∷ 5 ∷ 4 ∷ 2 ∷ 0 ∷ []) $
           by ! (exits r w (zs .0) (zs .1 .0) (zs .1 .1 .0) (zs .1 .1 .1 .0) (f₃ ∙ e₃) (f₄ ∙ e₄) f₅ f₆
-          (promised (text .now) lib₀ ts₀ num rep (recs .now) s s′ lib ts₁ ts said₁ said₂ e₃ e₄ r (lentOf (zs .0) (zs .1 .0) (zs .1 .1 .0) (zs .1 .1 .1 .0)) said₃)))))))))))
+          (promised-then (text .now) lib₀ ts₀ num rep (recs .now) s s′ lib ts₁ ts said₁ said₂ e₃ e₄ (lentOf (zs .0) (zs .1 .0) (zs .1 .1 .0) (zs .1 .1 .1 .0)) (answerRead r) said₃)))))))))))
 
     -- the walk over the records
-    module _ (s : Status) (lib ts : List ℕ) (is : Is S.the-row s (S′.lowered s ∷ [])) (e₃ : length lib ≡ length lib₀) (e₄ : length ts ≡ length ts₀) (said₁ : Prepared (text .now) lib₀ ts₀ (length num) s lib ts) where
-      abbrev passed₂ : GName → GName → RefT (List ℕ) × (RefT (List ℕ) × (RefT (List Record) × (Status × Unit {0})))
+    module _ (s : Progress) (lib ts : List ℕ) (is : Is S.the-row s (S′.lowered s ∷ [])) (e₃ : length lib ≡ length lib₀) (e₄ : length ts ≡ length ts₀) (said₁ : Prepared (text .now) lib₀ ts₀ (length num) s lib ts) where
+      abbrev passed₂ : GName → GName → RefT (List ℕ) × (RefT (List ℕ) × (RefT (List Record) × (Progress × Unit {0})))
       passed₂ δ ε = (x₄ δ ts, (x₃ ε lib, (recs, (s, tt))))
 
       abbrev to₂ : ℕ → ℕ → GName → GName → Walk 𝓤 H A mem run .Ghost
@@ -311,9 +316,9 @@ module _ {M : Type 1} (𝓤 : URA M) (H : Heap 𝓤) (A : Atoms 𝓤) (W : Given
       goes₂ ν μ δ ε =
           qed W (‵ (flft (ν ∷ []) fullShare) ∷ ‵ (flft (μ ∷ []) fullShare) ∷ ‵ (flft κ₂ q₂) ∷ ‵ (Table (ν ∷ []) δ ts (length ts)) ∷ ‵ (Shared (μ ∷ []) ε lib (length lib)) ∷ ‵ Records ∷ []) ∵
           nothing ! $ move ! (3 ∷ 0 ∷ []) $ join ! $ move ! (2 ∷ 0 ∷ []) $ join ! $ move ! (1 ∷ 0 ∷ []) $ join ! $
-          nothing ! $ owned ! S.the-row (Is S.the-row) (LL.makes S.the-type S′.the-plain 𝓤 H A) s _ is $ fjoin ! $ move ! (4 ∷ 0 ∷ []) $ fjoin ! $ move ! (3 ∷ 0 ∷ []) $ fjoin ! $ move ! (2 ∷ 0 ∷ []) $ fjoin ! $ move ! (1 ∷ 0 ∷ []) $ join ! $ frame ! $ done !
+          nothing ! $ owned ! S.the-row (Is S.the-row) (EL.makes S.the-type S′.the-plain 𝓤 H A) s _ is $ fjoin ! $ move ! (4 ∷ 0 ∷ []) $ fjoin ! $ move ! (3 ∷ 0 ∷ []) $ fjoin ! $ move ! (2 ∷ 0 ∷ []) $ fjoin ! $ move ! (1 ∷ 0 ∷ []) $ join ! $ frame ! $ done !
 
-      second : Sq W (At lib ts (full-begun s) room-status) (runs C Λ En pieces.t-7 (atRet En Post))
+      second : Sq W (At lib ts (full-begun s) room-progress) (runs C Λ En pieces.t-7 (atRet En Post))
       second =
           assigns ! (addr ! (from ! (fld ! refl (hop ! (look-in ! (at 12 4) (sub ! 0 refl (whole !))) (stop !))))) (from ! (stop !)) (init ! (at 12 14) refl (tt, tt)) $
           assigns ! (agg ! (and-then ! (load ! (from ! (stop !)) (look ! (at 12 14) refl)) (and-then ! (load ! (from ! (fld ! refl (stop !))) (look-in ! (at 12 4) (sub ! 1 refl (whole !)))) (no-more !)))) (from ! (stop !)) (init ! (at 12 15) refl (tt, (tt, (record { fits = subst (Room u32) (sym e₄) room₄ .0 }, tt)))) $
@@ -329,12 +334,12 @@ module _ {M : Type 1} (𝓤 : URA M) (H : Heap 𝓤) (A : Atoms 𝓤) (W : Given
           move ! (7 ∷ 6 ∷ 10 ∷ 2 ∷ 4 ∷ 0 ∷ []) $ group ! 6 $ use1 W (raw (Walk 𝓤 H A mem run .pre (to₂ ν μ δ ε))) (goes₂ ν μ δ ε) $
           -- [what `walk` asks; records; table's; library's; text; lft₁; report; lft₅; _21; …]
           calls-at ! fm (Walk 𝓤 H A mem run) known₂ (to₂ ν μ δ ε) (and-then ! (load ! (from ! (stop !)) (look ! (at 10 15) refl)) (and-then ! (load ! (from ! (stop !)) (look ! (at 10 17) refl)) (and-then ! (load ! (from ! (stop !)) (look ! (at 10 2) refl)) (and-then ! (load ! (from ! (stop !)) (look ! (at 10 7) refl)) (no-more !))))) (λ w.
-          use1 W (later (some (λ (r : Status). ((‵ (flft (ν ∷ []) fullShare) ⊛ ‵ (flft (μ ∷ []) fullShare) ⊛ ‵ (flft κ₂ q₂) ⊛ ‵ ftrue) ⊛ ‵ (S.the-row .own r (w ∷ []))) ⊛ raw (ensured 𝓤 H A walk.ended (walk.clauses 𝓤 H A mem run) (ν ∷ [], (μ ∷ [], (κ₂, tt))) (passed₂ δ ε) tt r)))) (id⊢ 𝓤 _) $ await ! tt $ pick ! (λ r.
+          use1 W (later (some (λ (r : Progress). ((‵ (flft (ν ∷ []) fullShare) ⊛ ‵ (flft (μ ∷ []) fullShare) ⊛ ‵ (flft κ₂ q₂) ⊛ ‵ ftrue) ⊛ ‵ (S.the-row .own r (w ∷ []))) ⊛ raw (ensured 𝓤 H A walk.ended (walk.clauses 𝓤 H A mem run) (ν ∷ [], (μ ∷ [], (κ₂, tt))) (passed₂ δ ε) tt r)))) (id⊢ 𝓤 _) $ await ! tt $ pick ! (λ r.
           split ! $ move ! (1 ∷ []) $ use1 W (some (λ (zs : List ℕ × (Unit {0} × (Unit {0} × (Unit {0} × Unit {0})))). ‵ (lasts walk.ended (ν ∷ [], (μ ∷ [], (κ₂, tt))) (passed₂ δ ε) zs) ⊛ raw (fact 𝓤 (Walked lib s ts (recs .now) r (zs .0) × (length (zs .0) ≡ length ts))))) (id⊢ 𝓤 _) $ pick ! (λ zs.
           split ! $ move ! (1 ∷ []) $ heard ! (Walked lib s ts (recs .now) r (zs .0) × (length (zs .0) ≡ length ts)) (λ said₂. fsplit ! $ fsplit ! $ move ! (1 ∷ []) $ feqL ! (λ e.
           -- [table's last; …; the tokens and the result; records; table's; library's; text; lft₁; report; lft₅; _21; …]
           move ! (2 ∷ []) $ split ! $ move ! (1 ∷ []) $ peeks ! S.the-row (Is S.the-row) (shows 𝓤 H A S.the-row) r (w ∷ []) (λ is′.
-          land ! (from ! (stop !)) (init ! (at 13 8) refl (LL.lawful S.the-type S′.the-laws 𝓤 H A W .typed r _ is′ .0)) $ rewrite ! (at 13 8) (λ (u : Val). ‵ (fat fullShare S′.mir l₈ 0 u)) (ap only (S′.lowers .val-is r _ is′)) refl $
+          land ! (from ! (stop !)) (init ! (at 13 8) refl (EL.lawful S.the-type S′.the-laws 𝓤 H A W tt .typed r _ is′ .0)) $ rewrite ! (at 13 8) (λ (u : Val). ‵ (fat fullShare S′.mir l₈ 0 u)) (ap only (S′.lowers .val-is r _ is′)) refl $
           -- both come back
           move ! (1 ∷ []) $ split ! $ lft-end ! tt $ move ! (0 ∷ 6 ∷ 3 ∷ []) $
           use3 W (later (‵ (Table κ₄ γ₄ (zs .0) (length ts)) ⊛ ‵ (flft κ₄ q₄))) (take-back κ₄ (ν ∷ []) q₄ γ₄ b₄ o₄ 𝓤 H A W (named 3) ts δ (zs .0) (subst (Room u32) (sym e₄) room₄) e) $ await ! tt $ split ! $
@@ -358,7 +363,7 @@ module _ {M : Type 1} (𝓤 : URA M) (H : Heap 𝓤) (A : Atoms 𝓤) (W : Given
         nothing ! $ move ! (3 ∷ 0 ∷ []) $ join ! $ move ! (2 ∷ 0 ∷ []) $ join ! $ move ! (1 ∷ 0 ∷ []) $ join ! $
         nothing ! $ owned ! usize (Is usize) (uint-makes 𝓤 H A W w64) (length num) _ (refl, room₅ .0) $ fjoin ! $ move ! (4 ∷ 0 ∷ []) $ fjoin ! $ move ! (3 ∷ 0 ∷ []) $ fjoin ! $ move ! (2 ∷ 0 ∷ []) $ fjoin ! $ move ! (1 ∷ 0 ∷ []) $ join ! $ frame ! $ done !
 
-    starts : Sq W (At lib₀ ts₀ room-begun room-status) (runs C Λ En pieces.t-1 (atRet En Post))
+    starts : Sq W (At lib₀ ts₀ room-begun room-progress) (runs C Λ En pieces.t-1 (atRet En Post))
     starts =
         assigns ! (addr ! (from ! (fld ! refl (hop ! (look-in ! (at 12 3) (sub ! 0 refl (whole !))) (stop !))))) (from ! (stop !)) (init ! (at 12 9) refl (tt, tt)) $
         assigns ! (agg ! (and-then ! (load ! (from ! (stop !)) (look ! (at 12 9) refl)) (and-then ! (load ! (from ! (fld ! refl (stop !))) (look-in ! (at 12 3) (sub ! 1 refl (whole !)))) (no-more !)))) (from ! (stop !)) (init ! (at 12 10) refl (tt, (tt, (record { fits = room₃ .0 }, tt)))) $
@@ -375,12 +380,13 @@ module _ {M : Type 1} (𝓤 : URA M) (H : Heap 𝓤) (A : Atoms 𝓤) (W : Given
         move ! (8 ∷ 7 ∷ 6 ∷ 0 ∷ 4 ∷ 2 ∷ []) $ group ! 6 $ use1 W (raw (Prepare 𝓤 H A mem run .pre (to₁ ν μ δ ε))) (goes₁ ν μ δ ε) $
         -- [what `prepare` asks; text; table's; library's; records; lft₂; report; lft₅; _21; …]
         calls-at ! fm (Prepare 𝓤 H A mem run) known₁ (to₁ ν μ δ ε) (and-then ! (load ! (from ! (stop !)) (look ! (at 10 1) refl)) (and-then ! (load ! (from ! (stop !)) (look ! (at 10 10) refl)) (and-then ! (load ! (from ! (stop !)) (look ! (at 10 12) refl)) (and-then ! (load ! (from ! (stop !)) (look ! (at 10 13) refl)) (no-more !))))) (λ w.
-        use1 W (later (some (λ (r : Status). ((‵ (flft κ₁ q₁) ⊛ ‵ (flft (ν ∷ []) fullShare) ⊛ ‵ (flft (μ ∷ []) fullShare) ⊛ ‵ ftrue) ⊛ ‵ (S.the-row .own r (w ∷ []))) ⊛ raw (ensured 𝓤 H A prepare.ended (prepare.clauses 𝓤 H A mem run) (κ₁, (ν ∷ [], (μ ∷ [], tt))) (passed₁ δ ε) tt r)))) (id⊢ 𝓤 _) $ await ! tt $ pick ! (λ r.
+        use1 W (later (some (λ (r : Progress). ((‵ (flft κ₁ q₁) ⊛ ‵ (flft (ν ∷ []) fullShare) ⊛ ‵ (flft (μ ∷ []) fullShare) ⊛ ‵ ftrue) ⊛ ‵ (S.the-row .own r (w ∷ []))) ⊛ raw (ensured 𝓤 H A prepare.ended (prepare.clauses 𝓤 H A mem run) (κ₁, (ν ∷ [], (μ ∷ [], tt))) (passed₁ δ ε) tt r)))) (id⊢ 𝓤 _) $ await ! tt $ pick ! (λ r.
         split ! $ move ! (1 ∷ []) $ use1 W (some (λ (zs : Unit {0} × (List ℕ × (List ℕ × (Unit {0} × Unit {0})))). ‵ (lasts prepare.ended (κ₁, (ν ∷ [], (μ ∷ [], tt))) (passed₁ δ ε) zs) ⊛ raw (fact 𝓤 (Prepared (text .now) lib₀ ts₀ (length num) r (zs .1 .0) (zs .1 .1 .0))))) (id⊢ 𝓤 _) $ pick ! (λ zs.
         split ! $ move ! (1 ∷ []) $ heard ! (Prepared (text .now) lib₀ ts₀ (length num) r (zs .1 .0) (zs .1 .1 .0)) (λ said₁. fsplit ! $ drop ! $ fsplit ! $ fsplit ! $ move ! (1 ∷ []) $ feqL ! (λ e₃. move ! (1 ∷ []) $ fsplit ! $ fsplit ! $ move ! (1 ∷ []) $ feqL ! (λ e₄.
-        -- [table's last; …; library's last; the tokens and the result; text; table's; library's; records; lft₂; report; lft₅; _21; …]
+        -- [table's last; …; library's last; the tokens and the result; text; table's; library's; records; lft₂; report; lft₅;
+        -- _21; …]
         move ! (3 ∷ []) $ split ! $ move ! (1 ∷ []) $ peeks ! S.the-row (Is S.the-row) (shows 𝓤 H A S.the-row) r (w ∷ []) (λ is.
-        land ! (from ! (stop !)) (init ! (at 14 7) refl (LL.lawful S.the-type S′.the-laws 𝓤 H A W .typed r _ is .0)) $ rewrite ! (at 14 7) (λ (u : Val). ‵ (fat fullShare S′.mir l₇ 0 u)) (ap only (S′.lowers .val-is r _ is)) refl $
+        land ! (from ! (stop !)) (init ! (at 14 7) refl (EL.lawful S.the-type S′.the-laws 𝓤 H A W tt .typed r _ is .0)) $ rewrite ! (at 14 7) (λ (u : Val). ‵ (fat fullShare S′.mir l₇ 0 u)) (ap only (S′.lowers .val-is r _ is)) refl $
         -- both come back
         move ! (1 ∷ []) $ split ! $ move ! (1 ∷ []) $ split ! $ lft-end ! tt $ move ! (0 ∷ 9 ∷ 6 ∷ []) $
         use3 W (later (‵ (Library κ₃ γ₃ (zs .1 .0) (length lib₀)) ⊛ ‵ (flft κ₃ q₃))) (take-back κ₃ (ν ∷ []) q₃ γ₃ b₃ o₃ 𝓤 H A W (named 2) lib₀ δ (zs .1 .0) room₃ e₃) $ await ! tt $ split ! $
@@ -392,7 +398,7 @@ module _ {M : Type 1} (𝓤 : URA M) (H : Heap 𝓤) (A : Atoms 𝓤) (W : Given
         forget ! (at 15 9) refl $ forget ! (at 15 10) refl $ forget ! (at 15 11) refl $ forget ! (at 15 12) refl $ forget ! (at 15 13) refl $ keep ! (8 ∷ 5 ∷ 9 ∷ 10 ∷ 3 ∷ 4 ∷ 0 ∷ 1 ∷ 11 ∷ 12 ∷ 13 ∷ 14 ∷ onward 15 52) $
         second r (zs .1 .0) (zs .1 .1 .0) (subst (λ (us : List Val). Is S.the-row r us) (S′.lowers .val-is r _ is) is) e₃ e₄ said₁)))))))))))
 
-  module _ (𝓣 : Tables 𝓤 H) (fm : FmC 𝓤 H (W .laws) (𝓣 .C)) (known₁ : Triple 𝓤 (𝓣 .C #records·prepare) (Prepare 𝓤 H A mem run)) (known₂ : Triple 𝓤 (𝓣 .C #records·walk) (Walk 𝓤 H A mem run)) (known₃ : Triple 𝓤 (𝓣 .C #records·finish) (Finish 𝓤 H A mem run)) where
+  module _ (𝓣 : Tables 𝓤 H) (fm : FmC 𝓤 H (W .laws) (𝓣 .C)) (known₁ : Triple 𝓤 (𝓣 .C #records·prepare) (Prepare 𝓤 H A mem run)) (known₂ : Triple 𝓤 (𝓣 .C #records·walk) (Walk 𝓤 H A mem run)) (known₃ : Triple 𝓤 (𝓣 .C #outcome·finish) (Finish 𝓤 H A mem run)) where
     walks : Room u8 (length (text .now)) → Room R.the-row (length (recs .now)) → Room u32 (length lib₀) → Room u32 (length ts₀) → Room u32 (length num) → Room u8 (length rep)
         → ent 𝓤 (onEntry 𝓤 H A call.signature (κ₁, (κ₂, (κ₃, (κ₄, (κ₅, (κ₆, tt)))))) (q₁, (q₂, (q₃, (q₄, (q₅, (q₆, tt)))))) a vals) (WpFn 𝓤 H (𝓣 .C) (𝓣 .Λ) code.function (v₁ ∷ v₂ ∷ v₃ (length lib₀) ∷ v₄ (length ts₀) ∷ v₅ (length num) ∷ v₆ (length rep) ∷ []) Post)
     walks room₁ room₂ room₃ room₄ room₅ room₆ =
@@ -409,7 +415,7 @@ module _ {M : Type 1} (𝓤 : URA M) (H : Heap 𝓤) (A : Atoms 𝓤) (W : Given
         starts 𝓣 fm known₁ known₂ known₃ room₁ room₂ room₃ room₄ room₅ room₆ l₀ l₁ l₂ l₃ l₄ l₅ l₆ l₇ l₈ l₉ l₁₀ l₁₁ l₁₂ l₁₃ l₁₄ l₁₅ l₁₆ l₁₇ l₁₈ l₁₉ l₂₀ l₂₁ l₂₂ l₂₃ l₂₄ l₂₅))))))))))))))))))))))))))
 
 module _ {M : Type 1} (𝓤 : URA M) (H : Heap 𝓤) (A : Atoms 𝓤) (W : Given 𝓤 H A) (mem : Memory → SProp 𝓤) (run : Routine → Fun 𝓤) where
-  call-walks : (𝓣 : Tables 𝓤 H) → Triple 𝓤 (𝓣 .C #records·prepare) (Prepare 𝓤 H A mem run) → Triple 𝓤 (𝓣 .C #records·walk) (Walk 𝓤 H A mem run) → Triple 𝓤 (𝓣 .C #records·finish) (Finish 𝓤 H A mem run)
+  call-walks : (𝓣 : Tables 𝓤 H) → Triple 𝓤 (𝓣 .C #records·prepare) (Prepare 𝓤 H A mem run) → Triple 𝓤 (𝓣 .C #records·walk) (Walk 𝓤 H A mem run) → Triple 𝓤 (𝓣 .C #outcome·finish) (Finish 𝓤 H A mem run)
       → Walks 𝓤 H A call.ended stayed (WpFn 𝓤 H (𝓣 .C) (𝓣 .Λ) code.function) (call.clauses 𝓤 H A mem run)
   call-walks 𝓣 known₁ known₂ known₃ = walked 𝓤 H A call.ended stayed (call.clauses 𝓤 H A mem run) (WpFn 𝓤 H (𝓣 .C) (𝓣 .Λ) code.function) (λ κs. (slice-vals, (slice-vals, (slice-vals, (slice-vals, (slice-vals, (slice-vals, tt)))))))
       (λ κs. (shr-slice-tells (named 0) (κs .0) u8, (shr-slice-tells (named 1) (κs .1 .0) R.the-row, (mut-slice-tells (named 2) (κs .1 .1 .0) u32, (mut-slice-tells (named 3) (κs .1 .1 .1 .0) u32, (mut-slice-tells (named 4) (κs .1 .1 .1 .1 .0) u32, (mut-slice-tells (named 5) (κs .1 .1 .1 .1 .1 .0) u8, tt)))))))
@@ -418,7 +424,7 @@ module _ {M : Type 1} (𝓤 : URA M) (H : Heap 𝓤) (A : Atoms 𝓤) (W : Given
       (a .1 .1 .0 .ptr .0) (a .1 .1 .0 .ptr .1) (a .1 .1 .0 .name) (a .1 .1 .0 .now) (a .1 .1 .1 .0 .ptr .0) (a .1 .1 .1 .0 .ptr .1) (a .1 .1 .1 .0 .name) (a .1 .1 .1 .0 .now) (a .1 .1 .1 .1 .0 .ptr .0) (a .1 .1 .1 .1 .0 .ptr .1) (a .1 .1 .1 .1 .0 .name) (a .1 .1 .1 .1 .0 .now) (a .1 .1 .1 .1 .1 .0 .ptr .0) (a .1 .1 .1 .1 .1 .0 .ptr .1) (a .1 .1 .1 .1 .1 .0 .name) (a .1 .1 .1 .1 .1 .0 .now)
       𝓣 (fmOf 𝓤 H (W .laws) 𝓣) known₁ known₂ known₃ (are .0 .0 .1) (are .1 .0 .0 .1) (are .1 .1 .0 .0 .1) (are .1 .1 .1 .0 .0 .1) (are .1 .1 .1 .1 .0 .0 .1) (are .1 .1 .1 .1 .1 .0 .0 .1)))
 
-call-meets : {M : Type 1} (𝓤 : URA M) (H : Heap 𝓤) (A : Atoms 𝓤) → Given 𝓤 H A → (mem : Memory → SProp 𝓤) (run : Routine → Fun 𝓤) (𝓣 : Tables 𝓤 H) → Triple 𝓤 (𝓣 .C #records·prepare) (Prepare 𝓤 H A mem run) → Triple 𝓤 (𝓣 .C #records·walk) (Walk 𝓤 H A mem run) → Triple 𝓤 (𝓣 .C #records·finish) (Finish 𝓤 H A mem run)
+call-meets : {M : Type 1} (𝓤 : URA M) (H : Heap 𝓤) (A : Atoms 𝓤) → Given 𝓤 H A → (mem : Memory → SProp 𝓤) (run : Routine → Fun 𝓤) (𝓣 : Tables 𝓤 H) → Triple 𝓤 (𝓣 .C #records·prepare) (Prepare 𝓤 H A mem run) → Triple 𝓤 (𝓣 .C #records·walk) (Walk 𝓤 H A mem run) → Triple 𝓤 (𝓣 .C #outcome·finish) (Finish 𝓤 H A mem run)
     → Meets 𝓤 H A call.signature (WpFn 𝓤 H (𝓣 .C) (𝓣 .Λ) code.function) (call.spec 𝓤 H A mem run)
 call-meets 𝓤 H A W mem run 𝓣 known₁ known₂ known₃ =
     walk-meets 𝓤 H A call.ended stayed W (goes-none-slice 𝓤 H A W 6 (0 ∷ []) tt (plain (λ _. u8)) yes, (goes-none-slice 𝓤 H A W 6 (1 ∷ []) tt (plain (λ _. R.the-row)) yes, (goes-gave-slice 𝓤 H A W 6 2 tt (plain (λ _. u32)), (goes-gave-slice 𝓤 H A W 6 3 tt (plain (λ _. u32)), (goes-gave-slice 𝓤 H A W 6 4 tt (plain (λ _. u32)), (goes-gave-slice 𝓤 H A W 6 5 tt (plain (λ _. u8)), tt)))))) (call.clauses 𝓤 H A mem run)
@@ -432,4 +438,4 @@ analyse-records-spec 𝓤 H 𝓜 𝓖 𝓡 =
     (call-meets 𝓤 H (𝓖 .A) (givenOf 𝓤 H 𝓜 𝓖) (𝓜 .mem) (𝓡 .run) (tablesOf 𝓤 H 𝓜 (tables 𝓤 H 𝓜 𝓡 code.env))
     (cited 𝓤 H (Prepare 𝓤 H (𝓖 .A) (𝓜 .mem) (𝓡 .run)) 𝓜 𝓡 code.env #records·prepare prepare-def.routine code.calls-records·prepare (prepare-thm.met 𝓤 H 𝓜 𝓖 𝓡))
     (cited 𝓤 H (Walk 𝓤 H (𝓖 .A) (𝓜 .mem) (𝓡 .run)) 𝓜 𝓡 code.env #records·walk walk-def.routine code.calls-records·walk (walk-thm.met 𝓤 H 𝓜 𝓖 𝓡))
-    (cited 𝓤 H (Finish 𝓤 H (𝓖 .A) (𝓜 .mem) (𝓡 .run)) 𝓜 𝓡 code.env #records·finish finish-def.routine code.calls-records·finish (finish-thm.met 𝓤 H 𝓜 𝓖 𝓡)))
+    (cited 𝓤 H (Finish 𝓤 H (𝓖 .A) (𝓜 .mem) (𝓡 .run)) 𝓜 𝓡 code.env #outcome·finish finish-def.routine code.calls-outcome·finish (finish-thm.met 𝓤 H 𝓜 𝓖 𝓡)))

@@ -3,6 +3,7 @@ use mathlib.Core.Path.{_≡_, refl, sym, ap, _∙_}
 use Prim.Native.Nat.{_-_}
 use native.Mathlib.Omega.{arith}
 use borrow.Author.Needs.{needs}
+use Rattle.sizes.specs.Sizes as Size
 use lib.ListN.{length, drop}
 use Rattle.netlist.specs.Netlist.{anyLineBad}
 use Rattle.records.specs.Records.{pinsBefore}
@@ -11,19 +12,10 @@ use Rattle.records.proofs.pins_bad.Statement.{statement}
 use Rattle.records.proofs.pins_bad.Tie as tie
 
 abbrev Inv-loop : tie.InvT-loop
-Inv-loop pins i₀ i = (length pins ≡ 8) × (anyLineBad (pinsBefore pins) ≡ anyLineBad (pinsBefore (drop i pins)))
+Inv-loop pins i₀ i = (length pins ≡ Size.pins) × (anyLineBad (pinsBefore pins) ≡ anyLineBad (pinsBefore (drop i pins)))
 
 abbrev μ-loop : tie.MeasureT-loop
-μ-loop pins i₀ i = 8 - i
-
-loop-holds : tie.Need-loop-holds Inv-loop μ-loop
-loop-holds c = (omega arith, refl)
-
-mul-l : tie.Need-mul-l Inv-loop μ-loop
-mul-l c = omega arith
-
-array-read-l : tie.Need-array-read-l Inv-loop μ-loop
-array-read-l c = omega arith
+μ-loop pins i₀ i = Size.pins - i
 
 returns : tie.Need-returns Inv-loop μ-loop
 unfolding anyLineBad
@@ -31,19 +23,10 @@ returns c =
     let l = c .before .before .loop in
     sym (l .inv .1 ∙ ap anyLineBad (before-end (c .before .before .before .args .t1) (l .i) (omega arith) (c .if1 .taken)))
 
-line-bad-requires : tie.Need-line-bad-requires Inv-loop μ-loop
-line-bad-requires c κs = search needs
-
 returns-2 : tie.Need-returns-2 Inv-loop μ-loop
 returns-2 c =
     let l = c .before .before .before .before .loop in
     sym (l .inv .1 ∙ bad-here (c .before .before .before .before .before .args .t1) (l .i) (omega arith) (c .before .before .if1 .left) (sym (c .before .line-bad .ensures) ∙ c .if2 .taken))
-
-add-i : tie.Need-add-i Inv-loop μ-loop
-add-i c = omega arith
-
-loop-less : tie.Need-loop-less Inv-loop μ-loop
-loop-less c = omega arith
 
 loop-again : tie.Need-loop-again Inv-loop μ-loop
 loop-again c =
@@ -62,13 +45,13 @@ pins-bad-spec =
     (tie.spec
     Inv-loop
     μ-loop
-    loop-holds
-    mul-l
-    array-read-l
+    (λ c. (omega arith, refl))
+    (λ c. omega arith)
+    (λ c. omega arith)
     returns
-    line-bad-requires
+    (λ c κs. search needs)
     returns-2
-    add-i
-    loop-less
+    (λ c. omega arith)
+    (λ c. omega arith)
     loop-again
     returns-3)

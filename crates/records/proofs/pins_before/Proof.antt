@@ -2,6 +2,7 @@
 use mathlib.Core.Path.{_≡_, ap}
 use Prim.Native.Nat.{_+_, _-_, _≤_}
 use native.Mathlib.Omega.{arith}
+use Rattle.sizes.specs.Sizes as Size
 use lib.ListN.{length, drop}
 use Rattle.records.specs.Records.{pinsBefore}
 use Rattle.records.proofs.Laws.{before-end, before-more, before-none}
@@ -9,31 +10,16 @@ use Rattle.records.proofs.pins_before.Statement.{statement}
 use Rattle.records.proofs.pins_before.Tie as tie
 
 abbrev Inv-loop : tie.InvT-loop
-Inv-loop pins i₀ i = (i ≤ 8) × (length pins ≡ 8) × (length (pinsBefore pins) ≡ i + length (pinsBefore (drop i pins)))
+Inv-loop pins i₀ i = (i ≤ Size.pins) × (length pins ≡ Size.pins) × (length (pinsBefore pins) ≡ i + length (pinsBefore (drop i pins)))
 
 abbrev μ-loop : tie.MeasureT-loop
-μ-loop pins i₀ i = 8 - i
-
-loop-holds : tie.Need-loop-holds Inv-loop μ-loop
-loop-holds c = (omega arith, omega arith, omega arith)
-
-mul-if1 : tie.Need-mul-if1 Inv-loop μ-loop
-mul-if1 c = omega arith
-
-array-read-if1 : tie.Need-array-read-if1 Inv-loop μ-loop
-array-read-if1 c = omega arith
+μ-loop pins i₀ i = Size.pins - i
 
 returns : tie.Need-returns Inv-loop μ-loop
 returns c =
     let l = c .before .before .loop in
     let none = ap length (before-end (c .before .before .before .args .t1) (l .i) (omega arith) (c .if1 .taken)) in
     (omega (arith, none, l .inv .2), l .inv .1)
-
-add-i : tie.Need-add-i Inv-loop μ-loop
-add-i c = omega arith
-
-loop-less : tie.Need-loop-less Inv-loop μ-loop
-loop-less c = omega arith
 
 loop-again : tie.Need-loop-again Inv-loop μ-loop
 loop-again c =
@@ -53,11 +39,11 @@ pins-before-spec =
     (tie.spec
     Inv-loop
     μ-loop
-    loop-holds
-    mul-if1
-    array-read-if1
+    (λ c. (omega arith, omega arith, omega arith))
+    (λ c. omega arith)
+    (λ c. omega arith)
     returns
-    add-i
-    loop-less
+    (λ c. omega arith)
+    (λ c. omega arith)
     loop-again
     returns-2)

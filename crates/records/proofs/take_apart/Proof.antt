@@ -7,22 +7,10 @@ use borrow.Author.Needs.{needs}
 use Rattle.records.proofs.take_apart.Statement.{statement}
 use Rattle.records.proofs.take_apart.Tie as tie
 
-pins-before-requires : tie.Need-pins-before-requires
-pins-before-requires c κs = search needs
-
-zero-from-requires : tie.Need-zero-from-requires
-zero-from-requires c κs = search needs
-
-pins-bad-requires : tie.Need-pins-bad-requires
-pins-bad-requires c κs = search needs
-
 returns : tie.Need-returns
 returns c =
     let rec = c .before .before .before .before .before .args .rec in
     gate-says rec _ refl (c .before .before .pins-before .result) (c .before .before .before .if1 .taken) (c .before .before .pins-before .ensures .1) (c .before .before .pins-before .ensures .0) (c .before .zero-from .ensures) refl refl refl refl (c .pins-bad .ensures)
-
-zero-from-requires-2 : tie.Need-zero-from-requires-2
-zero-from-requires-2 c κs = search needs
 
 returns-2 : tie.Need-returns-2
 returns-2 c =
@@ -33,9 +21,9 @@ pub take-apart-spec : {M : Type 1} → statement M
 take-apart-spec =
     tie.close
     (tie.spec
-    pins-before-requires
-    zero-from-requires
-    pins-bad-requires
+    (λ c κs. search needs)
+    (λ c κs. search needs)
+    (λ c κs. search needs)
     returns
-    zero-from-requires-2
+    (λ c κs. search needs)
     returns-2)

@@ -2,6 +2,7 @@
 use mathlib.Core.Path.{_≡_, refl, sym, _∙_}
 use Prim.Native.Nat.{_-_}
 use native.Mathlib.Omega.{arith}
+use Rattle.sizes.specs.Sizes as Size
 use lib.ListN.{length, drop}
 use Rattle.records.specs.Records.{allZero}
 use Rattle.records.proofs.Laws.{zero-not, zero-more, zero-none}
@@ -9,30 +10,15 @@ use Rattle.records.proofs.zero_from.Statement.{statement}
 use Rattle.records.proofs.zero_from.Tie as tie
 
 abbrev Inv-loop : tie.InvT-loop
-Inv-loop from pins i₀ i = (length pins ≡ 8) × (allZero (drop from pins) ≡ allZero (drop i pins))
+Inv-loop from pins i₀ i = (length pins ≡ Size.pins) × (allZero (drop from pins) ≡ allZero (drop i pins))
 
 abbrev μ-loop : tie.MeasureT-loop
-μ-loop from pins i₀ i = 8 - i
-
-loop-holds : tie.Need-loop-holds Inv-loop μ-loop
-loop-holds c = (omega arith, refl)
-
-mul-if1 : tie.Need-mul-if1 Inv-loop μ-loop
-mul-if1 c = omega arith
-
-array-read-if1 : tie.Need-array-read-if1 Inv-loop μ-loop
-array-read-if1 c = omega arith
+μ-loop from pins i₀ i = Size.pins - i
 
 returns : tie.Need-returns Inv-loop μ-loop
 returns c =
     let l = c .before .before .loop in
     sym (l .inv .1 ∙ zero-not (c .before .before .before .args .t1) (l .i) (omega arith) (c .if1 .taken))
-
-add-i : tie.Need-add-i Inv-loop μ-loop
-add-i c = omega arith
-
-loop-less : tie.Need-loop-less Inv-loop μ-loop
-loop-less c = omega arith
 
 loop-again : tie.Need-loop-again Inv-loop μ-loop
 loop-again c =
@@ -50,11 +36,11 @@ zero-from-spec =
     (tie.spec
     Inv-loop
     μ-loop
-    loop-holds
-    mul-if1
-    array-read-if1
+    (λ c. (omega arith, refl))
+    (λ c. omega arith)
+    (λ c. omega arith)
     returns
-    add-i
-    loop-less
+    (λ c. omega arith)
+    (λ c. omega arith)
     loop-again
     returns-2)

@@ -1,19 +1,10 @@
 -- `put_row` stores a line that is mentioned, and of another nothing. Assumes nothing.
 use mathlib.Core.Path.{sym, _∙_}
-use Rattle.text.specs.Class.{pick}
-use Rattle.report.proofs.Steps.{put-none}
+use Rattle.reading.specs.Choice.{pick}
+use Rattle.writer.proofs.Steps.{put-none}
 use borrow.Author.Needs.{needs}
 use Rattle.report.proofs.put_row.Statement.{statement}
 use Rattle.report.proofs.put_row.Tie as tie
-
-mentioned-requires : tie.Need-mentioned-requires
-mentioned-requires c κs = search needs
-
-put-line-requires : tie.Need-put-line-requires
-put-line-requires c κs = search needs
-
-same-length : tie.Need-same-length
-same-length c = search needs
 
 returns : tie.Need-returns
 unfolding pick
@@ -25,4 +16,4 @@ returns-2 c = rw (sym (c .before .mentioned .ensures) ∙ c .if1 .left) (put-non
 
 pub put-row-spec : {M : Type 1} → statement M
 put-row-spec =
-    tie.close (tie.spec mentioned-requires put-line-requires same-length returns returns-2)
+    tie.close (tie.spec (λ c κs. search needs) (λ c κs. search needs) (λ c. search needs) returns returns-2)

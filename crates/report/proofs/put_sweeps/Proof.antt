@@ -1,53 +1,48 @@
 -- `put_sweeps` stores the counts in their order. Assumes nothing.
 use mathlib.Core.List.{append-assoc}
 use Rattle.text.specs.Bytes.{bytes}
-use Rattle.report.specs.Answer.{countsOf}
 use Rattle.report.specs.Report.{sweepsBytes}
-use Rattle.report.proofs.Steps.{put-then}
+use Rattle.writer.proofs.Steps.{put-then}
 use borrow.Author.Needs.{needs}
 use Rattle.report.proofs.put_sweeps.Statement.{statement}
 use Rattle.report.proofs.put_sweeps.Tie as tie
 
-slice-aggregate-put-bytes : tie.Need-slice-aggregate-put-bytes
-slice-aggregate-put-bytes c = search needs
+-- ---- places: after the word and after the first three counts
 
-put-bytes-requires : tie.Need-put-bytes-requires
-put-bytes-requires c κs = search needs
+abbrev worded : tie.After-put-count → tie.After-put-bytes
+worded c = c .before .before .before .before
 
-put-count-requires : tie.Need-put-count-requires
-put-count-requires c κs = search needs
+abbrev cc : tie.After-put-count2 → tie.After-put-count
+cc c = c .before .before .before .before
 
-put-count-requires-2 : tie.Need-put-count-requires-2
-put-count-requires-2 c κs = search needs
+abbrev sc : tie.After-put-count3 → tie.After-put-count2
+sc c = c .before .before .before .before
 
-put-count-requires-3 : tie.Need-put-count-requires-3
-put-count-requires-3 c κs = search needs
-
-put-count-requires-4 : tie.Need-put-count-requires-4
-put-count-requires-4 c κs = search needs
-
-same-length : tie.Need-same-length
-same-length c = search needs
+abbrev co : tie.After-put-count4 → tie.After-put-count3
+co c = c .before .before .before .before
 
 returns : tie.Need-returns
-unfolding sweepsBytes countsOf bytes
+unfolding sweepsBytes bytes
 returns c =
+    let p4 = c .before .before in
+    let p3 = co p4 in
+    let p2 = sc p3 in
+    let p1 = cc p2 in
     let puts =
-    put-then (c .before .before .before .before .before .before .before .before .before .before .before .before .before .before .before .before .before .before .put-bytes .ensures)
-    (put-then (c .before .before .before .before .before .before .before .before .before .before .before .before .before .before .put-count .ensures)
-    (put-then (c .before .before .before .before .before .before .before .before .before .before .put-count2 .ensures)
-    (put-then (c .before .before .before .before .before .before .put-count3 .ensures) (c .before .before .put-count4 .ensures)))) in
+    put-then (worded p1 .put-bytes .ensures)
+    (put-then (p1 .put-count .ensures)
+    (put-then (p2 .put-count2 .ensures) (put-then (p3 .put-count3 .ensures) (p4 .put-count4 .ensures)))) in
     simp append-assoc at puts
 
 pub put-sweeps-spec : {M : Type 1} → statement M
 put-sweeps-spec =
     tie.close
     (tie.spec
-    slice-aggregate-put-bytes
-    put-bytes-requires
-    put-count-requires
-    put-count-requires-2
-    put-count-requires-3
-    put-count-requires-4
-    same-length
+    (λ c. search needs)
+    (λ c κs. search needs)
+    (λ c κs. search needs)
+    (λ c κs. search needs)
+    (λ c κs. search needs)
+    (λ c κs. search needs)
+    (λ c. search needs)
     returns)

@@ -1,56 +1,47 @@
 -- `analyse`: each run begins where the one before it ended, and ends. Assumes nothing.
-use mathlib.Core.Path.{_≡_, _∙_, ap}
-use lib.ListN.{length}
-use Rattle.plans.specs.Sweep.{renew, lower}
-use Rattle.plans.proofs.Laws.{renew-stores, lower-stores, settles-length}
-use Rattle.sweep.proofs.Starting.{laid-length}
-use Rattle.sweep.proofs.Calculating.{fit, room, cc-runs, sc-runs, co-runs, so-runs, calculated}
+use Rattle.sweep.proofs.Calculating.{room, cc-fits, sc-fits, co-fits, so-fits, calculated}
 use Rattle.sweep.proofs.analyse.Statement.{statement}
 use Rattle.sweep.proofs.analyse.Tie as tie
 
-start-requires : tie.Need-start-requires
-start-requires c κs =
-    let p = c .before .before .before .pre in
-    (room (p .0 .holds), p .1)
+-- ---- places: after the start, and after CC, SC and CO
 
-set-spatial-requires : tie.Need-set-spatial-requires
-set-spatial-requires c κs =
-    let s = c .before .before .before .before .before in
-    let h = s .pre .0 .holds in
-    let n : length (c .before .start .last .1 .0) ≡ 6000 = ap length (c .before .start .ensures) ∙ laid-length (s .args .netlist .now) 1000 1 in
-    (fit h, n, cc-runs h (c .before .start .ensures))
+abbrev began : tie.After-start → tie.Start
+began c = c .before .before .before .before
 
-set-temporal-requires : tie.Need-set-temporal-requires
-set-temporal-requires c κs =
-    let s = c .before .before .before .before .before .before .before in
-    let h = s .pre .0 .holds in
-    let n : length (c .before .set-spatial .last .1 .1 .0) ≡ 6000 = settles-length renew renew-stores (c .before .set-spatial .ensures) ∙ ap length (c .before .before .before .start .ensures) ∙ laid-length (s .args .netlist .now) 1000 1 in
-    (fit h, n, sc-runs h (c .before .before .before .start .ensures) (c .before .set-spatial .ensures))
+abbrev started : tie.After-run → tie.After-start
+started c = c .before .before
 
-observe-spatial-requires : tie.Need-observe-spatial-requires
-observe-spatial-requires c κs =
-    let s = c .before .before .before .before .before .before .before .before .before in
-    let h = s .pre .0 .holds in
-    let n : length (c .before .set-temporal .last .1 .1 .0) ≡ 6000 = settles-length renew renew-stores (c .before .set-temporal .ensures) ∙ settles-length renew renew-stores (c .before .before .before .set-spatial .ensures) ∙ ap length (c .before .before .before .before .before .start .ensures) ∙ laid-length (s .args .netlist .now) 1000 1 in
-    (fit h, n, co-runs h (c .before .before .before .before .before .start .ensures) (c .before .before .before .set-spatial .ensures) (c .before .set-temporal .ensures))
+abbrev cc : tie.After-run2 → tie.After-run
+cc c = c .before .before
 
-observe-temporal-requires : tie.Need-observe-temporal-requires
-observe-temporal-requires c κs =
-    let s = c .before .before .before .before .before .before .before .before .before .before .before in
-    let h = s .pre .0 .holds in
-    let n : length (c .before .observe-spatial .last .1 .1 .0) ≡ 6000 = settles-length lower lower-stores (c .before .observe-spatial .ensures) ∙ settles-length renew renew-stores (c .before .before .before .set-temporal .ensures) ∙ settles-length renew renew-stores (c .before .before .before .before .before .set-spatial .ensures) ∙ ap length (c .before .before .before .before .before .before .before .start .ensures) ∙ laid-length (s .args .netlist .now) 1000 1 in
-    (fit h, n, so-runs h (c .before .before .before .before .before .before .before .start .ensures) (c .before .before .before .before .before .set-spatial .ensures) (c .before .before .before .set-temporal .ensures) (c .before .observe-spatial .ensures))
+abbrev sc : tie.After-run3 → tie.After-run2
+sc c = c .before .before
 
-returns : tie.Need-returns
-returns c = λ cells ss h. calculated h (c .before .before .before .before .before .before .before .before .start .ensures) (c .before .before .before .before .before .before .set-spatial .ensures) (c .before .before .before .before .set-temporal .ensures) (c .before .before .observe-spatial .ensures) (c .observe-temporal .ensures)
+abbrev co : tie.After-run4 → tie.After-run3
+co c = c .before .before
 
 pub analyse-spec : {M : Type 1} → statement M
 analyse-spec =
     tie.close
     (tie.spec
-    start-requires
-    set-spatial-requires
-    set-temporal-requires
-    observe-spatial-requires
-    observe-temporal-requires
-    returns)
+    (λ c κs. let p = c .before .before .before .pre in (room (p .0 .holds), p .1))
+    (λ c κs.
+    let s = c .before in
+    cc-fits (began s .pre .0 .holds) (s .start .ensures))
+    (λ c κs.
+    let s = started (c .before) in
+    sc-fits (began s .pre .0 .holds) (s .start .ensures) (c .before .run .ensures))
+    (λ c κs.
+    let x1 = cc (c .before) in
+    let s = started x1 in
+    co-fits (began s .pre .0 .holds) (s .start .ensures) (x1 .run .ensures) (c .before .run2 .ensures))
+    (λ c κs.
+    let x2 = sc (c .before) in
+    let x1 = cc x2 in
+    let s = started x1 in
+    so-fits (began s .pre .0 .holds) (s .start .ensures) (x1 .run .ensures) (x2 .run2 .ensures) (c .before .run3 .ensures))
+    (λ c cells ss h.
+    let x3 = co c in
+    let x2 = sc x3 in
+    let x1 = cc x2 in
+    calculated h (started x1 .start .ensures) (x1 .run .ensures) (x2 .run2 .ensures) (x3 .run3 .ensures) (c .run4 .ensures)))

@@ -2,27 +2,19 @@
 use mathlib.Core.Path.{_≡_}
 use Prim.Native.Nat.{_-_, _≤_}
 use native.Mathlib.Omega.{arith}
+use Rattle.sizes.specs.Sizes as Size
 use Rattle.sweep.proofs.Starting.{Laid, laid-none, laid-next, laid-all}
 use Rattle.sweep.proofs.start.Statement.{statement}
 use Rattle.sweep.proofs.start.Tie as tie
 
 abbrev Inv-loop : tie.InvT-loop
-Inv-loop netlist numbers₀ line₀ numbers line = (line ≤ 1000) × Laid netlist numbers₀ line numbers
+Inv-loop netlist numbers₀ line₀ numbers line = (line ≤ Size.lines) × Laid netlist numbers₀ line numbers
 
 abbrev μ-loop : tie.MeasureT-loop
-μ-loop netlist numbers₀ line₀ numbers line = 1000 - line
+μ-loop netlist numbers₀ line₀ numbers line = Size.lines - line
 
 loop-holds : tie.Need-loop-holds Inv-loop μ-loop
 loop-holds c = (omega arith, laid-none (c .before .args .netlist .now) (c .before .args .numbers .now))
-
-start-line-requires : tie.Need-start-line-requires Inv-loop μ-loop
-start-line-requires c κs = (omega arith, omega arith)
-
-add-line : tie.Need-add-line Inv-loop μ-loop
-add-line c = omega arith
-
-loop-less : tie.Need-loop-less Inv-loop μ-loop
-loop-less c = omega arith
 
 loop-again : tie.Need-loop-again Inv-loop μ-loop
 loop-again c =
@@ -34,10 +26,10 @@ returns : tie.Need-returns Inv-loop μ-loop
 returns c =
     let s = c .before .before .before in
     let l = c .before .loop in
-    let e : l .line ≡ 1000 = omega arith in
-    laid-all (s .args .netlist .now) (s .args .numbers .now) (l .numbers) 1000 (s .pre .1) (rw e at (l .inv .1))
+    let e : l .line ≡ Size.lines = omega arith in
+    laid-all (s .args .netlist .now) (s .args .numbers .now) (l .numbers) Size.lines (s .pre .1) (rw e at (l .inv .1))
 
 pub start-spec : {M : Type 1} → statement M
 start-spec =
     tie.close
-    (tie.spec Inv-loop μ-loop loop-holds start-line-requires add-line loop-less loop-again returns)
+    (tie.spec Inv-loop μ-loop loop-holds (λ c κs. (omega arith, omega arith)) (λ c. omega arith) (λ c. omega arith) loop-again returns)

@@ -16,32 +16,11 @@ Inv-loop table₀ n end i₀ table i = (i ≤ end) × (length table ≡ length t
 abbrev μ-loop : tie.MeasureT-loop
 μ-loop table₀ n end i₀ table i = end - i
 
-shorter-requires : tie.Need-shorter-requires Inv-loop μ-loop
-shorter-requires c κs = search needs
-
-loop-holds : tie.Need-loop-holds Inv-loop μ-loop
-loop-holds c = (omega arith, refl, refl)
-
-mul-table : tie.Need-mul-table Inv-loop μ-loop
-mul-table c = omega arith
-
-slice-write-table : tie.Need-slice-write-table Inv-loop μ-loop
-slice-write-table c = omega arith
-
-add-i : tie.Need-add-i Inv-loop μ-loop
-add-i c = omega arith
-
-loop-less : tie.Need-loop-less Inv-loop μ-loop
-loop-less c = omega arith
-
 loop-again : tie.Need-loop-again Inv-loop μ-loop
 loop-again c =
     let l = c .before .loop in
     let before = c .before .before .before .before .args .table .now in
     (omega arith, simp length-set (l .inv .1), rw (l .inv .2) (fill-more (l .i) 0 before (omega arith)))
-
-same-length : tie.Need-same-length Inv-loop μ-loop
-same-length c = omega arith
 
 returns : tie.Need-returns Inv-loop μ-loop
 unfolding cleared
@@ -57,12 +36,12 @@ clear-spec =
     (tie.spec
     Inv-loop
     μ-loop
-    shorter-requires
-    loop-holds
-    mul-table
-    slice-write-table
-    add-i
-    loop-less
+    (λ c κs. search needs)
+    (λ c. (omega arith, refl, refl))
+    (λ c. omega arith)
+    (λ c. omega arith)
+    (λ c. omega arith)
+    (λ c. omega arith)
     loop-again
-    same-length
+    (λ c. omega arith)
     returns)

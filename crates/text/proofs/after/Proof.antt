@@ -6,12 +6,6 @@ use Rattle.text.proofs.Laws.{nextAfter-within, nextAfter-past}
 use Rattle.text.proofs.after.Statement.{statement}
 use Rattle.text.proofs.after.Tie as tie
 
-add-result : tie.Need-add-result
-add-result c = search needs
-
-add-result-2 : tie.Need-add-result-2
-add-result-2 c = search needs
-
 returns : tie.Need-returns
 returns c = sym (nextAfter-within _ _ _ (c .if1 .taken))
 
@@ -19,4 +13,4 @@ returns-2 : tie.Need-returns-2
 returns-2 c = sym (nextAfter-past _ _ _ (c .if1 .left))
 
 pub after-spec : {M : Type 1} → statement M
-after-spec = tie.close (tie.spec add-result add-result-2 returns returns-2)
+after-spec = tie.close (tie.spec (λ c. search needs) (λ c. search needs) returns returns-2)

@@ -16,15 +16,6 @@ Inv-loop f base n i₀ i = (i ≤ length f) × (allDigits base (drop i f) ≡ al
 abbrev μ-loop : tie.MeasureT-loop
 μ-loop f base n i₀ i = length f - i
 
-loop-holds : tie.Need-loop-holds Inv-loop μ-loop
-loop-holds c = (omega arith, refl)
-
-shared-slice-read-digit-below : tie.Need-shared-slice-read-digit-below Inv-loop μ-loop
-shared-slice-read-digit-below c = omega arith
-
-digit-below-requires : tie.Need-digit-below-requires Inv-loop μ-loop
-digit-below-requires c κs = omega arith
-
 returns : tie.Need-returns Inv-loop μ-loop
 returns c =
     let start = c .before .before .before .before .before .before .args in
@@ -33,12 +24,6 @@ returns c =
     let below : i < length f = omega arith in
     sym (allDigits-bad (start .base) f i below (sym (c .before .digit-below .ensures) ∙ not-true _ (c .if1 .taken)))
     ∙ c .before .before .before .before .loop .inv .1
-
-add-i : tie.Need-add-i Inv-loop μ-loop
-add-i c = omega arith
-
-loop-less : tie.Need-loop-less Inv-loop μ-loop
-loop-less c = omega arith
 
 loop-again : tie.Need-loop-again Inv-loop μ-loop
 loop-again c =
@@ -64,11 +49,11 @@ all-digits-spec =
     (tie.spec
     Inv-loop
     μ-loop
-    loop-holds
-    shared-slice-read-digit-below
-    digit-below-requires
+    (λ c. (omega arith, refl))
+    (λ c. omega arith)
+    (λ c κs. omega arith)
     returns
-    add-i
-    loop-less
+    (λ c. omega arith)
+    (λ c. omega arith)
     loop-again
     returns-2)

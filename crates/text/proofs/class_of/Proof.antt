@@ -2,7 +2,8 @@
 -- Assumes nothing.
 use mathlib.Core.Path.{sym}
 use native.Mathlib.Omega.{arith}
-use Rattle.text.specs.Class.{pick, between, classOf}
+use Rattle.reading.specs.Choice.{pick}
+use Rattle.text.specs.Class.{between, classOf}
 use Rattle.text.proofs.Laws.{between-in, between-below, between-above, class-other}
 use Rattle.text.proofs.class_of.Statement.{statement}
 use Rattle.text.proofs.class_of.Tie as tie
@@ -26,70 +27,22 @@ returns-4 c =
     rw (between-above 48 57 b (omega arith), between-in 65 90 b (omega arith) (omega arith))
 
 returns-5 : tie.Need-returns-5
-unfolding classOf pick
 returns-5 c =
-    let b = c .before .before .before .before .before .before .before .args .b in
-    rw
-    (between-above 48 57 b (omega arith), between-above 65 90 b (omega arith), between-in 97 122 b (omega arith) (omega arith))
+    let b = c .before .before .args .b in
+    let rest = c .before .match .rest in
+    sym (class-other b (between-below 48 57 b (omega arith)) (between-below 65 90 b (omega arith)) (rest .0 .1) (rest .1))
 
 returns-6 : tie.Need-returns-6
 returns-6 c =
-    let b = c .before .before .args .b in
-    let rest = c .before .match .rest in
-    sym
-    (class-other b
-    (between-below 48 57 b (omega arith))
-    (between-below 65 90 b (omega arith))
-    (between-below 97 122 b (omega arith))
-    (rest .0 .1)
-    (rest .1))
+    let b = c .before .before .before .before .args .b in
+    let rest = c .before .before .before .match .rest in
+    sym (class-other b (between-above 48 57 b (omega arith)) (between-below 65 90 b (omega arith)) (rest .0 .1) (rest .1))
 
 returns-7 : tie.Need-returns-7
 returns-7 c =
-    let b = c .before .before .before .before .args .b in
-    let rest = c .before .before .before .match .rest in
-    sym
-    (class-other b
-    (between-above 48 57 b (omega arith))
-    (between-below 65 90 b (omega arith))
-    (between-below 97 122 b (omega arith))
-    (rest .0 .1)
-    (rest .1))
-
-returns-8 : tie.Need-returns-8
-returns-8 c =
-    let b = c .before .before .before .before .before .before .args .b in
-    let rest = c .before .before .before .before .before .match .rest in
-    sym
-    (class-other b
-    (between-above 48 57 b (omega arith))
-    (between-above 65 90 b (omega arith))
-    (between-below 97 122 b (omega arith))
-    (rest .0 .1)
-    (rest .1))
-
-returns-9 : tie.Need-returns-9
-returns-9 c =
-    let b = c .before .before .before .before .before .before .before .args .b in
-    let rest = c .before .before .before .before .before .before .match .rest in
-    sym
-    (class-other b
-    (between-above 48 57 b (omega arith))
-    (between-above 65 90 b (omega arith))
-    (between-above 97 122 b (omega arith))
-    (rest .0 .1)
-    (rest .1))
+    let b = c .before .before .before .before .before .args .b in
+    let rest = c .before .before .before .before .match .rest in
+    sym (class-other b (between-above 48 57 b (omega arith)) (between-above 65 90 b (omega arith)) (rest .0 .1) (rest .1))
 
 pub class-of-spec : {M : Type 1} → statement M
-class-of-spec =
-    tie.close
-    (tie.spec
-    returns
-    returns-2
-    returns-3
-    returns-4
-    returns-5
-    returns-6
-    returns-7
-    returns-8
-    returns-9)
+class-of-spec = tie.close (tie.spec returns returns-2 returns-3 returns-4 returns-5 returns-6 returns-7)

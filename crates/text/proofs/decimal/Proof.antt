@@ -5,12 +5,9 @@ use Rattle.text.specs.Numeral.{decimal}
 use Rattle.text.proofs.decimal.Statement.{statement}
 use Rattle.text.proofs.decimal.Tie as tie
 
-read-requires : tie.Need-read-requires
-read-requires c κs = search needs
-
 returns : tie.Need-returns
 unfolding decimal
 returns c = c .read .ensures
 
 pub decimal-spec : {M : Type 1} → statement M
-decimal-spec = tie.close (tie.spec read-requires returns)
+decimal-spec = tie.close (tie.spec (λ c κs. search needs) returns)

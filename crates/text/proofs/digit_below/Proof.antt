@@ -11,22 +11,13 @@ use borrow.Author.Needs.{needs}
 use denote.Enum.Declared.{tagOf}
 use types.Run.{OneOf}
 use Rattle.text.specs.declared.Class.{Class}
-use Rattle.text.specs.declared.Class.the-variants.{Digit, Upper, Lower, Comma, LineEnd, Other}
+use Rattle.text.specs.declared.Class.the-variants.{Digit, Letter, Comma, LineEnd, Other}
 use Rattle.text.specs.Class.{classOf, isDigit}
 use Rattle.text.specs.Numeral.{digitBelow}
 use Rattle.text.proofs.Class.{the-type}
 use Rattle.text.proofs.Laws.{class-digit-below}
 use Rattle.text.proofs.digit_below.Statement.{statement}
 use Rattle.text.proofs.digit_below.Tie as tie
-
-class-of-requires : tie.Need-class-of-requires
-class-of-requires c κs = search needs
-
-enum-told : tie.Need-enum-told
-enum-told c = search needs
-
-add-result : tie.Need-add-result
-add-result c = search needs
 
 -- The class of a byte and the base's end decide.
 by-class : (k : Class) (t : Bool) (b base : ℕ) → k ≡ classOf b → t ≡ isDigit k → base ≤ 10 → (t && ltb b (48 + base)) ≡ digitBelow base b
@@ -42,19 +33,17 @@ returns c =
     (sym (ap isDigit (c .enum-told .given .1)))
     (c .before .before .before .pre)
 
-from-one : (x : ℕ) → OneOf (1 ∷ 2 ∷ 3 ∷ 4 ∷ 5 ∷ []) x → 1 ≤ x
+from-one : (x : ℕ) → OneOf (1 ∷ 2 ∷ 3 ∷ 4 ∷ []) x → 1 ≤ x
 from-one x (inl e) = omega arith
 from-one x (inr (inl e)) = omega arith
 from-one x (inr (inr (inl e))) = omega arith
-from-one x (inr (inr (inr (inl e)))) = omega arith
-from-one x (inr (inr (inr (inr e)))) = omega arith
+from-one x (inr (inr (inr e))) = omega arith
 
 -- The arm of the other classes, by the place of each in the enum.
 others : (k : Class) → 1 ≤ tagOf the-type k → false ≡ isDigit k
 unfolding isDigit
 others Digit h = absurd (omega arith)
-others Upper h = refl
-others Lower h = refl
+others Letter h = refl
 others Comma h = refl
 others LineEnd h = refl
 others Other h = refl
@@ -69,4 +58,4 @@ returns-2 c =
     (c .before .before .pre)
 
 pub digit-below-spec : {M : Type 1} → statement M
-digit-below-spec = tie.close (tie.spec class-of-requires enum-told add-result returns returns-2)
+digit-below-spec = tie.close (tie.spec (λ c κs. search needs) (λ c. search needs) (λ c. search needs) returns returns-2)

@@ -1,12 +1,12 @@
--- `text::is_name` meets its contract. The loop's invariant: the length is good and so are the bytes passed, so that the
--- rest decides.
--- Assumes nothing.
+-- `text::is_name` meets its contract. The loop's invariant: the length is good and so are the bytes passed, so that the rest
+-- decides. Assumes nothing.
 use mathlib.Core.Path.{_≡_, sym, _∙_}
 use Prim.Native.Nat.{_-_, _≤_, _<_}
 use native.Mathlib.Omega.{arith}
 use lib.ListN.{length, drop}
 use borrow.Author.Needs.{needs}
 use borrow.Author.Tests.{not-true, not-false}
+use Rattle.sizes.specs.Sizes as Size
 use Rattle.text.specs.Numeral.{allName, nameForm}
 use Rattle.text.proofs.Steps.{allName-good, allName-bad, allName-end, nameForm-empty, nameForm-long, nameForm-bytes}
 use Rattle.text.proofs.is_name.Statement.{statement}
@@ -23,17 +23,11 @@ returns c = let empty : length (c .before .before .args .f .now) < 1 = omega ari
 
 returns-2 : tie.Need-returns-2 Inv-loop μ-loop
 returns-2 c =
-    let long : 8 < length (c .before .before .before .args .f .now) = omega arith in
+    let long : Size.nameBytes < length (c .before .before .before .args .f .now) = omega arith in
     sym (nameForm-long _ long)
 
 loop-holds : tie.Need-loop-holds Inv-loop μ-loop
 loop-holds c = (omega arith, sym (nameForm-bytes _ (omega arith) (omega arith)))
-
-shared-slice-read-name-byte : tie.Need-shared-slice-read-name-byte Inv-loop μ-loop
-shared-slice-read-name-byte c = omega arith
-
-name-byte-requires : tie.Need-name-byte-requires Inv-loop μ-loop
-name-byte-requires c κs = search needs
 
 returns-3 : tie.Need-returns-3 Inv-loop μ-loop
 returns-3 c =
@@ -42,12 +36,6 @@ returns-3 c =
     let below : i < length f = omega arith in
     sym (allName-bad f i below (sym (c .before .name-byte .ensures) ∙ not-true _ (c .if3 .taken)))
     ∙ c .before .before .before .before .loop .inv .1
-
-add-i : tie.Need-add-i Inv-loop μ-loop
-add-i c = omega arith
-
-loop-less : tie.Need-loop-less Inv-loop μ-loop
-loop-less c = omega arith
 
 loop-again : tie.Need-loop-again Inv-loop μ-loop
 loop-again c =
@@ -75,10 +63,10 @@ is-name-spec =
     returns
     returns-2
     loop-holds
-    shared-slice-read-name-byte
-    name-byte-requires
+    (λ c. omega arith)
+    (λ c κs. search needs)
     returns-3
-    add-i
-    loop-less
+    (λ c. omega arith)
+    (λ c. omega arith)
     loop-again
     returns-4)

@@ -14,9 +14,6 @@ read-requires c κs =
     let few : c .before .before .args .most ≤ 10 = omega arith in
     (omega arith, omega arith, omega (arith, pow-le-pow-right {n = 8} (omega arith) few))
 
-read-requires-2 : tie.Need-read-requires-2
-read-requires-2 c κs = search needs
-
 returns : tie.Need-returns
 returns c =
     let most = c .before .before .before .args .most in
@@ -30,4 +27,4 @@ returns-2 c =
     c .read2 .ensures ∙ ap (λ (n : ℕ). numeral 8 n (c .before .before .before .args .f .now)) many
 
 pub octal-spec : {M : Type 1} → statement M
-octal-spec = tie.close (tie.spec read-requires read-requires-2 returns returns-2)
+octal-spec = tie.close (tie.spec read-requires (λ c κs. search needs) returns returns-2)

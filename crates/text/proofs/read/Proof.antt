@@ -10,9 +10,6 @@ use Rattle.text.proofs.Laws.{wellFormed-length, wellFormed-digits, nume
 use Rattle.text.proofs.read.Statement.{statement}
 use Rattle.text.proofs.read.Tie as tie
 
-well-formed-requires : tie.Need-well-formed-requires
-well-formed-requires c κs = search needs
-
 value-requires : tie.Need-value-requires
 value-requires c κs =
     let start = c .before .before .before in
@@ -33,4 +30,4 @@ unfolding numeralRead
 returns-2 c = sym (numeral-bad _ _ _ (sym (c .before .well-formed .ensures) ∙ c .if1 .left))
 
 pub read-spec : {M : Type 1} → statement M
-read-spec = tie.close (tie.spec well-formed-requires value-requires returns returns-2)
+read-spec = tie.close (tie.spec (λ c κs. search needs) value-requires returns returns-2)

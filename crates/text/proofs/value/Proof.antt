@@ -36,9 +36,6 @@ mul-sum c =
     omega
     (arith, sum-fits base (c .before .loop .sum) i (length f) (getD f i 0) (start .pre .0) (inv .1) d below (start .pre .2))
 
-shared-slice-read-digit : tie.Need-shared-slice-read-digit Inv-loop μ-loop
-shared-slice-read-digit c = omega arith
-
 digit-requires : tie.Need-digit-requires Inv-loop μ-loop
 digit-requires c κs =
     let start = c .before .before .before .before in
@@ -59,12 +56,6 @@ add-sum c =
     let d = allDigits-here base f i below (inv .2) in
     rw (c .digit .ensures)
     (record { fits = sum-fits base sum i (length f) (getD f i 0) (start .pre .0) (inv .1) d below (start .pre .2) })
-
-add-i : tie.Need-add-i Inv-loop μ-loop
-add-i c = omega arith
-
-loop-less : tie.Need-loop-less Inv-loop μ-loop
-loop-less c = omega arith
 
 loop-again : tie.Need-loop-again Inv-loop μ-loop
 loop-again c =
@@ -98,10 +89,10 @@ value-spec =
     μ-loop
     loop-holds
     mul-sum
-    shared-slice-read-digit
+    (λ c. omega arith)
     digit-requires
     add-sum
-    add-i
-    loop-less
+    (λ c. omega arith)
+    (λ c. omega arith)
     loop-again
     returns)

@@ -19,18 +19,12 @@ returns c = sym (wellFormed-empty _ _ _ (c .if1 .taken))
 returns-2 : tie.Need-returns-2
 returns-2 c = sym (wellFormed-long _ _ _ (c .if2 .taken))
 
-shared-slice-read-if4 : tie.Need-shared-slice-read-if4
-shared-slice-read-if4 c = search needs
-
 returns-3 : tie.Need-returns-3
 returns-3 c =
     let f = c .before .before .before .before .before .before .args .f .now in
     let long : 1 < length f = omega arith in
     let short : length f ≤ c .before .before .before .before .before .before .args .most = omega arith in
     sym (wellFormed-zero _ _ f long short (c .if4 .taken))
-
-all-digits-requires : tie.Need-all-digits-requires
-all-digits-requires c κs = search needs
 
 returns-4 : tie.Need-returns-4
 returns-4 c =
@@ -45,4 +39,4 @@ returns-4 c =
 pub well-formed-spec : {M : Type 1} → statement M
 well-formed-spec =
     tie.close
-    (tie.spec returns returns-2 shared-slice-read-if4 returns-3 all-digits-requires returns-4)
+    (tie.spec returns returns-2 (λ c. search needs) returns-3 (λ c κs. search needs) returns-4)

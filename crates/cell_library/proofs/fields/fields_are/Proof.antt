@@ -10,37 +10,28 @@ use borrow.Author.Needs.{needs}
 use Rattle.cell_library.proofs.fields.fields_are.Statement.{statement}
 use Rattle.cell_library.proofs.fields.fields_are.Tie as tie
 
-sub-cursor : tie.Need-sub-cursor
-sub-cursor c = search needs
-
-cursor-requires : tie.Need-cursor-requires
-cursor-requires c κs = search needs
-
 returns : tie.Need-returns
 returns c =
     let a = c .before .before .before .args in
     let s = a .line .now in
-    let few : length (fields s) ≤ a .n - 1 = fields-few s (c .before .cursor .result) (a .n - 1) (c .before .cursor .ensures .1) (c .if1 .taken) in
+    let few : length (fields s) ≤ a .n - 1 = fields-few s (c .before .cursor .result) (a .n - 1) (c .before .cursor .ensures) (c .if1 .taken) in
     sym (ne-eqb (length (fields s)) (a .n) (λ e. omega (arith, c .before .before .before .pre)))
-
-cursor-requires-2 : tie.Need-cursor-requires-2
-cursor-requires-2 c κs = search needs
 
 returns-2 : tie.Need-returns-2
 returns-2 c =
     let a = c .before .before .before .before .before .args in
     let s = a .line .now in
-    let few : length (fields s) ≤ a .n = fields-few s (c .before .cursor2 .result) (a .n) (c .before .cursor2 .ensures .1) (c .if2 .taken) in
-    let more : a .n - 1 < length (fields s) = fields-more s (c .before .before .before .cursor .result) (a .n - 1) (c .before .before .before .cursor .ensures .1) (c .before .before .if1 .left) in
+    let few : length (fields s) ≤ a .n = fields-few s (c .before .cursor2 .result) (a .n) (c .before .cursor2 .ensures) (c .if2 .taken) in
+    let more : a .n - 1 < length (fields s) = fields-more s (c .before .before .before .cursor .result) (a .n - 1) (c .before .before .before .cursor .ensures) (c .before .before .if1 .left) in
     sym (eq-eqb (length (fields s)) (a .n) (omega (arith, c .before .before .before .before .before .pre)))
 
 returns-3 : tie.Need-returns-3
 returns-3 c =
     let a = c .before .before .before .before .before .args in
     let s = a .line .now in
-    let more : a .n < length (fields s) = fields-more s (c .before .cursor2 .result) (a .n) (c .before .cursor2 .ensures .1) (c .if2 .left) in
+    let more : a .n < length (fields s) = fields-more s (c .before .cursor2 .result) (a .n) (c .before .cursor2 .ensures) (c .if2 .left) in
     sym (ne-eqb (length (fields s)) (a .n) (λ e. omega arith))
 
 pub fields-are-spec : {M : Type 1} → statement M
 fields-are-spec =
-    tie.close (tie.spec sub-cursor cursor-requires returns cursor-requires-2 returns-2 returns-3)
+    tie.close (tie.spec (λ c. search needs) (λ c κs. search needs) returns (λ c κs. search needs) returns-2 returns-3)

@@ -7,15 +7,6 @@ use borrow.Author.Needs.{needs}
 use Rattle.cell_library.proofs.lines.decimal_value.Statement.{statement}
 use Rattle.cell_library.proofs.lines.decimal_value.Tie as tie
 
-decimal-requires : tie.Need-decimal-requires
-decimal-requires c κs = search needs
-
-enum-known-v : tie.Need-enum-known-v
-enum-known-v c = search needs
-
-enum-told : tie.Need-enum-told
-enum-told c = search needs
-
 returns : tie.Need-returns
 unfolding orZero numeralRead
 returns c = sym (ap (λ (v : Numeral). orZero (numeralRead v)) (c .before .v .given .1)) ∙ ap orZero (c .before .before .before .decimal .ensures)
@@ -25,4 +16,4 @@ unfolding orZero numeralRead
 returns-2 c = sym (ap (λ (v : Numeral). orZero (numeralRead v)) (c .enum-told .given .1)) ∙ ap orZero (c .before .before .decimal .ensures)
 
 pub decimal-value-spec : {M : Type 1} → statement M
-decimal-value-spec = tie.close (tie.spec decimal-requires enum-known-v enum-told returns returns-2)
+decimal-value-spec = tie.close (tie.spec (λ c κs. search needs) (λ c. search needs) (λ c. search needs) returns returns-2)

@@ -6,21 +6,9 @@ use borrow.Author.Needs.{needs}
 use Rattle.cell_library.proofs.lines.end_form.Statement.{statement}
 use Rattle.cell_library.proofs.lines.end_form.Tie as tie
 
-fields-are-requires : tie.Need-fields-are-requires
-fields-are-requires c κs = search needs
-
 returns : tie.Need-returns
 unfolding endFormed
 returns c = rw (← c .before .fields-are .ensures, not-true (c .before .fields-are .result) (c .if1 .taken))
-
-nth-requires : tie.Need-nth-requires
-nth-requires c κs = search needs
-
-slice-aggregate-same : tie.Need-slice-aggregate-same
-slice-aggregate-same c = search needs
-
-same-requires : tie.Need-same-requires
-same-requires c κs = search needs
 
 returns-2 : tie.Need-returns-2
 unfolding endFormed bytes
@@ -30,9 +18,9 @@ pub end-form-spec : {M : Type 1} → statement M
 end-form-spec =
     tie.close
     (tie.spec
-    fields-are-requires
+    (λ c κs. search needs)
     returns
-    nth-requires
-    slice-aggregate-same
-    same-requires
+    (λ c κs. search needs)
+    (λ c. search needs)
+    (λ c κs. search needs)
     returns-2)

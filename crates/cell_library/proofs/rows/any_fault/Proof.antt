@@ -1,11 +1,13 @@
 -- `any_fault` meets its contract. The loop's invariant: no row passed has the fault, so that the rest decides.
 -- Assumes nothing.
-use mathlib.Core.Path.{_≡_, refl, sym, _∙_}
+use mathlib.Core.Bool.{Bool, true, false, _||_}
+use mathlib.Core.Path.{_≡_, refl, sym, ap, _∙_}
 use Prim.Native.Nat.{_+_, _-_}
 use lib.ListN.{length}
-use Rattle.text.specs.Lines.{fieldsFrom}
+use Rattle.text.specs.Lines.{fieldsFrom, part, nextAfter}
+use Rattle.cell_library.specs.Cells.{Row}
 use Rattle.cell_library.specs.Faults.{faulty}
-use Rattle.cell_library.specs.Passes.{anyField}
+use Rattle.cell_library.specs.Passes.{fieldBad, anyField}
 use Rattle.cell_library.proofs.Cursors.{cursor-on}
 use Rattle.cell_library.proofs.Passes.{any-turn, any-ended}
 use native.Mathlib.Omega.{arith}
@@ -19,43 +21,44 @@ Inv-loop line from fault n at₀ at = anyField (faulty fault) (fieldsFrom line a
 abbrev μ-loop : tie.MeasureT-loop
 μ-loop line from fault n at₀ at = length line + 1 - at
 
-loop-holds : tie.Need-loop-holds Inv-loop μ-loop
-loop-holds c = refl
+-- The turn of the loop, and the function's entry.
+abbrev turn : tie.After-field-fault Inv-loop μ-loop → tie.In-loop Inv-loop μ-loop
+turn c = c .before .before
 
-field-requires : tie.Need-field-requires Inv-loop μ-loop
-field-requires c κs = search needs
+abbrev begun : tie.At-loop Inv-loop μ-loop → tie.Start Inv-loop μ-loop
+begun c = c .before .before
 
-field-fault-requires : tie.Need-field-fault-requires Inv-loop μ-loop
-field-fault-requires c κs = search needs
+abbrev bad : tie.At-loop Inv-loop μ-loop → Row → Bool
+bad c = faulty (begun c .args .fault)
+
+-- What a field told, and the fields behind it.
+turned : (c : tie.After-field-fault Inv-loop μ-loop) (b : Bool) → c .field-fault .result ≡ b
+    → let t = turn c .before in
+    let s = begun t .args .line .now in
+    (b || anyField (bad t) (fieldsFrom s (nextAfter s (t .loop .at) (part 44 s (t .loop .at))))) ≡ anyField (bad t) (fieldsFrom s (begun t .args .from))
+turned c b e =
+    let t = turn c .before in
+    let s = begun t .args .line .now in
+    let told : c .field-fault .result ≡ fieldBad (bad t) (part 44 s (t .loop .at)) = rw (c .before .field .ensures) at (c .field-fault .ensures) in
+    ap (λ (x : Bool). x || anyField (bad t) (fieldsFrom s (nextAfter s (t .loop .at) (part 44 s (t .loop .at))))) (sym e ∙ told)
+    ∙ sym (any-turn (bad t) s (t .loop .at) (turn c .loop-test .taken))
+    ∙ t .loop .inv
 
 returns : tie.Need-returns Inv-loop μ-loop
-returns c =
-    let l = c .before .before .before .before .loop in
-    let a = c .before .before .before .before .before .before .args in
-    let s = a .line .now in
-    sym (any-turn (faulty (a .fault)) s (l .at) (c .before .before .before .loop-test .taken) ∙ rw (← c .before .before .field .ensures, ← c .before .field-fault .ensures, c .if1 .taken)) ∙ l .inv
-
-after-requires : tie.Need-after-requires Inv-loop μ-loop
-after-requires c κs = search needs
+returns c = turned (c .before) true (c .if1 .taken)
 
 loop-less : tie.Need-loop-less Inv-loop μ-loop
 loop-less c =
-    let l = c .before .before .before .before .before .loop in
-    let s = c .before .before .before .before .before .before .before .args .line .now in
-    rw (c .after .ensures, c .before .before .before .field .ensures) (omega (arith, cursor-on s (l .at) (c .before .before .before .before .loop-test .taken)))
+    let t = turn (c .before .before) in
+    rw (c .after .ensures, c .before .before .before .field .ensures) (omega (arith, cursor-on (begun (t .before) .args .line .now) (t .before .loop .at) (t .loop-test .taken)))
 
 loop-again : tie.Need-loop-again Inv-loop μ-loop
-loop-again c =
-    let l = c .before .before .before .before .before .loop in
-    let a = c .before .before .before .before .before .before .before .args in
-    let s = a .line .now in
-    rw (c .after .ensures, c .before .before .before .field .ensures) (sym (any-turn (faulty (a .fault)) s (l .at) (c .before .before .before .before .loop-test .taken) ∙ rw (← c .before .before .before .field .ensures, ← c .before .before .field-fault .ensures, c .before .if1 .left)) ∙ l .inv)
+loop-again c = rw (c .after .ensures, c .before .before .before .field .ensures) (turned (c .before .before) false (c .before .if1 .left))
 
 returns-2 : tie.Need-returns-2 Inv-loop μ-loop
 returns-2 c =
     let l = c .before .loop in
-    let a = c .before .before .before .args in
-    sym (any-ended (faulty (a .fault)) (a .line .now) (l .at) (c .loop-test .left)) ∙ l .inv
+    sym (any-ended (bad (c .before)) (begun (c .before) .args .line .now) (l .at) (c .loop-test .left)) ∙ l .inv
 
 pub any-fault-spec : {M : Type 1} → statement M
 any-fault-spec =
@@ -63,11 +66,11 @@ any-fault-spec =
     (tie.spec
     Inv-loop
     μ-loop
-    loop-holds
-    field-requires
-    field-fault-requires
+    (λ c. refl)
+    (λ c κs. search needs)
+    (λ c κs. search needs)
     returns
-    after-requires
+    (λ c κs. search needs)
     loop-less
     loop-again
     returns-2)

@@ -1,13 +1,10 @@
 -- `group_count` meets its contract. Assumes nothing.
 use mathlib.Core.Path.{sym, _∙_}
-use Rattle.text.specs.Class.{pick}
+use Rattle.reading.specs.Choice.{pick}
 use Rattle.cell_library.proofs.Passes.{groupCount-by}
 use borrow.Author.Needs.{needs}
 use Rattle.cell_library.proofs.rows.group_count.Statement.{statement}
 use Rattle.cell_library.proofs.rows.group_count.Tie as tie
-
-sets-output-requires : tie.Need-sets-output-requires
-sets-output-requires c κs = search needs
 
 returns : tie.Need-returns
 unfolding pick
@@ -18,4 +15,4 @@ unfolding pick
 returns-2 c = rw (groupCount-by, sym (c .before .sets-output .ensures) ∙ c .if1 .left)
 
 pub group-count-spec : {M : Type 1} → statement M
-group-count-spec = tie.close (tie.spec sets-output-requires returns returns-2)
+group-count-spec = tie.close (tie.spec (λ c κs. search needs) returns returns-2)

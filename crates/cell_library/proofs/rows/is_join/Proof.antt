@@ -5,15 +5,9 @@ use borrow.Author.Needs.{needs}
 use Rattle.cell_library.proofs.rows.is_join.Statement.{statement}
 use Rattle.cell_library.proofs.rows.is_join.Tie as tie
 
-slice-aggregate-same : tie.Need-slice-aggregate-same
-slice-aggregate-same c = search needs
-
-same-requires : tie.Need-same-requires
-same-requires c κs = search needs
-
 returns : tie.Need-returns
 unfolding isJoin bytes
 returns c = c .same .ensures
 
 pub is-join-spec : {M : Type 1} → statement M
-is-join-spec = tie.close (tie.spec slice-aggregate-same same-requires returns)
+is-join-spec = tie.close (tie.spec (λ c. search needs) (λ c κs. search needs) returns)

@@ -1,14 +1,11 @@
 -- `placed` meets its contract. Assumes nothing.
 use mathlib.Core.Path.{sym, _∙_}
 use borrow.Author.Tests.{eq-eqb, ne-eqb}
-use Rattle.text.specs.Class.{pick}
+use Rattle.reading.specs.Choice.{pick}
 use Rattle.cell_library.specs.Passes.{placed}
 use borrow.Author.Needs.{needs}
 use Rattle.cell_library.proofs.rows.placed.Statement.{statement}
 use Rattle.cell_library.proofs.rows.placed.Tie as tie
-
-is-join-requires : tie.Need-is-join-requires
-is-join-requires c κs = search needs
 
 returns : tie.Need-returns
 unfolding placed pick
@@ -17,9 +14,6 @@ returns c = rw (sym (c .before .before .is-join .ensures) ∙ c .before .if1 .ta
 returns-2 : tie.Need-returns-2
 unfolding placed pick
 returns-2 c = rw (sym (c .before .before .is-join .ensures) ∙ c .before .if1 .taken, ne-eqb (c .before .before .before .before .args .before) 1 (c .if2 .left))
-
-is-row-requires : tie.Need-is-row-requires
-is-row-requires c κs = search needs
 
 returns-3 : tie.Need-returns-3
 unfolding placed pick
@@ -31,4 +25,4 @@ returns-4 c = rw (sym (c .before .before .before .is-join .ensures) ∙ c .befor
 
 pub placed-spec : {M : Type 1} → statement M
 placed-spec =
-    tie.close (tie.spec is-join-requires returns returns-2 is-row-requires returns-3 returns-4)
+    tie.close (tie.spec (λ c κs. search needs) returns returns-2 (λ c κs. search needs) returns-3 returns-4)

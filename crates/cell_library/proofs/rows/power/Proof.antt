@@ -13,21 +13,12 @@ Inv-loop k p₀ i₀ p i = (i ≤ k) × (p ≡ 2 ^ i)
 abbrev μ-loop : tie.MeasureT-loop
 μ-loop k p₀ i₀ p i = k - i
 
-loop-holds : tie.Need-loop-holds Inv-loop μ-loop
-loop-holds c = (omega arith, refl)
-
 mul-p : tie.Need-mul-p Inv-loop μ-loop
 mul-p c =
     let l = c .before .loop in
     let few : l .i ≤ 30 = omega arith in
     let two : 0 < 2 = omega arith in
     omega (arith, pow-le-pow-right two few)
-
-add-i : tie.Need-add-i Inv-loop μ-loop
-add-i c = omega arith
-
-loop-less : tie.Need-loop-less Inv-loop μ-loop
-loop-less c = omega arith
 
 loop-again : tie.Need-loop-again Inv-loop μ-loop
 loop-again c =
@@ -42,4 +33,4 @@ returns c =
 
 pub power-spec : {M : Type 1} → statement M
 power-spec =
-    tie.close (tie.spec Inv-loop μ-loop loop-holds mul-p add-i loop-less loop-again returns)
+    tie.close (tie.spec Inv-loop μ-loop (λ c. (omega arith, refl)) mul-p (λ c. omega arith) (λ c. omega arith) loop-again returns)

@@ -1,25 +1,13 @@
 -- `row_fault` meets its contract. Assumes nothing.
 use mathlib.Core.Path.{sym, ap}
 use borrow.Author.Tests.{eq-eqb, ne-eqb}
-use Rattle.text.specs.Class.{pick}
+use Rattle.reading.specs.Choice.{pick}
 use Rattle.cell_library.specs.declared.rows.Fault.{Fault}
 use Rattle.cell_library.specs.Cells.{rowOf}
 use Rattle.cell_library.specs.Faults.{faulty}
 use borrow.Author.Needs.{needs}
 use Rattle.cell_library.proofs.rows.row_fault.Statement.{statement}
 use Rattle.cell_library.proofs.rows.row_fault.Tie as tie
-
-enum-known-fault : tie.Need-enum-known-fault
-enum-known-fault c = search needs
-
-enum-told : tie.Need-enum-told
-enum-told c = search needs
-
-enum-known-fault-2 : tie.Need-enum-known-fault-2
-enum-known-fault-2 c = search needs
-
-div-result : tie.Need-div-result
-div-result c = search needs
 
 returns : tie.Need-returns
 unfolding faulty rowOf
@@ -41,10 +29,10 @@ pub row-fault-spec : {M : Type 1} → statement M
 row-fault-spec =
     tie.close
     (tie.spec
-    enum-known-fault
-    enum-told
-    enum-known-fault-2
-    div-result
+    (λ c. search needs)
+    (λ c. search needs)
+    (λ c. search needs)
+    (λ c. search needs)
     returns
     returns-2
     returns-3

@@ -3,7 +3,7 @@ use mathlib.Core.Path.{sym, _∙_}
 use Prim.Native.Nat.{_+_, _*_, _^_, _≤_, _<_}
 use native.Mathlib.Nat.{pow-zero, pow-le-pow-right}
 use borrow.Author.Tests.{ne-eqb}
-use Rattle.text.specs.Class.{pick}
+use Rattle.reading.specs.Choice.{pick}
 use Rattle.cell_library.specs.Cells.{bit}
 use Rattle.cell_library.specs.Library.{namesNone, observesNot}
 use Rattle.cell_library.specs.Faults.{faulty}
@@ -13,21 +13,9 @@ use borrow.Author.Needs.{needs}
 use Rattle.cell_library.proofs.rows.row_idle.Statement.{statement}
 use Rattle.cell_library.proofs.rows.row_idle.Tie as tie
 
-sets-output-requires : tie.Need-sets-output-requires
-sets-output-requires c κs = search needs
-
 returns : tie.Need-returns
 unfolding pick namesNone faulty
 returns c x = rw (idle-by, sym (c .before .sets-output .ensures) ∙ c .if1 .taken)
-
-mul-power : tie.Need-mul-power
-mul-power c = search needs
-
-add-power : tie.Need-add-power
-add-power c = search needs
-
-power-requires : tie.Need-power-requires
-power-requires c κs = search needs
 
 returns-2 : tie.Need-returns-2
 unfolding pick observesNot faulty bit
@@ -40,4 +28,4 @@ returns-2 c x =
 
 pub row-idle-spec : {M : Type 1} → statement M
 row-idle-spec =
-    tie.close (tie.spec sets-output-requires returns mul-power add-power power-requires returns-2)
+    tie.close (tie.spec (λ c κs. search needs) returns (λ c. search needs) (λ c. search needs) (λ c κs. search needs) returns-2)

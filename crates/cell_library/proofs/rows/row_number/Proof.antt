@@ -1,106 +1,159 @@
 -- `row_number` meets its contract: each return is a case of the passes. Assumes nothing.
-use mathlib.Core.Path.{_≡_, sym}
-use lib.ListN.{drop}
+use mathlib.Core.Bool.{true}
+use mathlib.Core.Path.{_≡_, sym, _∙_}
+use Prim.Native.Nat.{ℕ}
+use lib.ListN.{drop, getD}
+use mathlib.Core.List.{[]}
 use borrow.Author.Tests.{not-true, not-false}
-use Rattle.text.specs.Class.{pick}
-use Rattle.text.specs.Lines.{fields}
-use Rattle.cell_library.specs.Library.{columnCount, above, idle}
+use Rattle.reading.specs.Choice.{pick}
+use Rattle.text.specs.Lines.{fields, sameBytes}
+use Rattle.cell_library.specs.Library.{Fields, Word, word, rowsForm, wordBytes, groupCount, columnCount, above, idle}
 use Rattle.cell_library.specs.Faults.{faulty}
-use Rattle.cell_library.specs.Passes.{wordAt, anyField}
+use Rattle.cell_library.specs.Passes.{wordAt, groupsWrong, noGroups, anyField, rowNumber}
 use Rattle.cell_library.proofs.Cursors.{fields-some}
-use Rattle.cell_library.proofs.Passes.{rowNumber-passes, any-same}
+use Rattle.cell_library.proofs.Passes.{passes, rowNumber-passes, any-same}
 use borrow.Author.Needs.{needs}
 use Rattle.cell_library.proofs.rows.row_number.Statement.{statement}
 use Rattle.cell_library.proofs.rows.row_number.Tie as tie
 
-nth-requires : tie.Need-nth-requires
-nth-requires c κs = search needs
+-- ---- the places of the code that the answers speak of
 
-is-word-requires : tie.Need-is-word-requires
-is-word-requires c κs = search needs
+abbrev begun : tie.After-is-word → tie.Start
+begun c = c .before .before .before
+
+abbrev worded : tie.After-rows-form → tie.Else1
+worded c = c .before .before
+
+abbrev formed : tie.After-groups-bad → tie.Else2
+formed c = c .before .before
+
+abbrev counted : tie.After-any-fault → tie.Else3
+counted c = c .before .before
+
+abbrev low : tie.After-any-fault2 → tie.Else4
+low c = c .before .before
+
+abbrev rows-begun : tie.After-rows-form → tie.Start
+rows-begun c = begun (worded c .before)
+
+abbrev groups-begun : tie.After-groups-bad → tie.Start
+groups-begun c = rows-begun (formed c .before)
+
+abbrev high-begun : tie.After-any-fault → tie.Start
+high-begun c = groups-begun (counted c .before)
+
+abbrev idle-begun : tie.After-any-fault2 → tie.Start
+idle-begun c = high-begun (low c .before)
+
+-- ---- what each pass told
+
+module _ (s : tie.Start) where
+  abbrev w : Word
+  w = wordAt (s .args .place)
+
+  abbrev n : ℕ
+  n = s .args .pins
+
+  abbrev fs : Fields
+  fs = fields (s .args .line .now)
+
+  number : rowNumber w n fs ≡ passes w n fs (fields-some (s .args .line .now)) (sameBytes (getD fs 0 []) (wordBytes w)) (rowsForm word (drop 1 fs))
+  number = rowNumber-passes w n fs (fields-some (s .args .line .now))
+
+word-told : (c : tie.After-is-word) → c .is-word .result ≡ sameBytes (getD (fs (begun c)) 0 []) (wordBytes (w (begun c)))
+word-told c = rw (c .before .nth .ensures) at (c .is-word .ensures)
+
+word-is : (c : tie.Else1) → sameBytes (getD (fs (begun (c .before))) 0 []) (wordBytes (w (begun (c .before)))) ≡ true
+word-is c = sym (word-told (c .before)) ∙ not-false (c .before .is-word .result) (c .if1 .left)
+
+form-told : (c : tie.After-rows-form) → c .rows-form .result ≡ rowsForm word (drop 1 (fs (rows-begun c)))
+form-told c = rw (c .before .cursor .ensures) at (c .rows-form .ensures)
+
+form-is : (c : tie.Else2) → rowsForm word (drop 1 (fs (rows-begun (c .before)))) ≡ true
+form-is c = sym (form-told (c .before)) ∙ not-false (c .before .rows-form .result) (c .if2 .left)
+
+groups-told : (c : tie.After-groups-bad) → let s = groups-begun c in c .groups-bad .result ≡ groupsWrong (groupCount (w s) (n s)) noGroups (drop 1 (fs s))
+groups-told c = rw (← formed c .before .before .cursor .ensures, ← c .before .group-count .ensures) (c .groups-bad .ensures)
+
+high-told : (c : tie.After-any-fault) → let s = high-begun c in c .any-fault .result ≡ anyField (above (columnCount (w s) (n s))) (drop 1 (fs s))
+high-told c =
+    let s = high-begun c in
+    c .any-fault .ensures
+    ∙ rw (formed (counted c .before) .before .before .cursor .ensures)
+    (any-same (faulty (c .before .bit-above .result)) (above (columnCount (w s) (n s))) (drop 1 (fs s)) (c .before .bit-above .ensures))
+
+idle-told : (c : tie.After-any-fault2) → let s = idle-begun c in c .any-fault2 .result ≡ anyField (idle (w s) (n s)) (drop 1 (fs s))
+idle-told c =
+    let s = idle-begun c in
+    c .any-fault2 .ensures
+    ∙ rw (formed (counted (low c .before) .before) .before .before .cursor .ensures)
+    (any-same (faulty (c .before .row-idle .result)) (idle (w s) (n s)) (drop 1 (fs s)) (c .before .row-idle .ensures))
+
+-- ---- the answers
 
 returns : tie.Need-returns
 unfolding pick
-returns c =
-    let a = c .before .before .before .before .args in
-    rw (rowNumber-passes (wordAt (a .place)) (a .pins) (fields (a .line .now)) (fields-some (a .line .now)), ← c .before .before .nth .ensures, ← c .before .is-word .ensures, not-true (c .before .is-word .result) (c .if1 .taken))
-
-cursor-requires : tie.Need-cursor-requires
-cursor-requires c κs = search needs
-
-rows-form-requires : tie.Need-rows-form-requires
-rows-form-requires c κs = search needs
+returns c = rw (number (begun (c .before)), sym (word-told (c .before)) ∙ not-true (c .before .is-word .result) (c .if1 .taken))
 
 returns-2 : tie.Need-returns-2
 unfolding pick
-returns-2 c =
-    let a = c .before .before .before .before .before .before .before .args in
-    rw (rowNumber-passes (wordAt (a .place)) (a .pins) (fields (a .line .now)) (fields-some (a .line .now)), ← c .before .before .before .before .before .nth .ensures, ← c .before .before .before .before .is-word .ensures, not-false (c .before .before .before .before .is-word .result) (c .before .before .before .if1 .left), ← c .before .before .cursor .ensures .1, ← c .before .rows-form .ensures, not-true (c .before .rows-form .result) (c .if2 .taken))
-
-group-count-requires : tie.Need-group-count-requires
-group-count-requires c κs = search needs
+returns-2 c = rw (number (rows-begun (c .before)), word-is (worded (c .before)), sym (form-told (c .before)) ∙ not-true (c .before .rows-form .result) (c .if2 .taken))
 
 groups-bad-requires : tie.Need-groups-bad-requires
-groups-bad-requires c κs = c .before .before .before .before .before .before .before .before .pre .0
+groups-bad-requires c κs = rows-begun (c .before .before) .pre .0
 
 returns-3 : tie.Need-returns-3
 unfolding pick
 returns-3 c =
-    let a = c .before .before .before .before .before .before .before .before .before .before .args in
-    rw (rowNumber-passes (wordAt (a .place)) (a .pins) (fields (a .line .now)) (fields-some (a .line .now)), ← c .before .before .before .before .before .before .before .before .nth .ensures, ← c .before .before .before .before .before .before .before .is-word .ensures, not-false (c .before .before .before .before .before .before .before .is-word .result) (c .before .before .before .before .before .before .if1 .left), ← c .before .before .before .before .before .cursor .ensures .1, ← c .before .before .before .before .rows-form .ensures, not-false (c .before .before .before .before .rows-form .result) (c .before .before .before .if2 .left), ← c .before .before .group-count .ensures, ← c .before .groups-bad .ensures, c .if3 .taken)
+    let f = formed (c .before) in
+    rw (number (groups-begun (c .before)), word-is (worded (f .before)), form-is f, sym (groups-told (c .before)) ∙ c .if3 .taken)
 
-fault-of-requires : tie.Need-fault-of-requires
-fault-of-requires c κs = c .before .before .before .before .before .before .before .before .before .before .pre .1
-
-any-fault-requires : tie.Need-any-fault-requires
-any-fault-requires c κs = search needs
+bit-above-requires : tie.Need-bit-above-requires
+bit-above-requires c κs = groups-begun (c .before) .pre .1
 
 returns-4 : tie.Need-returns-4
 unfolding pick
 returns-4 c =
-    let a = c .before .before .before .before .before .before .before .before .before .before .before .before .before .args in
-    let seven : anyField (above (columnCount (wordAt (a .place)) (a .pins))) (drop 1 (fields (a .line .now))) ≡ _ = sym (any-same (faulty (c .before .before .fault-of .result)) (above (columnCount (wordAt (a .place)) (a .pins))) (drop 1 (fields (a .line .now))) (c .before .before .fault-of .ensures)) in
-    rw (rowNumber-passes (wordAt (a .place)) (a .pins) (fields (a .line .now)) (fields-some (a .line .now)), ← c .before .before .before .before .before .before .before .before .before .before .before .nth .ensures, ← c .before .before .before .before .before .before .before .before .before .before .is-word .ensures, not-false (c .before .before .before .before .before .before .before .before .before .before .is-word .result) (c .before .before .before .before .before .before .before .before .before .if1 .left), seven, ← c .before .before .before .before .before .before .before .before .cursor .ensures .1, ← c .before .before .before .before .before .before .before .rows-form .ensures, not-false (c .before .before .before .before .before .before .before .rows-form .result) (c .before .before .before .before .before .before .if2 .left), ← c .before .before .before .before .before .group-count .ensures, ← c .before .before .before .before .groups-bad .ensures, c .before .before .before .if3 .left, ← c .before .any-fault .ensures, c .if4 .taken)
+    let g = counted (c .before) in
+    let f = formed (g .before) in
+    rw (number (high-begun (c .before)), word-is (worded (f .before)), form-is f, sym (groups-told (g .before)) ∙ g .if3 .left, sym (high-told (c .before)) ∙ c .if4 .taken)
 
-fault-of-requires-2 : tie.Need-fault-of-requires-2
-fault-of-requires-2 c κs = c .before .before .before .before .before .before .before .before .before .before .before .before .before .pre .1
-
-any-fault-requires-2 : tie.Need-any-fault-requires-2
-any-fault-requires-2 c κs = search needs
+row-idle-requires : tie.Need-row-idle-requires
+row-idle-requires c κs = high-begun (c .before) .pre .1
 
 returns-5 : tie.Need-returns-5
 unfolding pick
 returns-5 c =
-    let a = c .before .before .before .before .before .before .before .before .before .before .before .before .before .before .before .before .args in
-    let seven : anyField (above (columnCount (wordAt (a .place)) (a .pins))) (drop 1 (fields (a .line .now))) ≡ _ = sym (any-same (faulty (c .before .before .before .before .before .fault-of .result)) (above (columnCount (wordAt (a .place)) (a .pins))) (drop 1 (fields (a .line .now))) (c .before .before .before .before .before .fault-of .ensures)) in
-    let eight : anyField (idle (wordAt (a .place)) (a .pins)) (drop 1 (fields (a .line .now))) ≡ _ = sym (any-same (faulty (c .before .before .fault-of2 .result)) (idle (wordAt (a .place)) (a .pins)) (drop 1 (fields (a .line .now))) (c .before .before .fault-of2 .ensures)) in
-    rw (rowNumber-passes (wordAt (a .place)) (a .pins) (fields (a .line .now)) (fields-some (a .line .now)), ← c .before .before .before .before .before .before .before .before .before .before .before .before .before .before .nth .ensures, ← c .before .before .before .before .before .before .before .before .before .before .before .before .before .is-word .ensures, not-false (c .before .before .before .before .before .before .before .before .before .before .before .before .before .is-word .result) (c .before .before .before .before .before .before .before .before .before .before .before .before .if1 .left), seven, eight, ← c .before .before .before .before .before .before .before .before .before .before .before .cursor .ensures .1, ← c .before .before .before .before .before .before .before .before .before .before .rows-form .ensures, not-false (c .before .before .before .before .before .before .before .before .before .before .rows-form .result) (c .before .before .before .before .before .before .before .before .before .if2 .left), ← c .before .before .before .before .before .before .before .before .group-count .ensures, ← c .before .before .before .before .before .before .before .groups-bad .ensures, c .before .before .before .before .before .before .if3 .left, ← c .before .before .before .before .any-fault .ensures, c .before .before .before .if4 .left, ← c .before .any-fault2 .ensures, c .if5 .taken)
+    let h = low (c .before) in
+    let g = counted (h .before) in
+    let f = formed (g .before) in
+    rw (number (idle-begun (c .before)), word-is (worded (f .before)), form-is f, sym (groups-told (g .before)) ∙ g .if3 .left, sym (high-told (h .before)) ∙ h .if4 .left, sym (idle-told (c .before)) ∙ c .if5 .taken)
 
 returns-6 : tie.Need-returns-6
 unfolding pick
 returns-6 c =
-    let a = c .before .before .before .before .before .before .before .before .before .before .before .before .before .before .before .before .args in
-    let seven : anyField (above (columnCount (wordAt (a .place)) (a .pins))) (drop 1 (fields (a .line .now))) ≡ _ = sym (any-same (faulty (c .before .before .before .before .before .fault-of .result)) (above (columnCount (wordAt (a .place)) (a .pins))) (drop 1 (fields (a .line .now))) (c .before .before .before .before .before .fault-of .ensures)) in
-    let eight : anyField (idle (wordAt (a .place)) (a .pins)) (drop 1 (fields (a .line .now))) ≡ _ = sym (any-same (faulty (c .before .before .fault-of2 .result)) (idle (wordAt (a .place)) (a .pins)) (drop 1 (fields (a .line .now))) (c .before .before .fault-of2 .ensures)) in
-    rw (rowNumber-passes (wordAt (a .place)) (a .pins) (fields (a .line .now)) (fields-some (a .line .now)), ← c .before .before .before .before .before .before .before .before .before .before .before .before .before .before .nth .ensures, ← c .before .before .before .before .before .before .before .before .before .before .before .before .before .is-word .ensures, not-false (c .before .before .before .before .before .before .before .before .before .before .before .before .before .is-word .result) (c .before .before .before .before .before .before .before .before .before .before .before .before .if1 .left), seven, eight, ← c .before .before .before .before .before .before .before .before .before .before .before .cursor .ensures .1, ← c .before .before .before .before .before .before .before .before .before .before .rows-form .ensures, not-false (c .before .before .before .before .before .before .before .before .before .before .rows-form .result) (c .before .before .before .before .before .before .before .before .before .if2 .left), ← c .before .before .before .before .before .before .before .before .group-count .ensures, ← c .before .before .before .before .before .before .before .groups-bad .ensures, c .before .before .before .before .before .before .if3 .left, ← c .before .before .before .before .any-fault .ensures, c .before .before .before .if4 .left, ← c .before .any-fault2 .ensures, c .if5 .left)
+    let h = low (c .before) in
+    let g = counted (h .before) in
+    let f = formed (g .before) in
+    rw (number (idle-begun (c .before)), word-is (worded (f .before)), form-is f, sym (groups-told (g .before)) ∙ g .if3 .left, sym (high-told (h .before)) ∙ h .if4 .left, sym (idle-told (c .before)) ∙ c .if5 .left)
 
 pub row-number-spec : {M : Type 1} → statement M
 row-number-spec =
     tie.close
     (tie.spec
-    nth-requires
-    is-word-requires
+    (λ c κs. search needs)
+    (λ c κs. search needs)
     returns
-    cursor-requires
-    rows-form-requires
+    (λ c κs. search needs)
+    (λ c κs. search needs)
     returns-2
-    group-count-requires
+    (λ c κs. search needs)
     groups-bad-requires
     returns-3
-    fault-of-requires
-    any-fault-requires
+    bit-above-requires
+    (λ c κs. search needs)
     returns-4
-    fault-of-requires-2
-    any-fault-requires-2
+    row-idle-requires
+    (λ c κs. search needs)
     returns-5
     returns-6)

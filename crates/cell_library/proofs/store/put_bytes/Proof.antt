@@ -24,30 +24,17 @@ loop-holds c =
 add-put : tie.Need-add-put Inv-loop μ-loop
 add-put c = omega (arith, c .before .before .before .before .before .pre)
 
-shared-slice-read-put : tie.Need-shared-slice-read-put Inv-loop μ-loop
-shared-slice-read-put c = omega arith
-
 cast-put : tie.Need-cast-put Inv-loop μ-loop
 cast-put c = omega (arith, c .shared-slice-known2 .given (c .before .before .before .loop .i))
 
-put-requires : tie.Need-put-requires Inv-loop μ-loop
-put-requires c κs = search needs
-
-add-i : tie.Need-add-i Inv-loop μ-loop
-add-i c = omega arith
-
-loop-less : tie.Need-loop-less Inv-loop μ-loop
-loop-less c = omega arith
-
 loop-again : tie.Need-loop-again Inv-loop μ-loop
 loop-again c =
-    let a = c .before .before .before .before .before .before .before .before .before .args in
-    let l = c .before .before .before .before .before .before .loop in
+    let put = c .before .before in
+    let t = put .before .before .before .before in
+    let a = t .before .before .before .args in
+    let l = t .loop in
     let below : l .i < length (a .name .now) = omega arith in
-    rw (c .before .before .put .ensures) (omega arith, simp length-set (l .inv .1), sym (sets-turn (l .table) (a .name .now) (a .at) (l .i) below) ∙ l .inv .2)
-
-same-length : tie.Need-same-length Inv-loop μ-loop
-same-length c = c .before .loop .inv .1
+    rw (put .put .ensures) (omega arith, simp length-set (l .inv .1), sym (sets-turn (l .table) (a .name .now) (a .at) (l .i) below) ∙ l .inv .2)
 
 returns : tie.Need-returns Inv-loop μ-loop
 returns c =
@@ -64,11 +51,11 @@ put-bytes-spec =
     μ-loop
     loop-holds
     add-put
-    shared-slice-read-put
+    (λ c. omega arith)
     cast-put
-    put-requires
-    add-i
-    loop-less
+    (λ c κs. search needs)
+    (λ c. omega arith)
+    (λ c. omega arith)
     loop-again
-    same-length
+    (λ c. c .before .loop .inv .1)
     returns)

@@ -1,50 +1,54 @@
 -- `put_header` meets its contract. Assumes nothing.
-use Rattle.cell_library.specs.Layout.{cellPlace}
+use mathlib.Core.List.{List}
+use mathlib.Core.Path.{ap, _∙_}
+use Prim.Native.Nat.{ℕ, _+_}
+use lib.ListN.{length, set}
+use lib.Seq.{sets}
+use Rattle.sizes.specs.Sizes as Size
+use Rattle.cell_library.specs.Passes.{headerPut}
 use native.Mathlib.Omega.{arith}
 use borrow.Author.Needs.{needs}
 use Rattle.cell_library.proofs.store.put_header.Statement.{statement}
 use Rattle.cell_library.proofs.store.put_header.Tie as tie
 
-cell-place-requires : tie.Need-cell-place-requires
-cell-place-requires c κs = search needs
+-- ---- the places of the code that the answers speak of
 
-cast-put : tie.Need-cast-put
-cast-put c = search needs
+abbrev placed : tie.After-put-bytes-arg → tie.After-cell-place
+placed c = c .before .before .before .before .before
 
-put-requires : tie.Need-put-requires
-put-requires c κs = search needs
+abbrev named : tie.After-put-arg2 → tie.After-put-bytes
+named c = c .before .before .before
 
 add-put-bytes : tie.Need-add-put-bytes
-unfolding cellPlace
-add-put-bytes c = omega (arith, c .before .before .before .before .before .cell-place .ensures)
+add-put-bytes c = omega (arith, placed c .cell-place .ensures)
 
 put-bytes-requires : tie.Need-put-bytes-requires
-unfolding cellPlace
-put-bytes-requires c κs = omega (arith, c .before .before .before .before .before .cell-place .ensures, c .before .before .before .before .before .before .before .before .pre)
+put-bytes-requires c κs = omega (arith, placed c .cell-place .ensures, placed c .before .before .before .pre)
 
 add-put : tie.Need-add-put
-unfolding cellPlace
-add-put c = omega (arith, c .before .before .before .before .before .before .before .before .before .cell-place .ensures)
-
-put-requires-2 : tie.Need-put-requires-2
-put-requires-2 c κs = search needs
-
-same-length : tie.Need-same-length
-same-length c = search needs
+add-put c = omega (arith, placed (named c .before) .cell-place .ensures)
 
 returns : tie.Need-returns
-returns c = rw (c .before .before .put2 .ensures, c .before .before .before .before .before .before .put-bytes .ensures, c .before .before .before .before .before .before .before .before .before .before .put .ensures, c .before .before .before .before .before .before .before .before .before .before .before .before .cell-place .ensures)
+unfolding headerPut
+returns c =
+    let n = named (c .before .before .before) in
+    let p = placed (n .before) in
+    let a = p .before .before .before .args in
+    let at = p .cell-place .result in
+    c .before .before .put2 .ensures
+    ∙ ap (λ (t : List ℕ). set t (at + Size.pinsAt) (a .pins)) (n .put-bytes .ensures ∙ ap (λ (t : List ℕ). sets t (at + 1) (a .name .now)) (n .before .before .before .before .put .ensures))
+    ∙ ap (λ (i : ℕ). set (sets (set (a .table .now) i (length (a .name .now))) (i + 1) (a .name .now)) (i + Size.pinsAt) (a .pins)) (p .cell-place .ensures)
 
 pub put-header-spec : {M : Type 1} → statement M
 put-header-spec =
     tie.close
     (tie.spec
-    cell-place-requires
-    cast-put
-    put-requires
+    (λ c κs. search needs)
+    (λ c. search needs)
+    (λ c κs. search needs)
     add-put-bytes
     put-bytes-requires
     add-put
-    put-requires-2
-    same-length
+    (λ c κs. search needs)
+    (λ c. search needs)
     returns)

@@ -4,56 +4,58 @@ use mathlib.Core.Bool.{true}
 use mathlib.Core.Path.{_≡_, refl, sym, _∙_}
 use Prim.Native.Nat.{_+_, _*_, _-_, _≤_}
 use lib.ListN.{length}
+use Rattle.sizes.specs.Sizes as Size
 use Rattle.text.specs.Lines.{fieldsFrom}
-use Rattle.cell_library.specs.Passes.{stored}
+use Rattle.cell_library.specs.Passes.{rowsPut}
 use Rattle.cell_library.proofs.Cursors.{cursor-on}
-use Rattle.cell_library.proofs.Stores.{stored-turn, stored-ended}
+use Rattle.cell_library.proofs.Stores.{put-turn, put-ended}
 use native.Mathlib.Omega.{arith}
 use borrow.Author.Needs.{needs}
 use Rattle.cell_library.proofs.store.put_rows.Statement.{statement}
 use Rattle.cell_library.proofs.store.put_rows.Tie as tie
 
 abbrev Inv-loop : tie.InvT-loop
-Inv-loop table₀ line from place n at₀ spot₀ table at spot = (spot .place ≤ place + 33 * at) × (spot .rows ≤ at) × (length table ≡ length table₀) × (stored (spot .place) (spot .rows) (spot .joined) (fieldsFrom line at) table ≡ stored place 0 true (fieldsFrom line from) table₀)
+Inv-loop table₀ line from place n at₀ g₀ table at g =
+    (g .place ≤ place + Size.groupWords * at) × (g .rows ≤ at) × (length table ≡ length table₀)
+    × (rowsPut g (fieldsFrom line at) table ≡ rowsPut (record { place = place; rows = 0; joined = true }) (fieldsFrom line from) table₀)
 
 abbrev μ-loop : tie.MeasureT-loop
-μ-loop table₀ line from place n at₀ spot₀ table at spot = length line + 1 - at
+μ-loop table₀ line from place n at₀ g₀ table at g = length line + 1 - at
 
-loop-holds : tie.Need-loop-holds Inv-loop μ-loop
-loop-holds c = (omega arith, omega arith, refl, refl)
+abbrev turn : tie.After-after Inv-loop μ-loop → tie.In-loop Inv-loop μ-loop
+turn c = c .before .before .before .before .before .before
 
-field-requires : tie.Need-field-requires Inv-loop μ-loop
-field-requires c κs = search needs
+abbrev begun : tie.In-loop Inv-loop μ-loop → tie.Start Inv-loop μ-loop
+begun c = c .before .before .before .before
 
 put-field-requires : tie.Need-put-field-requires Inv-loop μ-loop
-put-field-requires c κs = omega (arith, c .before .before .before .before .before .before .pre)
-
-after-requires : tie.Need-after-requires Inv-loop μ-loop
-after-requires c κs = search needs
+put-field-requires c κs = omega (arith, begun (c .before .before) .pre)
 
 loop-less : tie.Need-loop-less Inv-loop μ-loop
 loop-less c =
-    let l = c .before .before .before .before .before .before .before .loop in
-    let s = c .before .before .before .before .before .before .before .before .before .before .args .line .now in
-    rw (c .after .ensures, c .before .before .before .before .before .field .ensures) (omega (arith, cursor-on s (l .at) (c .before .before .before .before .before .before .loop-test .taken)))
+    let t = turn c in
+    rw (c .after .ensures, c .before .before .before .before .before .field .ensures)
+    (omega (arith, cursor-on (begun t .args .line .now) (t .before .loop .at) (t .loop-test .taken)))
 
 loop-again : tie.Need-loop-again Inv-loop μ-loop
 loop-again c =
-    let l = c .before .before .before .before .before .before .before .loop in
-    let a = c .before .before .before .before .before .before .before .before .before .before .args in
-    let s = a .line .now in
-    let on = cursor-on s (l .at) (c .before .before .before .before .before .before .loop-test .taken) in
-    rw (c .after .ensures, c .before .before .before .before .before .field .ensures)
-    (omega (arith, c .before .before .before .put-field .ensures .0), omega (arith, c .before .before .before .put-field .ensures .1), c .before .before .before .put-field .kept .0 ∙ l .inv .2, rw (c .before .before .before .before .before .field .ensures) at (c .before .before .before .put-field .ensures .2) _ ∙ sym (stored-turn s (l .at) (l .spot .place) (l .spot .rows) (l .spot .joined) (l .table) (c .before .before .before .before .before .before .loop-test .taken)) ∙ l .inv .3)
-
-same-length : tie.Need-same-length Inv-loop μ-loop
-same-length c = c .before .loop .inv .2
+    let t = turn c in
+    let l = t .before .loop in
+    let s = begun t .args .line .now in
+    let on = cursor-on s (l .at) (t .loop-test .taken) in
+    let field = c .before .before .before .before .before .field .ensures in
+    let put = c .before .before .before .put-field in
+    rw (c .after .ensures, field) (
+      omega (arith, put .ensures .place),
+      omega (arith, put .ensures .rows),
+      put .kept .0 ∙ l .inv .2,
+      rw field at (put .ensures .rest) _ ∙ sym (put-turn s (l .at) (l .g) (l .table) (t .loop-test .taken)) ∙ l .inv .3,
+    )
 
 returns : tie.Need-returns Inv-loop μ-loop
 returns c =
     let l = c .before .loop in
-    let a = c .before .before .before .before .args in
-    sym (stored-ended (a .line .now) (l .at) (l .spot .place) (l .spot .rows) (l .spot .joined) (l .table) (c .loop-test .left)) ∙ l .inv .3
+    sym (put-ended (c .before .before .before .before .args .line .now) (l .at) (l .g) (l .table) (c .loop-test .left)) ∙ l .inv .3
 
 pub put-rows-spec : {M : Type 1} → statement M
 put-rows-spec =
@@ -61,11 +63,11 @@ put-rows-spec =
     (tie.spec
     Inv-loop
     μ-loop
-    loop-holds
-    field-requires
+    (λ c. (omega arith, omega arith, refl, refl))
+    (λ c κs. search needs)
     put-field-requires
-    after-requires
+    (λ c κs. search needs)
     loop-less
     loop-again
-    same-length
+    (λ c. c .before .loop .inv .2)
     returns)

@@ -4,21 +4,6 @@ use Rattle.cost.specs.Order.{temporalOrder, compared}
 use Rattle.cost.proofs.Temporal.compare.Statement.{statement}
 use Rattle.cost.proofs.Temporal.compare.Tie as tie
 
-least-requires : tie.Need-least-requires
-least-requires c κs = search needs
-
-stands-requires : tie.Need-stands-requires
-stands-requires c κs = search needs
-
-enum-told : tie.Need-enum-told
-enum-told c = search needs
-
-enum-told-2 : tie.Need-enum-told-2
-enum-told-2 c = search needs
-
-enum-told-3 : tie.Need-enum-told-3
-enum-told-3 c = search needs
-
 returns : tie.Need-returns
 unfolding temporalOrder compared
 returns c = cc
@@ -35,11 +20,11 @@ pub compare-spec : {M : Type 1} → statement M
 compare-spec =
     tie.close
     (tie.spec
-    least-requires
-    stands-requires
-    enum-told
-    enum-told-2
-    enum-told-3
+    (λ c κs. search needs)
+    (λ c κs. search needs)
+    (λ c. search needs)
+    (λ c. search needs)
+    (λ c. search needs)
     returns
     returns-2
     returns-3)

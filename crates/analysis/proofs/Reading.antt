@@ -1,0 +1,66 @@
+-- Reading the netlist text, from what the reader of crate `netlist` says of it.
+-- Assumes nothing.
+use mathlib.Core.List.{List}
+use mathlib.Core.Path.{_≡_, refl, _∙_}
+use Prim.Native.Nat.{ℕ}
+use lib.ListN.{drop}
+use Rattle.sizes.specs.Sizes as Size
+use Rattle.reading.specs.Verdict.{verdictRead}
+use Rattle.reading.specs.declared.Refusal.{Refusal}
+use Rattle.reading.specs.declared.Verdict.{Verdict}
+use Rattle.reading.specs.declared.Verdict.the-variants.{Accepted, Refused}
+use Rattle.reading.proofs.Laws.{done-read, done-refused}
+use Rattle.cell_library.specs.Cells.{Cell}
+use Rattle.cell_library.specs.Layout.{LibraryHolds}
+use Rattle.cell_library.proofs.Laws.{sound-fits}
+use Rattle.netlist.specs.Layout.{netlistAfter}
+use Rattle.netlist.specs.Netlist.{netlist}
+use Rattle.netlist.specs.Admitting.{ReadsNetlist}
+use Rattle.outcome.specs.declared.Progress.{Progress}
+use Rattle.outcome.specs.declared.Progress.the-variants.{Unrefused, Later}
+use Rattle.outcome.specs.Outcome.{Lent, givenTexts}
+use Rattle.outcome.specs.Progress.{progressOf}
+use Rattle.outcome.proofs.Promising.{NetlistRead}
+use Rattle.analysis.specs.Netlist.{TextRead}
+
+module _ (text lib before : List ℕ) (begun : Progress) where
+  pub text-stays : (begun ≡ Unrefused → ⊥) → TextRead text lib before begun before begun
+  text-stays h = record { stays = λ _. (refl, refl); reads = λ o. absurd (h o) }
+
+  module _ (o : begun ≡ Unrefused) (v : Verdict) (after : List ℕ)
+      (ensures : (cells : List Cell) → LibraryHolds lib cells → ReadsNetlist cells text before v after) where
+    pub text-refused : (r : Refusal) → v ≡ Refused r → TextRead text lib before begun after (Later r)
+    unfolding verdictRead progressOf
+    text-refused r q =
+        record {
+          stays = λ h. absurd (h o);
+          reads =
+              λ _ cells stands.
+              let e = ensures cells stands in
+              let n = done-refused (netlist cells text) (r .number) (r .line) (rw q at (e .answers)) in
+              (rw n, e .leaves);
+        }
+
+    pub text-accepted : v ≡ Accepted → TextRead text lib before begun after Unrefused
+    unfolding verdictRead progressOf
+    text-accepted q =
+        record {
+          stays = λ h. absurd (h o);
+          reads =
+              λ _ cells stands.
+              let e = ensures cells stands in
+              (done-read (netlist cells text) (rw q at (e .answers)) (λ ss n. rw n), e .leaves);
+        }
+
+-- It is the netlist of the two texts that is read.
+pub netlist-read : (lib net : List ℕ) (m : Lent) (library′ : List ℕ) (begun : Progress) (netlist′ : List ℕ) (said : Progress)
+    → TextRead net library′ (m .netlist) begun netlist′ said → NetlistRead (givenTexts lib net) m library′ begun netlist′ said
+unfolding givenTexts netlistAfter
+netlist-read lib net m library′ begun netlist′ said t =
+    record {
+      stays = t .stays;
+      reads =
+          λ o cells sound stands.
+          let e = t .reads o cells (record { past = drop Size.library (m .library); words = stands; fits = sound-fits cells sound }) in
+          (e .0, λ ss q. e .1 ∙ rw q);
+    }

@@ -1,0 +1,11 @@
+-- What the calculation's theorems ask of cells and statements: what the two readers say of all that they accept.
+-- Assumes nothing.
+use mathlib.Core.List.{List}
+use Rattle.cell_library.specs.Cells.{Cell}
+use Rattle.cell_library.specs.Sound as C
+use Rattle.netlist.specs.Netlist.{Statement}
+use Rattle.netlist.specs.Sound as N
+
+pub record BothSound (cells : List Cell) (ss : List Statement) : Type 0 where
+  pub library : C.Sound cells
+  pub netlist : N.Sound cells ss

@@ -1,0 +1,69 @@
+-- Plans, in document 01's own words ("Plans"), over the cells and the statements as they were read, and what demand 3 says of
+-- a number. `proofs/Planning.antt` shows that these plans are those of crate `plans` at the ways and visits of this netlist.
+-- Assumes nothing.
+use mathlib.Core.Bool.{true}
+use mathlib.Core.List.{List, [], _∷_, List·Memᴰ}
+use mathlib.Core.Logic.{_↔_}
+use mathlib.Core.Path.{_≡_}
+use Prim.Native.Nat.{ℕ, _+_, _≤_, _<_}
+use Rattle.cost.specs.Cost.{most, over, never}
+use Rattle.cell_library.specs.Cells.{Row, Cell, Column}
+use Rattle.netlist.specs.Netlist.{Gate, Statement, gatesOf, isInput, isOutput}
+use Rattle.calculation.specs.Nodes.{Kind, combinational, sequential, Purpose, set, observe}
+use Rattle.calculation.specs.Ways.{cellOf, pinLine, asked, setting, observing, groupOf, asks}
+
+-- "An input is set to either value at combinational cost 1, sequential cost 0."
+unfoldable pub inputCost : Kind → ℕ
+inputCost combinational = 1
+inputCost sequential = 0
+
+module _ (cells : List Cell) (ss : List Statement) (k : Kind) where
+  mutual
+    -- "A plan is a finite tree."
+    pub data Plan : Purpose → Type 0 where
+      -- "An input is set to either value"
+      input : {l v : ℕ} → v ≤ 1 → isInput l ss ≡ true → Plan (set l v)
+      -- "A gate's output is set to e by choosing a row of group e of its cell and giving one plan for each column that the row
+      -- names"
+      row : {l e : ℕ} (g : Gate) → List·Memᴰ g (gatesOf ss) → g .line ≡ l → (r : Row)
+          → List·Memᴰ r (groupOf k (cellOf cells g) (setting e))
+          → Plans g (asks (cellOf cells g) (setting e) r)
+          → Plan (set l e)
+      -- "An output line is observed at cost 0."
+      output : {l : ℕ} → isOutput l ss ≡ true → Plan (observe l)
+      -- "Any line is also observed by choosing a gate and a pin that reads the line, a row of that pin's group, a plan for each
+      -- value named and an observing plan for the gate's output": the row names "observe the output" too.
+      through : {l : ℕ} (g : Gate) → List·Memᴰ g (gatesOf ss)
+          → (i : ℕ) → 1 ≤ i → i ≤ cellOf cells g .pins → pinLine g i ≡ l → (r : Row)
+          → List·Memᴰ r (groupOf k (cellOf cells g) (observing i))
+          → Plans g (asks (cellOf cells g) (observing i) r)
+          → Plan (observe l)
+
+    -- One plan for each column named, at a gate.
+    pub data Plans : Gate → List Column → Type 0 where
+      done : {g : Gate} → Plans g []
+      also : {g : Gate} {c : Column} {cs : List Column} → Plan (asked g c) → Plans g cs → Plans g (c ∷ cs)
+
+-- "its cost is the sum of those plans plus the depth"; "costs and depth add"; "The cost of a plan is the exact sum, without a
+-- ceiling."
+unfoldable mutual
+  pub cost : {cells : List Cell} {ss : List Statement} {k : Kind} {p : Purpose} → Plan cells ss k p → ℕ
+  cost {k = k} (input h e) = inputCost k
+  cost (row g m e r q ps) = r .depth + costs ps
+  cost (output e) = 0
+  cost (through g m i b h e r q ps) = r .depth + costs ps
+
+  pub costs : {cells : List Cell} {ss : List Statement} {k : Kind} {g : Gate} {cs : List Column} → Plans cells ss k g cs → ℕ
+  costs done = 0
+  costs (also p ps) = cost p + costs ps
+
+-- Demand 3, of one number x for one purpose, "each against every plan for the same line and the same purpose, in the same
+-- terms, combinational or sequential".
+pub record Exact (cells : List Cell) (ss : List Statement) (k : Kind) (p : Purpose) (x : ℕ) : Type 0 where
+  -- "A figure up to 999,999,999 stands exactly when some such plan costs just that and none costs less."
+  pub figure : (n : ℕ) → n ≤ most
+      → (x ≡ n) ↔ (((q : Plan cells ss k p) × (cost q ≡ n)) × ((q : Plan cells ss k p) → n ≤ cost q))
+  -- ""Over" stands exactly when such plans exist and every one of them costs more than 999,999,999."
+  pub isOver : (x ≡ over) ↔ (Plan cells ss k p × ((q : Plan cells ss k p) → most < cost q))
+  -- ""Never" stands exactly when there is no such plan."
+  pub isNever : (x ≡ never) ↔ (Plan cells ss k p → ⊥)

@@ -1,0 +1,4 @@
+pub mod Libraries
+pub mod Netlists
+pub mod Reports
+pub mod Texts

@@ -1,0 +1,72 @@
+-- Figures of document 01 "Netlist" and "Where a text stops", by computation: the NAND2 latch of "Figures to hold" reads to
+-- its statements, and a text for each refusal 10 to 15 is refused by its number at its line. 16 cannot be met: 11 or 14 comes
+-- first. Assumes nothing.
+use mathlib.Core.List.{List, [], _∷_}
+use mathlib.Core.Path.{_≡_, refl}
+use Prim.Native.Nat.{ℕ}
+use Rattle.text.specs.Bytes.{bytes, text}
+use Rattle.reading.specs.Refusal.{Read, refused, read}
+use Rattle.cell_library.specs.Cells.{Cell}
+use Rattle.netlist.specs.Netlist.{Statement, input, output, mark, gate, netlist, netlist-open}
+
+-- A library of one cell, by the name and the pins that a netlist asks for.
+abbrev cells : List Cell
+cells = record { name = bytes "NAND2"; pins = 2; cc = []; co = []; sc = []; so = [] } ∷ []
+
+unfoldable pub readAll : List (List ℕ) → List (Read (List Statement))
+readAll [] = []
+readAll (t ∷ ts) = netlist cells t ∷ readAll ts
+
+pub accepted : readAll
+    (text ("input,1" ∷ "input,2" ∷ "gate,NAND2,3,1,4" ∷ "gate,NAND2,4,2,3" ∷ "output,3" ∷ [])
+    ∷ text ("output,1000" ∷ "gate,NAND2,7,7,7" ∷ [])
+    ∷ text []
+    ∷ [])
+    ≡ read
+    (mark input 1
+    ∷ mark input 2
+    ∷ gate (record { cell = 0; line = 3; pins = 1 ∷ 4 ∷ [] })
+    ∷ gate (record { cell = 0; line = 4; pins = 2 ∷ 3 ∷ [] })
+    ∷ mark output 3
+    ∷ [])
+    ∷ read (mark output 1000 ∷ gate (record { cell = 0; line = 7; pins = 7 ∷ 7 ∷ [] }) ∷ [])
+    ∷ read []
+    ∷ []
+unfolding readAll netlist-open
+accepted = refl
+
+-- 10: a leading zero, a last line without byte 10, an empty line, a gate without its line.
+pub refused-10 : readAll (text ("input,1" ∷ "input,02" ∷ []) ∷ bytes "input,1" ∷ text ("" ∷ []) ∷ text ("gate,NAND2" ∷ []) ∷ [])
+    ≡ refused 10 2 ∷ refused 10 1 ∷ refused 10 1 ∷ refused 10 1 ∷ []
+unfolding readAll netlist-open
+refused-10 = refl
+
+-- 11: line 0, line 1,001, and a pin far to the right, ahead of 12 and 13.
+pub refused-11 : readAll
+    (text ("input,0" ∷ [])
+    ∷ text ("output,1" ∷ "output,1001" ∷ [])
+    ∷ text ("gate,AND2,1,2,3,4,5,6,7,8,9,10,1001" ∷ [])
+    ∷ [])
+    ≡ refused 11 1 ∷ refused 11 2 ∷ refused 11 1 ∷ []
+unfolding readAll netlist-open
+refused-11 = refl
+
+pub refused-12 : readAll (text ("input,1" ∷ "gate,AND2,2,1,1" ∷ []) ∷ []) ≡ refused 12 2 ∷ []
+unfolding readAll netlist-open
+refused-12 = refl
+
+-- 13: too few pins, too many, and none, which is good form.
+pub refused-13 : readAll (text ("gate,NAND2,3,1" ∷ []) ∷ text ("gate,NAND2,3,1,2,1" ∷ []) ∷ text ("gate,NAND2,3" ∷ []) ∷ [])
+    ≡ refused 13 1 ∷ refused 13 1 ∷ refused 13 1 ∷ []
+unfolding readAll netlist-open
+refused-13 = refl
+
+-- 14: of two lines that clash the later is the bad one.
+pub refused-14 : readAll (text ("input,1" ∷ "input,1" ∷ []) ∷ text ("gate,NAND2,3,1,2" ∷ "output,3" ∷ "input,3" ∷ []) ∷ [])
+    ≡ refused 14 2 ∷ refused 14 3 ∷ []
+unfolding readAll netlist-open
+refused-14 = refl
+
+pub refused-15 : readAll (text ("output,3" ∷ "output,4" ∷ "output,3" ∷ []) ∷ []) ≡ refused 15 3 ∷ []
+unfolding readAll netlist-open
+refused-15 = refl

@@ -1,0 +1,18 @@
+-- Document 01's library entries, each by its lines. "Cells" and "Figures to hold".
+-- Assumes nothing.
+use mathlib.Core.List.{List, [], _∷_}
+use Prim.Native.String.{String}
+
+abbrev pub c1130 : List String
+c1130 = "Name,C1130,3" ∷ "CC,41,M,11,M,3,125" ∷ "CO,1025,1105,1121" ∷ "SC,40,M,10,M,2,124" ∷ "SO,1024,1104,1120" ∷ "End" ∷ []
+
+-- "C1490 (D, C, R): CC 22,M,134,74; CO 1034,1334,M,1474,1222; SC and SO add 1 to each": to each row, its depth (D41).
+abbrev pub c1490 : List String
+c1490 =
+    "Name,C1490,3" ∷ "CC,22,M,134,74" ∷ "CO,1034,1334,M,1474,1222" ∷ "SC,23,M,135,75" ∷ "SO,1035,1335,M,1475,1223" ∷ "End" ∷ []
+
+abbrev pub nand2 : List String
+nand2 = "Name,NAND2,2" ∷ "CC,13,21,M,5" ∷ "CO,203,211" ∷ "SC,12,20,M,4" ∷ "SO,202,210" ∷ "End" ∷ []
+
+abbrev pub and2 : List String
+and2 = "Name,AND2,2" ∷ "CC,21,M,5,13" ∷ "CO,203,211" ∷ "SC,20,M,4,12" ∷ "SO,202,210" ∷ "End" ∷ []

@@ -1,0 +1,251 @@
+-- The gates of the tables of accepted cells and statements: read place for place their visits are those of crate `calculation`,
+-- and every place that is read is there.
+-- Assumes nothing.
+use mathlib.Core.List.{List, [], _++_, _∷_, List·Memᴰ, List·Memᴰ·head, List·Memᴰ·tail}
+use mathlib.Core.Path.{_≡_, refl, ap, _∙_}
+use Prim.Native.Nat.{ℕ, zero, suc, _+_, _*_, _-_, _≤_, _<_}
+use native.Mathlib.Numerals.{add-one}
+use native.Mathlib.Omega.{arith}
+use lib.ListN.{length, getD, take, drop, length-append, length-take, length-drop}
+use lib.Seq.{getD-take, getD-drop, ext-getD}
+use Rattle.sizes.specs.Sizes as Size
+use Rattle.sizes.specs.Places.{groupPlace, gatePlace}
+use Rattle.cost.specs.Cost.{over}
+use Rattle.plans.specs.System.{Way}
+use Rattle.reading.specs.Choice.{pick}
+use Rattle.table.proofs.Places.{length-fitted, getD-fitted}
+use Rattle.reading.proofs.Laws.{each-at}
+use Rattle.cell_library.specs.Cells.{Row, Group, Cell}
+use Rattle.cell_library.specs.Layout.{libraryWords, cellGroups, firstGroup}
+use Rattle.cell_library.specs.Sound.{SoundRow}
+use Rattle.cell_library.proofs.Places.{length-libraryWords, cell-pins, group-count, row-depth, row-columns, cell-group, within-space, first-most}
+use Rattle.netlist.specs.Netlist.{Gate, Statement, gatesOf}
+use Rattle.netlist.specs.Layout.{netlistWords, gateWords}
+use Rattle.netlist.specs.Sound.{InRange, GateSound}
+use Rattle.netlist.proofs.Laws.{gate-sound}
+use Rattle.netlist.proofs.Places.{length-netlistWords, netlist-count, gate-word}
+use Rattle.calculation.specs.Acceptance.{BothSound}
+use Rattle.calculation.specs.Nodes.{Kind, combinational, sequential}
+use Rattle.calculation.specs.Ways.{noCell, cellOf, pinLine, needs, Role, setting, observing, purposeOf, wordOf, groupIndex, groupOf, asks, wayOf, waysOf, visit}
+use Rattle.calculation.proofs.Accepting.{has-index, gate-cell, pin-count, role-group, role-row}
+use Rattle.calculation.proofs.Visiting.{getD-listed, Has}
+use Rattle.gates.specs.Tables.{kindNumber, rowPlaces, rowWays, groupWays, groupVisit, gateCell, gatePins, gateLines, byRole, visitCount, visitGroup, gateVisit}
+use Rattle.gates.specs.Fits.{GroupFits, GateFits, TablesFit}
+use Rattle.gates.proofs.Naming.{set-node, observe-node, linesOf, role-places}
+
+noRow : Row
+noRow = record { depth = 0; columns = 0 }
+
+pub noGate : Gate
+noGate = record { cell = 0; line = 0; pins = [] }
+
+-- ---- rows
+
+module _ (k : Kind) (g : Gate) (c : Cell) (role : Role) (library : List ℕ) where
+  rows-ways : (rs : Group) (place : ℕ)
+      → ((r : ℕ) → r < length rs → getD library (place + Size.rowWords * r) 0 ≡ (getD rs r noRow) .depth)
+      → ((r : ℕ) → r < length rs → getD library (place + Size.rowWords * r + 1) 0 ≡ (getD rs r noRow) .columns)
+      → ((r : Row) → List·Memᴰ r rs → rowPlaces (kindNumber k) (linesOf g) (c .pins) (r .columns) ≡ needs k g (asks c role r))
+      → rowWays (kindNumber k) (linesOf g) (c .pins) library (length rs) place ≡ waysOf k g c role rs
+  unfolding rowWays waysOf wayOf
+  rows-ways [] place d q p = refl
+  rows-ways (r ∷ rs) place d q p =
+      let z : place + Size.rowWords * 0 ≡ place = omega arith in
+      let d0 : getD library place 0 ≡ r .depth = rw z at (d 0 (omega arith)) in
+      let c0 : getD library (place + 1) 0 ≡ r .columns = rw z at (q 0 (omega arith)) in
+      rw (d0, c0, p r (List·Memᴰ·head refl))
+      (ap (λ (l : List Way). record { depth = r .depth; needs = needs k g (asks c role r) } ∷ l)
+      (rows-ways rs (place + Size.rowWords)
+      (λ i h. rw (next i) (d (suc i) (omega arith)))
+      (λ i h. rw (next i) (q (suc i) (omega arith)))
+      (λ x m. p x (List·Memᴰ·tail m))))
+    where
+      next : (i : ℕ) → place + Size.rowWords + Size.rowWords * i ≡ place + Size.rowWords * suc i
+      next i = omega arith
+
+-- A role as the tables count it.
+abbrev pub roleNumber : Role → ℕ
+roleNumber (setting e) = 0
+roleNumber (observing i) = 1
+
+-- The group of a role among those of a cell.
+abbrev roleGroup : Kind → Role → ℕ
+roleGroup k role = visitGroup (roleNumber role) (kindNumber k) (groupIndex role)
+
+role-first : (k : Kind) (role : Role) → roleGroup k role ≡ firstGroup (wordOf k role) + groupIndex role
+unfolding byRole pick firstGroup wordOf groupIndex
+role-first combinational (setting e) = omega arith
+role-first sequential (setting e) = omega arith
+role-first combinational (observing i) = omega arith
+role-first sequential (observing i) = omega arith
+
+-- ---- the tables
+
+module _ (cells : List Cell) (ss : List Statement) (sound : BothSound cells ss) (behind past : List ℕ) where
+  abbrev library : List ℕ
+  library = libraryWords cells ++ behind
+
+  abbrev netlist : List ℕ
+  netlist = netlistWords ss ++ past
+
+  library-room : Size.library ≤ length library
+  library-room = omega (arith, length-append (libraryWords cells) behind, length-libraryWords cells)
+
+  pub netlist-room : Size.netlist ≤ length netlist
+  netlist-room = omega (arith, length-append (netlistWords ss) past, length-netlistWords ss)
+
+  -- ---- one gate
+
+  module _ (i : ℕ) (h : i < length (gatesOf ss)) where
+    abbrev gate : Gate
+    gate = getD (gatesOf ss) i noGate
+
+    abbrev cell : Cell
+    cell = cellOf cells gate
+
+    listed : List·Memᴰ gate (gatesOf ss)
+    listed = getD-listed (gatesOf ss) i noGate h
+
+    sound-gate : GateSound cells gate
+    sound-gate = gate-sound cells ss (sound .netlist) gate listed
+
+    few-gates : i < Size.gates
+    few-gates = omega (arith, sound .netlist .few)
+
+    gate-number : (j : ℕ) → j < Size.gateWords → getD netlist (gatePlace i + j) 0 ≡ getD (gateWords gate) j 0
+    gate-number j q = gate-word ss past noGate i j h few-gates q
+
+    cell-number : gateCell netlist i ≡ gate .cell
+    unfolding gateWords
+    cell-number = let e : gatePlace i ≡ gatePlace i + 0 = omega arith in rw e (gate-number 0 (omega arith))
+
+    pub pins-number : gatePins library netlist i ≡ cell .pins
+    unfolding cellOf
+    pins-number = rw cell-number (cell-pins noCell cells behind (sound .library .few) (gate .cell) (sound-gate .known))
+
+    pins-most : cell .pins ≤ Size.pins
+    pins-most = gate-cell sound gate listed .header .most-pins
+
+    lines-are : gateLines netlist i ≡ linesOf gate
+    unfolding gateLines
+    lines-are = ext-getD 0 (take Size.gateLines (drop (gatePlace i + 1) netlist)) (linesOf gate) count each
+      where
+        count : length (take Size.gateLines (drop (gatePlace i + 1) netlist)) ≡ length (linesOf gate)
+        count = simp (length-take, length-drop, length-fitted) (omega (arith, netlist-room, few-gates))
+
+        each : (j : ℕ) → j < length (take Size.gateLines (drop (gatePlace i + 1) netlist))
+            → getD (take Size.gateLines (drop (gatePlace i + 1) netlist)) j 0 ≡ getD (linesOf gate) j 0
+        each j q =
+            let b : j < Size.gateLines = omega (arith, count, length-fitted 0 Size.pins (gate .pins)) in
+            let e : gatePlace i + 1 + j ≡ gatePlace i + suc j = omega arith in
+            getD-take Size.gateLines (drop (gatePlace i + 1) netlist) j 0 b
+            ∙ getD-drop (gatePlace i + 1) netlist j 0
+            ∙ ap (λ (m : ℕ). getD netlist m 0) e
+            ∙ unfold gateWords in gate-number (suc j) (omega arith)
+
+    -- ---- its groups, by the role
+
+    module _ (k : Kind) (role : Role) (has : Has cell role) where
+      abbrev rows : Group
+      rows = groupOf k cell role
+
+      abbrev place : ℕ
+      place = groupPlace (gateCell netlist i) (roleGroup k role)
+
+      low : roleGroup k role < Size.groups
+      low = rw (role-first k role) (omega (arith, within-space (wordOf k role) (cell .pins) pins-most, has-index k cell role has, first-most (wordOf k role)))
+
+      same : getD (cellGroups cell) (roleGroup k role) [] ≡ rows
+      unfolding groupOf
+      same = rw (role-first k role) (cell-group (wordOf k role) cell (groupIndex role) pins-most (has-index k cell role has))
+
+      most : length rows ≤ Size.rows
+      most = role-group sound gate listed k role has .most-rows
+
+      row-sound : (r : Row) → List·Memᴰ r rows → SoundRow (wordOf k role) (cell .pins) r
+      row-sound = role-row sound gate listed k role has
+
+      group-number : getD library place 0 ≡ length rows
+      unfolding cellOf
+      group-number = rw (cell-number, ← same) (group-count noCell cells behind (sound .library .few) (gate .cell) (sound-gate .known) (roleGroup k role) low)
+
+      depth-number : (r : ℕ) → r < length rows → getD library (place + 1 + Size.rowWords * r) 0 ≡ (getD rows r noRow) .depth
+      unfolding cellOf
+      depth-number r q =
+          rw (cell-number, ← same)
+          (row-depth noCell cells behind (sound .library .few) (gate .cell) (sound-gate .known) (roleGroup k role) low r noRow (rw same most) (rw same q))
+
+      columns-number : (r : ℕ) → r < length rows → getD library (place + 1 + Size.rowWords * r + 1) 0 ≡ (getD rows r noRow) .columns
+      unfolding cellOf
+      columns-number r q =
+          let e : groupPlace (gate .cell) (roleGroup k role) + 1 + Size.rowWords * r + 1 ≡ groupPlace (gate .cell) (roleGroup k role) + 2 + Size.rowWords * r = omega arith in
+          rw (cell-number, e, ← same)
+          (row-columns noCell cells behind (sound .library .few) (gate .cell) (sound-gate .known) (roleGroup k role) low r noRow (rw same most) (rw same q))
+
+      group-fits : GroupFits library place
+      group-fits =
+          record {
+            room = rw group-number (rw cell-number (omega (arith, library-room, sound .library .few, sound-gate .known, low, most)));
+            depth = λ r q. shallow r (rw group-number at q);
+          }
+        where
+          shallow : (r : ℕ) → r < length rows → getD library (place + 1 + Size.rowWords * r) 0 ≤ over
+          shallow r q = rw (depth-number r q) (omega (arith, row-sound (getD rows r noRow) (getD-listed rows r noRow q) .depth))
+
+      group-ways : groupWays (kindNumber k) (gateLines netlist i) (gatePins library netlist i) library place ≡ waysOf k gate cell role rows
+      unfolding groupWays
+      group-ways =
+          rw (lines-are, group-number, pins-number)
+          (rows-ways k gate cell role library rows (place + 1) depth-number columns-number
+          (λ r m. role-places k gate cell role pins-most r (row-sound r m .within)))
+
+    -- ---- its visits
+
+    pub visit-is : (k : Kind) (role : Role) → Has cell role → gateVisit (roleNumber role) (kindNumber k) library netlist i (groupIndex role) ≡ visit k cells gate role
+    unfolding gateVisit byRole pick groupVisit visit purposeOf pinLine groupIndex
+    visit-is k (setting e) h = rw (group-ways k (setting e) h, lines-are, set-node k (gate .line) e)
+    visit-is k (observing p) h =
+        let z : p - 1 + 1 ≡ suc (p - 1) = omega arith in
+        let low : p - 1 < Size.pins = omega (arith, pins-most, h .0, h .1) in
+        rw (group-ways k (observing p) h, lines-are, z, getD-fitted 0 Size.pins (gate .pins) (p - 1) low, observe-node k (getD (gate .pins) (p - 1) 0))
+
+    -- ---- and the places that they read
+
+    of-number : (P : ℕ → Type 0) → ((k : Kind) → P (kindNumber k)) → (kind : ℕ) → kind ≤ 1 → P kind
+    of-number P f zero b = f combinational
+    of-number P f (suc zero) b = f sequential
+    of-number P f (suc (suc kind)) b = absurd (omega arith)
+
+    groups-fit : (role kind p : ℕ) → role ≤ 1 → kind ≤ 1 → p < visitCount role (gatePins library netlist i) → GroupFits library (groupPlace (gateCell netlist i) (visitGroup role kind p))
+    unfolding byRole pick groupIndex
+    groups-fit zero kind p a b l =
+        of-number (λ (m : ℕ). GroupFits library (groupPlace (gateCell netlist i) (visitGroup 0 m p))) (λ k. group-fits k (setting p) (omega arith)) kind b
+    groups-fit (suc zero) kind p a b l =
+        of-number (λ (m : ℕ). GroupFits library (groupPlace (gateCell netlist i) (visitGroup 1 m p)))
+        (λ k. let z : suc p - 1 ≡ p = omega arith in rw z at (group-fits k (observing (suc p)) (omega arith, omega (arith, pins-number)))) kind b
+    groups-fit (suc (suc role)) kind p a b l = absurd (omega arith)
+
+    line-sound : (j : ℕ) → j ≤ cell .pins → InRange (getD (linesOf gate) j 0)
+    line-sound zero q = sound-gate .line
+    line-sound (suc j) q =
+        rw (getD-fitted 0 Size.pins (gate .pins) j (omega (arith, pins-most)))
+        (each-at InRange (gate .pins) j 0 (omega (arith, pin-count sound gate listed)) (sound-gate .pins))
+
+    gate-fits : GateFits library netlist i
+    unfolding InRange
+    gate-fits =
+        record {
+          room = omega (arith, netlist-room, few-gates);
+          cell = rw cell-number (omega (arith, library-room, sound .library .few, sound-gate .known));
+          lines =
+              rw (lines-are, pins-number)
+              (record {
+                count = pins-most;
+                least = λ j q. line-sound j q .0;
+                most = λ j q. line-sound j q .1;
+              });
+          groups = groups-fit;
+        }
+
+  pub tables-fit : TablesFit library netlist
+  tables-fit = record { some = omega (arith, netlist-room); gates = λ g h. gate-fits g (rw (netlist-count ss past) at h) }

@@ -1,0 +1,15 @@
+-- Copying one number after the other.
+-- Assumes nothing.
+use mathlib.Core.List.{List, [], _∷_, _++_, append-assoc}
+use mathlib.Core.Path.{_≡_, sym}
+use Prim.Native.Nat.{ℕ, suc, _+_, _<_}
+use native.Mathlib.Omega.{arith}
+use lib.ListN.{length, getD, take, drop, set}
+use lib.Seq.{set-at, take-suc, drop-cons, length-take-le}
+
+pub copy-next : (xs ys : List ℕ) (i : ℕ) → i < length xs → i < length ys → set (take i xs ++ drop i ys) i (getD xs i 0) ≡ take (i + 1) xs ++ drop (i + 1) ys
+copy-next xs ys i h k =
+    let e : i + 1 ≡ suc i = omega arith in
+    let n : length (take i xs) ≡ i = length-take-le i xs (omega arith) in
+    rw (drop-cons ys i 0 k, set-at (take i xs) (getD ys i 0) (drop (suc i) ys) (getD xs i 0) i n, e, take-suc xs i 0 h)
+    (sym (append-assoc (take i xs) (getD xs i 0 ∷ []) (drop (suc i) ys)))

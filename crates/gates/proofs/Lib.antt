@@ -1,0 +1,6 @@
+pub mod Copying
+pub mod Roles
+pub mod Columns
+pub mod Rows
+pub mod Naming
+pub mod Bridge

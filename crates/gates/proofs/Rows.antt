@@ -1,0 +1,91 @@
+-- Rows of the library table at a gate: where their columns stand, and their sums.
+-- Assumes nothing.
+use mathlib.Core.List.{List}
+use mathlib.Core.Path.{_≡_, sym, ap, _∙_}
+use Prim.Native.Nat.{ℕ, suc, _+_, _*_, _-_, _/_, _%_, _^_, _≤_, _<_}
+use native.Mathlib.Decide.{decLe}
+use native.Mathlib.Omega.{arith}
+use lib.Bits.{bitAnd}
+use lib.Count.{trailingZeros}
+use lib.ListN.{getD}
+use borrow.Author.Tests.{le-leb, lt-leb}
+use Rattle.sizes.specs.Sizes as Size
+use Rattle.sizes.specs.Places.{settingPlace, observingPlace}
+use Rattle.cost.specs.Cost.{never, capped, _⊕_, lesser}
+use Rattle.reading.specs.Choice.{pick}
+use Rattle.plans.specs.Sweep.{at, sums, way, least}
+use Rattle.plans.proofs.Laws.{at-getD}
+use Rattle.gates.specs.Tables.{columnPlace, rowPlaces, rowWays, groupWays}
+use Rattle.gates.specs.Fits.{LinesFit, RowFits, GroupFits}
+use Rattle.gates.specs.Sums.{rowSum}
+use Rattle.gates.proofs.Columns.{no-places, lowest-first}
+
+-- ---- the place of a column
+module _ (kind : ℕ) (lines : List ℕ) (pins : ℕ) where
+  pub line-column : (j : ℕ) → j / 2 ≤ pins → columnPlace kind lines pins j ≡ settingPlace kind (getD lines (pins - j / 2) 0) (1 - j % 2)
+  unfolding columnPlace pick
+  line-column j h = rw (le-leb (j / 2) pins h)
+
+  pub observe-column : (j : ℕ) → pins < j / 2 → columnPlace kind lines pins j ≡ observingPlace kind (getD lines 0 0)
+  unfolding columnPlace pick
+  observe-column j h = rw (lt-leb (j / 2) pins h)
+
+  -- Every place of a line's numbers is in the table.
+  pub column-inside : (j : ℕ) → kind ≤ 1 → LinesFit lines pins → columnPlace kind lines pins j < Size.numbers
+  column-inside j k f = go (decLe (j / 2) pins)
+    where
+      go : Dec (j / 2 ≤ pins) → columnPlace kind lines pins j < Size.numbers
+      go (yes h) =
+          let i = pins - j / 2 in
+          let b : i ≤ pins = omega arith in
+          rw (line-column j h) (omega (arith, f .least i b, f .most i b))
+      go (no h) =
+          let b : 0 ≤ pins = omega arith in
+          rw (observe-column j (omega arith)) (omega (arith, f .least 0 b, f .most 0 b))
+
+  -- ---- the sum of a row's columns
+
+  pub no-sum : (xs : List ℕ) → 0 ≡ sums xs (rowPlaces kind lines pins 0)
+  unfolding rowPlaces sums
+  no-sum xs = rw (no-places (columnPlace kind lines pins) 32 0)
+
+  pub lowest-sum : (xs : List ℕ) (columns : ℕ) → kind ≤ 1 → RowFits lines pins xs → 0 < columns → columns < 2 ^ 32
+      → getD xs (columnPlace kind lines pins (trailingZeros 32 columns)) 0 ⊕ sums xs (rowPlaces kind lines pins (bitAnd columns (columns - 1)))
+      ≡ sums xs (rowPlaces kind lines pins columns)
+  unfolding rowPlaces sums
+  lowest-sum xs columns k f p h =
+      let j = trailingZeros 32 columns in
+      let z : 0 + j ≡ j = omega arith in
+      let e : at xs (columnPlace kind lines pins j) ≡ getD xs (columnPlace kind lines pins j) 0 =
+      at-getD xs (columnPlace kind lines pins j) 0 (omega (arith, f .size, column-inside j k (f .linesFit))) in
+      sym (ap (sums xs) (lowest-first (columnPlace kind lines pins) 32 0 columns p h) ∙ rw (z, e))
+
+-- ---- the least row sum, the rows taken from the last to the first
+
+module _ (kind : ℕ) (lines : List ℕ) (pins : ℕ) (library xs : List ℕ) (group : ℕ) where
+  -- Of the rows from `row` on.
+  abbrev pub leastFrom : ℕ → ℕ
+  leastFrom row = least xs (rowWays kind lines pins library (getD library group 0 - row) (group + 1 + Size.rowWords * row))
+
+  pub rows-none : (row : ℕ) → row ≡ getD library group 0 → never ≡ leastFrom row
+  unfolding rowWays least
+  rows-none row h = let e : getD library group 0 - row ≡ 0 = omega arith in rw e
+
+  pub rows-more : (row : ℕ) → 0 < row → row ≤ getD library group 0 → GroupFits library group
+      → let at = group + 1 + Size.rowWords * (row - 1) in
+      lesser (rowSum kind lines pins xs (getD library at 0) (getD library (at + 1) 0)) (leastFrom row) ≡ leastFrom (row - 1)
+  unfolding rowWays least way capped rowSum
+  rows-more row p h f =
+      let at = group + 1 + Size.rowWords * (row - 1) in
+      let e : getD library group 0 - (row - 1) ≡ suc (getD library group 0 - row) = omega arith in
+      let n : at + Size.rowWords ≡ group + 1 + Size.rowWords * row = omega arith in
+      let d : capped (getD library at 0) ≡ getD library at 0 = omega (arith, f .depth (row - 1) (omega arith)) in
+      rw (e, n, d)
+
+  pub rows-all : (row : ℕ) → row ≤ 0 → leastFrom row ≡ least xs (groupWays kind lines pins library group)
+  unfolding groupWays
+  rows-all row h =
+      let e : row ≡ 0 = omega arith in
+      let n : getD library group 0 - 0 ≡ getD library group 0 = omega arith in
+      let m : group + 1 + Size.rowWords * 0 ≡ group + 1 = omega arith in
+      rw (e, n, m)

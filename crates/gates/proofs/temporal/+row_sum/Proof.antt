@@ -1,0 +1,59 @@
+-- `temporal::row_sum` is the sum of the row's columns. The measure is how many columns the row names: without the lowest they
+-- are one fewer. Assumes nothing.
+use mathlib.Core.Path.{_∙_}
+use Prim.Native.Nat.{ℕ, _<_}
+use native.Mathlib.Omega.{arith}
+use lib.Count.{ones}
+use borrow.Fn.Kinds.{In}
+use borrow.Fn.PlainCycle.{Measures, is, falls, and}
+use Rattle.cost.proofs.Temporal.plus.Reads as plus-reads
+use Rattle.gates.proofs.Columns.{rest-fewer}
+use Rattle.gates.proofs.Rows.{column-inside, no-sum, lowest-sum}
+use Rattle.gates.proofs.temporal.row_sum.Reads as row-sum
+use Rattle.gates.proofs.temporal.row_sum.Kinds as row-sum-kinds
+use Rattle.gates.proofs.temporal.+row_sum.Lts-row_sum as row-sum-lts
+use Rattle.gates.proofs.places.column_place.Reads as column-place-reads
+use Rattle.gates.proofs.places.lowest.Reads as lowest-reads
+use Rattle.gates.proofs.temporal.+row_sum.{statement}
+use Rattle.gates.proofs.temporal.+row_sum.Tie.{close}
+
+abbrev μ-row-sum : Measures 2 row-sum-kinds.ps ℕ
+μ-row-sum κs a = ones (a .1 .1 .1 .0)
+
+abbrev row-sum-at : ℕ → In 2 row-sum-kinds.ps
+row-sum-at t = and 2 row-sum-kinds.ps (is 2 row-sum-kinds.ps μ-row-sum t) row-sum.Pre
+
+abbrev row-sum-below : ℕ → In 2 row-sum-kinds.ps
+row-sum-below t = and 2 row-sum-kinds.ps (falls 2 row-sum-kinds.ps _<_ μ-row-sum t) row-sum.Pre
+
+pub +row-sum-spec : {M : Type 1} → statement M
++row-sum-spec = close μ-row-sum λ t. row-sum-lts.spec (
+  lowest-reads.Asked,
+  lowest-reads.Learnt,
+  column-place-reads.Asked,
+  column-place-reads.Learnt,
+  row-sum-below t,
+  row-sum.Post,
+  plus-reads.Asked,
+  plus-reads.Learnt,
+)
+    (row-sum-at t)
+    row-sum.Post
+    (λ c. let a = c .before .args in rw (c .if1 .taken) (no-sum 1 (a .lines .now) (a .pins) (a .numbers .now)))
+    (λ c κs. omega arith)
+    (λ c κs. (omega arith, c .before .before .pre .1 .linesFit))
+    (λ c. omega arith)
+    (λ c κs.
+    let s = c .before .before .before in
+    (omega (arith, s .pre .0, rest-fewer 32 (s .args .columns) (omega arith) (omega arith)), s .pre .1))
+    (λ c.
+    let s = c .before .before .before .before in
+    omega (arith, c .before .column-place .ensures, column-inside 1 (s .args .lines .now) (s .args .pins) (c .before .before .lowest .result) (omega arith) (s .pre .1 .linesFit)))
+    (λ c.
+    let s = c .before .before .before .before in
+    omega (arith, c .before .column-place .ensures, column-inside 1 (s .args .lines .now) (s .args .pins) (c .before .before .lowest .result) (omega arith) (s .pre .1 .linesFit)))
+    (λ c κs. tt)
+    (λ c.
+    let s = c .before .before .before .before .before .before in
+    let a = s .args in
+    c .plus .ensures ∙ cc (lowest-sum 1 (a .lines .now) (a .pins) (a .numbers .now) (a .columns) (omega arith) (s .pre .1) (omega arith) (omega arith)))

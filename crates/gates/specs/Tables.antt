@@ -1,0 +1,90 @@
+-- A gate of the netlist table with its cell of the library table, read place for place: its lines, what the columns of its
+-- rows ask for, and its visits. `proofs/Bridge.antt` shows that at the tables of accepted cells and statements these are the
+-- visits of crate `calculation`.
+-- A kind is a number here, 0 combinational and 1 sequential, and so is a role, 0 setting and 1 observing.
+-- Assumes nothing.
+use mathlib.Core.List.{List, [], _∷_}
+use Prim.Native.Nat.{ℕ, zero, suc, _+_, _*_, _-_, _/_, _%_}
+use lib.Dec.{leb, eqb}
+use lib.ListN.{getD, take, drop}
+use Rattle.sizes.specs.Sizes as Size
+use Rattle.sizes.specs.Places.{pinsPlace, groupPlace, gatePlace, settingPlace, observingPlace}
+use Rattle.reading.specs.Choice.{pick}
+use Rattle.plans.specs.System.{Way, Visit}
+use Rattle.calculation.specs.Nodes.{Kind, combinational, sequential}
+
+abbrev pub kindNumber : Kind → ℕ
+kindNumber combinational = 0
+kindNumber sequential = 1
+
+-- ---- rows
+
+-- The place of what column j asks for at a gate with so many pins: `lines` are the line that the gate drives and the lines that
+-- its pins read, so that the columns from the lowest up name the lines from the last to the first, each at 1 and then at 0,
+-- and last the first line observed.
+unfoldable pub columnPlace : ℕ → List ℕ → ℕ → ℕ → ℕ
+columnPlace kind lines pins j =
+    pick (leb (j / 2) pins)
+    (settingPlace kind (getD lines (pins - j / 2) 0) (1 - j % 2))
+    (observingPlace kind (getD lines 0 0))
+
+-- One place more where the column is named.
+unfoldable pub withNamed : ℕ → ℕ → List ℕ → List ℕ
+withNamed zero n ns = ns
+withNamed (suc d) n ns = n ∷ ns
+
+-- The places of the columns that a row names, of `count` columns from column `first` on, lowest first.
+unfoldable pub columnPlaces : (ℕ → ℕ) → ℕ → ℕ → ℕ → List ℕ
+columnPlaces place zero first columns = []
+columnPlaces place (suc count) first columns =
+    withNamed (columns % 2) (place first) (columnPlaces place count (suc first) (columns / 2))
+
+unfoldable pub rowPlaces : ℕ → List ℕ → ℕ → ℕ → List ℕ
+rowPlaces kind lines pins columns = columnPlaces (columnPlace kind lines pins) 32 0 columns
+
+-- The rows of a group, `count` of them from a place of the library table on.
+unfoldable pub rowWays : ℕ → List ℕ → ℕ → List ℕ → ℕ → ℕ → List Way
+rowWays kind lines pins library zero at = []
+rowWays kind lines pins library (suc count) at =
+    record { depth = getD library at 0; needs = rowPlaces kind lines pins (getD library (at + 1) 0) }
+    ∷ rowWays kind lines pins library count (at + Size.rowWords)
+
+unfoldable pub groupWays : ℕ → List ℕ → ℕ → List ℕ → ℕ → List Way
+groupWays kind lines pins library group = rowWays kind lines pins library (getD library group 0) (group + 1)
+
+-- A group whose number stands at a place.
+unfoldable pub groupVisit : ℕ → List ℕ → ℕ → List ℕ → ℕ → ℕ → Visit
+groupVisit kind lines pins library group place = record { node = place; ways = groupWays kind lines pins library group }
+
+-- ---- gates
+
+abbrev pub gateCell : List ℕ → ℕ → ℕ
+gateCell netlist g = getD netlist (gatePlace g) 0
+
+abbrev pub gatePins : List ℕ → List ℕ → ℕ → ℕ
+gatePins library netlist g = getD library (pinsPlace (gateCell netlist g)) 0
+
+-- The line that a gate drives and those that its pins read, 0 after the last.
+unfoldable pub gateLines : List ℕ → ℕ → List ℕ
+gateLines netlist g = take Size.gateLines (drop (gatePlace g + 1) netlist)
+
+-- ---- a gate's visits, i from 0: its output's values where lines are set, its pins where they are observed
+
+-- One thing where lines are set, another where they are observed.
+unfoldable pub byRole : {A : Type 0} → ℕ → A → A → A
+byRole role setting observing = pick (eqb role 0) setting observing
+
+abbrev pub visitCount : ℕ → ℕ → ℕ
+visitCount role pins = byRole role Size.values pins
+
+abbrev pub visitGroup : ℕ → ℕ → ℕ → ℕ
+visitGroup role kind i = byRole role (Size.ccGroup + kind * Size.values + i) (Size.coGroup + kind * Size.pins + i)
+
+abbrev pub visitPlace : ℕ → ℕ → List ℕ → ℕ → ℕ
+visitPlace role kind lines i = byRole role (settingPlace kind (getD lines 0 0) i) (observingPlace kind (getD lines (i + 1) 0))
+
+unfoldable pub gateVisit : ℕ → ℕ → List ℕ → List ℕ → ℕ → ℕ → Visit
+gateVisit role kind library netlist g i =
+    groupVisit kind (gateLines netlist g) (gatePins library netlist g) library
+    (groupPlace (gateCell netlist g) (visitGroup role kind i))
+    (visitPlace role kind (gateLines netlist g) i)

@@ -1,0 +1,142 @@
+// A gate of an accepted netlist, out of the tables: its lines, where its cell's groups stand, what a
+// column of a row asks for, and the row sums.
+//
+// For the crates above, each with what it asks of the tables (specs/Fits.antt), since the loop of the
+// sweeps tests no bounds: `least_sum`, `lesser_of` and `number_of` with the type `Sum`, `cell_place`,
+// `lines_of`, and module `visits`.
+//
+// Modules `spatial` and `temporal` add up rows, each in costs of its own kind. All that does not add
+// goes by the kind's number, 0 combinational and 1 sequential.
+pub mod places;
+mod spatial;
+mod temporal;
+pub mod visits;
+
+use cost::NEVER;
+use cost::Spatial;
+use cost::Temporal;
+use places::COMBINATIONAL;
+use places::wide;
+ghost use mathlib.Core.Path.{_≡_};
+ghost use Prim.Native.Nat.{_+_, _*_, _≤_, _<_};
+ghost use lib.ListN.{length};
+ghost use Rattle.sizes.specs.Sizes as Size;
+ghost use Rattle.sizes.specs.Places.{cellPlace, gatePlace};
+ghost use Rattle.cost.specs.Cost.{never, lesser};
+ghost use Rattle.plans.specs.Sweep.{least};
+ghost use Rattle.gates.specs.Tables.{groupWays, gateCell, gateLines};
+ghost use Rattle.gates.specs.Sums.{sumNumber, sumKind, Summed, rowSum};
+ghost use Rattle.gates.specs.Fits.{RowFits, SumFits};
+
+// A row sum, or the least of some, in the costs of its kind.
+pub enum Sum {
+    Combinational(Spatial),
+    Sequential(Temporal),
+}
+
+// What the least of no sums is.
+fn no_sum(kind: usize) -> Sum
+    requires { ⌜ kind ≤ 1 ⌝ }
+    ensures { λ r. ⌜ Summed kind never r ⌝ }
+{
+    if kind == COMBINATIONAL {
+        Sum::Combinational(Spatial(NEVER))
+    } else {
+        Sum::Sequential(Temporal(NEVER))
+    }
+}
+
+// The lesser of a number of the table and a sum of the number's kind.
+pub fn lesser_of(number: u32, sum: Sum) -> Sum
+    ensures { λ r. ⌜ sumNumber r ≡ lesser number (sumNumber sum) ⌝ }
+{
+    match sum {
+        Sum::Combinational(s) => Sum::Combinational(Spatial(number).lesser(s)),
+        Sum::Sequential(s) => Sum::Sequential(Temporal(number).lesser(s)),
+    }
+}
+
+// The number that a sum is stored as.
+pub fn number_of(sum: Sum) -> u32
+    ensures { λ r. ⌜ r ≡ sumNumber sum ⌝ }
+{
+    match sum {
+        Sum::Combinational(s) => s.0,
+        Sum::Sequential(s) => s.0,
+    }
+}
+
+// The lesser of a row's sum, its columns and its depth, and of the best so far, in whose kind it is
+// taken.
+fn lesser_row(
+    lines: &[u32; sizes::GATE_LINES],
+    pins: usize,
+    numbers: &[u32; sizes::NUMBERS],
+    depth: u32,
+    columns: u32,
+    best: Sum,
+) -> Sum
+    requires { ⌜ RowFits (now lines) pins (now numbers) ⌝ }
+    ensures { λ r.
+        ⌜ Summed (sumKind best) (lesser (rowSum (sumKind best) (now (lines .entry)) pins
+        (now (numbers .entry)) depth columns) (sumNumber best)) r ⌝ }
+{
+    match best {
+        Sum::Combinational(b) => {
+            let sum = spatial::row_sum(lines, pins, numbers, columns);
+            Sum::Combinational(Spatial(depth).plus(sum).lesser(b))
+        }
+        Sum::Sequential(b) => {
+            let sum = temporal::row_sum(lines, pins, numbers, columns);
+            Sum::Sequential(Temporal(depth).plus(sum).lesser(b))
+        }
+    }
+}
+
+// "the least row sum of its group"
+pub fn least_sum(
+    kind: usize,
+    library: &[u32],
+    group: usize,
+    lines: &[u32; sizes::GATE_LINES],
+    pins: usize,
+    numbers: &[u32; sizes::NUMBERS],
+) -> Sum
+    requires { ⌜ SumFits kind (now library) group (now lines) pins (now numbers) ⌝ }
+    ensures { λ r.
+        ⌜ sumNumber r ≡ least (now (numbers .entry))
+        (groupWays kind (now (lines .entry)) pins (now (library .entry)) group) ⌝ }
+{
+    let mut best = no_sum(kind);
+    let mut row = wide(library[group]);
+    while 0 < row {
+        row -= 1;
+        let at = group + 1 + sizes::ROW_WORDS * row;
+        best = lesser_row(lines, pins, numbers, library[at], library[at + 1], best);
+    }
+    best
+}
+
+// Where a gate's cell starts in the library table.
+pub fn cell_place(netlist: &[u32], gate: usize) -> usize
+    requires { ⌜ gatePlace gate < length (now netlist) ⌝ }
+    ensures { λ r. ⌜ r ≡ cellPlace (gateCell (now (netlist .entry)) gate) ⌝ }
+{
+    let cell = wide(netlist[sizes::GATES_AT + gate * sizes::GATE_WORDS]);
+    sizes::CELLS_AT + cell * sizes::CELL_WORDS
+}
+
+// The line that a gate drives, then those that its pins read, 0 after the last.
+pub fn lines_of(netlist: &[u32], gate: usize) -> [u32; sizes::GATE_LINES]
+    requires { ⌜ gatePlace gate + Size.gateWords ≤ length (now netlist) ⌝ }
+    ensures { λ r. ⌜ r ≡ gateLines (now (netlist .entry)) gate ⌝ }
+{
+    let at = sizes::GATES_AT + gate * sizes::GATE_WORDS + 1;
+    let mut lines = [0u32; sizes::GATE_LINES];
+    let mut i = 0;
+    while i < sizes::GATE_LINES {
+        lines[i] = netlist[at + i];
+        i += 1;
+    }
+    lines
+}

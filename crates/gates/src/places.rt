@@ -1,0 +1,67 @@
+// What a column of a row asks for at a gate, as a place of the numbers table.
+ghost use mathlib.Core.Path.{_≡_};
+ghost use Prim.Native.Nat.{_≤_, _<_};
+ghost use lib.Count.{trailingZeros};
+ghost use Rattle.sizes.specs.Places.{settingPlace, observingPlace};
+ghost use Rattle.gates.specs.Tables.{columnPlace};
+ghost use Rattle.gates.specs.Fits.{LinesFit};
+
+// The kinds of cost.
+pub const COMBINATIONAL: usize = 0;
+
+pub const SEQUENTIAL: usize = 1;
+
+pub fn wide(x: u32) -> usize
+    ensures { λ r. ⌜ r ≡ x ⌝ }
+{
+    x as usize
+}
+
+// The lowest named column of a row that names one, column by column.
+pub fn lowest(columns: u32) -> u32
+    requires { ⌜ 0 < columns ⌝ }
+    ensures { λ r. ⌜ r ≡ trailingZeros 32 columns ⌝ }
+{
+    let mut rest = columns;
+    let mut column: u32 = 0;
+    while rest % 2 == 0 {
+        rest = rest / 2;
+        column += 1;
+    }
+    column
+}
+
+// The place of a line at a value, in the numbers table.
+pub fn setting_place(kind: usize, line: u32, value: usize) -> usize
+    requires { ⌜ (1 ≤ line) × (kind ≤ 1) × (value ≤ 1) ⌝ }
+    ensures { λ r. ⌜ r ≡ settingPlace kind line value ⌝ }
+{
+    (wide(line) - 1) * sizes::COSTS + kind * sizes::VALUES + value
+}
+
+// The place of a line observed.
+pub fn observing_place(kind: usize, line: u32) -> usize
+    requires { ⌜ (1 ≤ line) × (kind ≤ 1) ⌝ }
+    ensures { λ r. ⌜ r ≡ observingPlace kind line ⌝ }
+{
+    (wide(line) - 1) * sizes::COSTS + sizes::OBSERVED_AT + kind
+}
+
+// The place of what a column asks for at a gate with so many pins, whose lines these are: its own,
+// then its pins'.
+pub fn column_place(
+    kind: usize,
+    lines: &[u32; sizes::GATE_LINES],
+    pins: usize,
+    column: u32,
+) -> usize
+    requires { ⌜ (kind ≤ 1) × LinesFit (now lines) pins ⌝ }
+    ensures { λ r. ⌜ r ≡ columnPlace kind (now (lines .entry)) pins column ⌝ }
+{
+    let back = wide(column) / 2;
+    if back <= pins {
+        setting_place(kind, lines[pins - back], 1 - wide(column) % 2)
+    } else {
+        observing_place(kind, lines[0])
+    }
+}

@@ -1,0 +1,29 @@
+// Row sums in combinational costs (CC, CO), which are added to no sequential one.
+use super::places::COMBINATIONAL;
+use super::places::column_place;
+use super::places::lowest;
+use cost::Spatial;
+ghost use mathlib.Core.Path.{_≡_};
+ghost use Rattle.plans.specs.Sweep.{sums};
+ghost use Rattle.gates.specs.Tables.{rowPlaces};
+ghost use Rattle.gates.specs.Fits.{RowFits};
+
+// "A row's sum is taken as its lowest named column plus the sum of the rest, the routine calling
+// itself."
+pub fn row_sum(
+    lines: &[u32; sizes::GATE_LINES],
+    pins: usize,
+    numbers: &[u32; sizes::NUMBERS],
+    columns: u32,
+) -> Spatial
+    requires { ⌜ RowFits (now lines) pins (now numbers) ⌝ }
+    ensures { λ r.
+        ⌜ r .0 ≡ sums (now (numbers .entry)) (rowPlaces 0 (now (lines .entry)) pins columns) ⌝ }
+{
+    if columns == 0 {
+        return Spatial(0);
+    }
+    let place = column_place(COMBINATIONAL, lines, pins, lowest(columns));
+    let rest = row_sum(lines, pins, numbers, columns & (columns - 1));
+    Spatial(numbers[place]).plus(rest)
+}

@@ -1,0 +1,36 @@
+-- A refused netlist text, or list of statements, is told by a number and a line.
+-- Assumes nothing.
+use mathlib.Core.List.{List, [], _∷_, _++_}
+use mathlib.Core.Option.{Option}
+use mathlib.Core.Path.{_≡_, refl, ap}
+use Prim.Native.Nat.{ℕ, suc, _+_, _≤_}
+use native.Mathlib.Omega.{arith}
+use lib.ListN.{length}
+use Rattle.reading.specs.Numbers as No
+use Rattle.reading.specs.Refusal.{form}
+use Rattle.reading.proofs.Bounds.{Within, within-bind, within-then, within-form, within-weigh}
+use Rattle.text.specs.Lines.{lines}
+use Rattle.text.proofs.Laws.{length-lines}
+use Rattle.cell_library.specs.Cells.{Cell}
+use Rattle.cell_library.specs.Library.{Fields}
+use Rattle.netlist.specs.Netlist.{Statement, causes, admit, admitted, lineForms, netlist}
+
+forms-length : (cells : List Cell) (ls : List (Option Fields)) → length (lineForms cells ls) ≡ length ls
+unfolding lineForms
+forms-length cells [] = refl
+forms-length cells (l ∷ ls) = ap suc (forms-length cells ls)
+
+module _ (n : ℕ) where
+  pub admitted-within : (line : ℕ) (cells : List Cell) (ss : List Statement) (ws : List (Option Statement)) → line + length ws ≤ n
+      → Within n (admitted line cells ss ws)
+  unfolding admitted admit causes
+  admitted-within line cells ss [] k = tt
+  admitted-within line cells ss (w ∷ ws) k =
+      within-bind n (form No.netlistForm line w) _ (within-form n No.netlistForm line w (omega arith) (omega arith))
+      (λ s. within-then n (admit line cells ss s) _ (within-weigh n line _ (omega arith) refl)
+      (admitted-within (suc line) cells (ss ++ (s ∷ [])) ws (omega arith)))
+
+  pub netlist-within : (cells : List Cell) (t : List ℕ) → length t + 1 ≤ n → Within n (netlist cells t)
+  unfolding netlist
+  netlist-within cells t k =
+      admitted-within 1 cells [] (lineForms cells (lines t)) (omega (arith, length-lines t, forms-length cells (lines t)))

@@ -1,0 +1,130 @@
+-- One statement over plain numbers, as `admit` takes it from texts and from records, and what admitting it comes to.
+-- Assumes nothing.
+use mathlib.Core.Bool.{true, false}
+use mathlib.Core.List.{List, [], _∷_, _++_}
+use mathlib.Core.Logic.{_⊎_}
+use mathlib.Core.Option.{Option, none, some}
+use mathlib.Core.Path.{_≡_}
+use Prim.Native.Nat.{ℕ, _+_, _≤_, _<_, min}
+use lib.Dec.{eqb}
+use lib.ListN.{length, set, take}
+use lib.Seq.{sets}
+use Rattle.sizes.specs.Places.{driverPlace, outputPlace, mentionPlace, gatePlace}
+use Rattle.sizes.specs.Sizes as Size
+use Rattle.table.specs.Blocks.{fitted}
+use Rattle.reading.specs.Choice.{pick}
+use Rattle.reading.specs.Numbers as No
+use Rattle.reading.specs.Verdict.{verdictRead, doneRead}
+use Rattle.reading.specs.declared.Verdict.{Verdict}
+use Rattle.cell_library.specs.Cells.{Cell}
+use Rattle.netlist.specs.declared.Pins.{Pins}
+use Rattle.netlist.specs.declared.RawStatement.{RawStatement}
+use Rattle.netlist.specs.Lowest.{lowest}
+use Rattle.netlist.specs.Netlist.{Gate, Mark, input, output, Statement, mark, gate, kindOf, gateKind, linesOf, anyLineBad}
+use Rattle.netlist.specs.Netlist.{unknownCell, countDiffers, causes, netlist}
+use Rattle.netlist.specs.Layout.{netlistWords, NetlistHolds, netlistAfter}
+
+-- ---- pins
+
+-- Pins that were gathered are those of a list of lines: as many as a gate has at most, 0 after the last, the list's length,
+-- and whether one of all of them is out of range.
+pub record PinsAre (ls : List ℕ) (p : Pins) : Type 0 where
+  pub pins : p .pins ≡ fitted 0 Size.pins ls
+  pub count : p .count ≡ length ls
+  pub bad : p .bad ≡ anyLineBad ls
+
+-- What gathering the pins of a line's fields comes to; none is bad form.
+unfoldable pub PinsRead : Option (List ℕ) → Pins → Type 0
+PinsRead none p = p .form ≡ false
+PinsRead (some ls) p = (p .form ≡ true) × PinsAre ls p
+
+-- ---- a statement
+
+pub record IsMark (m : Mark) (l : ℕ) (p : RawStatement) : Type 0 where
+  pub form : p .form ≡ true
+  pub kind : p .kind ≡ kindOf m
+  pub line : p .line ≡ l
+
+pub record IsGate (g : Gate) (p : RawStatement) : Type 0 where
+  pub form : p .form ≡ true
+  pub kind : p .kind ≡ gateKind
+  pub cell : p .cell ≡ g .cell
+  pub line : p .line ≡ g .line
+  pub pins : p .pins ≡ fitted 0 Size.pins (g .pins)
+  pub count : p .count ≡ length (g .pins)
+  pub bad : p .bad ≡ anyLineBad (g .pins)
+
+-- The statement that the numbers stand for; none is bad form, which they say themselves, or by a kind that is not known.
+unfoldable pub StandsFor : RawStatement → Option Statement → Type 0
+StandsFor p none = (p .form ≡ false) ⊎ (gateKind < p .kind)
+StandsFor p (some (mark m l)) = IsMark m l p
+StandsFor p (some (gate g)) = IsGate g p
+
+-- ---- what admitting a statement comes to
+
+-- The causes 11 to 13 of a gate, which do not depend on the statements before it.
+unfoldable pub gateCause : List Cell → Gate → ℕ
+gateCause cells g =
+    lowest
+    ((No.lineBad, anyLineBad (linesOf (gate g)))
+    ∷ (No.cellUnknown, unknownCell cells (gate g))
+    ∷ (No.pinsDiffer, countDiffers cells (gate g))
+    ∷ [])
+
+-- The number for which a statement is refused after those before it, 0 where it is admitted.
+unfoldable pub refusalOf : List Cell → List Statement → Option Statement → ℕ
+refusalOf cells ss none = No.netlistForm
+refusalOf cells ss (some s) = lowest (causes cells ss s)
+
+unfoldable pub extended : List Statement → Option Statement → List Statement
+extended ss none = ss
+extended ss (some s) = ss ++ (s ∷ [])
+
+-- What stands in the published size after a statement was refused by a number, or admitted, which is 0.
+unfoldable pub wordsAfter : ℕ → List Statement → Option Statement → List ℕ
+wordsAfter number ss w = pick (eqb number 0) (netlistWords (extended ss w)) (netlistWords ss)
+
+-- The answer to a statement after others, and the table that it leaves, with what stands past the published size.
+pub record Decided (cells : List Cell) (ss : List Statement) (w : Option Statement) (past : List ℕ) (number : ℕ) (after : List ℕ)
+    : Type 0 where
+  pub answers : number ≡ refusalOf cells ss w
+  pub leaves : after ≡ wordsAfter number ss w ++ past
+
+-- So a statement is decided after those, whatever they are, that the table holds.
+abbrev pub Admits : List Cell → Option Statement → List ℕ → ℕ → List ℕ → Type 0
+Admits cells w before number after =
+    (ss : List Statement) (h : NetlistHolds before ss) → Decided cells ss w (h .past) number after
+
+-- ---- stores
+
+-- Where the table says that a line has a mark, and the number that refuses a second one.
+abbrev pub markPlace : Mark → ℕ → ℕ
+markPlace input l = driverPlace l
+markPlace output l = outputPlace l
+
+abbrev pub markNumber : Mark → ℕ
+markNumber input = No.drivenBefore
+markNumber output = No.markedBefore
+
+-- Marks lines as mentioned, one after the other.
+unfoldable pub mentionAll : List ℕ → List ℕ → List ℕ
+mentionAll [] table = table
+mentionAll (l ∷ ls) table = mentionAll ls (set table (mentionPlace l) 1)
+
+-- The numbers of a gate stored at its place.
+unfoldable pub gateStored : ℕ → ℕ → ℕ → List ℕ → List ℕ → List ℕ
+gateStored g cell line pins table = sets table (gatePlace g) (cell ∷ (line ∷ take Size.pins pins))
+
+-- All that a gate leaves behind `g` others: its driver, the lines that it mentions, its numbers, the count.
+unfoldable pub gateAdded : ℕ → RawStatement → List ℕ → List ℕ
+gateAdded g s table =
+    let l = s .line in
+    let pins = take (min (s .count) Size.pins) (s .pins) in
+    set (gateStored g (s .cell) l (s .pins) (mentionAll (l ∷ pins) (set table (driverPlace l) 2))) 0 (g + 1)
+
+-- ---- the text
+
+-- What reading a netlist text answers, and leaves in the lent table.
+pub record ReadsNetlist (cells : List Cell) (text before : List ℕ) (verdict : Verdict) (after : List ℕ) : Type 0 where
+  pub answers : verdictRead verdict ≡ doneRead (netlist cells text)
+  pub leaves : after ≡ netlistAfter (netlist cells text) before

@@ -1,0 +1,4 @@
+pub mod Outcome
+pub mod Demands
+pub mod Answer
+pub mod Progress

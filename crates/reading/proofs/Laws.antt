@@ -1,0 +1,106 @@
+-- The laws that readers share: of tests, of what holds of each element of a list, and of what reading comes to.
+-- Assumes nothing.
+use mathlib.Core.Bool.{Bool, true, false, true≢false, _&&_, _||_}
+use mathlib.Core.List.{List, [], _∷_, _++_, List·Memᴰ, List·Memᴰ·head, List·Memᴰ·tail}
+use mathlib.Core.Logic.{_⊎_, inl, inr}
+use mathlib.Core.Option.{Option, none, some}
+use mathlib.Core.Path.{_≡_, refl, sym, subst, _∙_}
+use Prim.Native.Nat.{ℕ, zero, suc, _<_}
+use native.Mathlib.Nat.{not-suc-le-zero, le-of-suc-le-suc}
+use native.Mathlib.Omega.{arith}
+use lib.ListN.{length, getD}
+use Rattle.reading.specs.Choice.{pick}
+use Rattle.reading.specs.Each.{Each}
+use Rattle.reading.specs.Refusal.{Read, refused, read, _>>=_, _>>_, weigh, form}
+use Rattle.reading.specs.Verdict.{doneRead}
+
+-- ---- tests
+
+-- A test is true or it is false.
+pub by-test : {A : Type 0} (t : Bool) → (t ≡ true → A) → (t ≡ false → A) → A
+by-test true yes-way no-way = yes-way refl
+by-test false yes-way no-way = no-way refl
+
+pub clash : {A : Type 0} (b : Bool) → b ≡ true → b ≡ false → A
+clash b p q = absurd (true≢false (sym p ∙ q))
+
+pub and-left : (a b : Bool) → (a && b) ≡ true → a ≡ true
+and-left true b h = refl
+and-left false b h = h
+
+pub and-right : (a b : Bool) → (a && b) ≡ true → b ≡ true
+and-right true b h = h
+and-right false true h = refl
+and-right false false h = h
+
+pub or-left : (a b : Bool) → (a || b) ≡ false → a ≡ false
+or-left true b e = e
+or-left false b e = refl
+
+pub or-right : (a b : Bool) → (a || b) ≡ false → b ≡ false
+or-right true b e = clash true refl e
+or-right false b e = e
+
+pub or-cases : (a b : Bool) → (a || b) ≡ true → (a ≡ true) ⊎ (b ≡ true)
+or-cases true b e = inl refl
+or-cases false b e = inr e
+
+-- ---- what holds of each
+
+pub each-at : {A : Type 0} (P : A → Type 0) (xs : List A) (k : ℕ) (d : A) → k < length xs → Each P xs → P (getD xs k d)
+unfolding Each
+each-at P [] k d h e = absurd (not-suc-le-zero h)
+each-at P (x ∷ xs) zero d h e = e .0
+each-at P (x ∷ xs) (suc k) d h e = each-at P xs k d (le-of-suc-le-suc h) (e .1)
+
+pub each-member : {A : Type 0} (P : A → Type 0) {x : A} {xs : List A} → List·Memᴰ x xs → Each P xs → P x
+unfolding Each
+each-member P (List·Memᴰ·head e) h = subst P (sym e) (h .0)
+each-member P (List·Memᴰ·tail m) h = each-member P m (h .1)
+
+pub each-append : {A : Type 0} (P : A → Type 0) (xs ys : List A) → Each P xs → Each P ys → Each P (xs ++ ys)
+unfolding Each
+each-append P [] ys e f = f
+each-append P (x ∷ xs) ys e f = (e .0, each-append P xs ys (e .1) f)
+
+pub each-map : {A : Type 0} (P Q : A → Type 0) → ((x : A) → P x → Q x) → (xs : List A) → Each P xs → Each Q xs
+unfolding Each
+each-map P Q f [] e = tt
+each-map P Q f (x ∷ xs) e = (f x (e .0), each-map P Q f xs (e .1))
+
+-- ---- what reading comes to
+
+pub refused-read : {A B : Type 0} {number line : ℕ} {a : A} → _≡_ {A = Read A} (refused number line) (read a) → B
+refused-read e = let z : _≡_ {A = ℕ} 0 1 = cc in absurd (omega arith)
+
+-- Where a step after another is read, so is the one before it.
+pub bind-read : {A B C : Type 0} (m : Read A) (f : A → Read B) (b : B) → ((a : A) → m ≡ read a → f a ≡ read b → C) → (m >>= f) ≡ read b → C
+unfolding _>>=_
+bind-read (refused number line) f b on e = refused-read e
+bind-read (read a) f b on e = on a refl e
+
+pub then-read : {A B C : Type 0} (m : Read A) (r : Read B) (b : B) → ((a : A) → m ≡ read a → r ≡ read b → C) → (m >> r) ≡ read b → C
+unfolding _>>_
+then-read (refused number line) r b on e = refused-read e
+then-read (read a) r b on e = on a refl e
+
+pub form-read : {A : Type 0} (number line : ℕ) (o : Option A) (a : A) → form number line o ≡ read a → o ≡ some a
+unfolding form
+form-read number line none a e = refused-read e
+form-read number line (some b) a e = cc
+
+pub weigh-one : (number line : ℕ) (x : Bool) (xs : List (ℕ × Bool)) (u : Unit {0}) → weigh line ((number, x) ∷ xs) ≡ read u → (x ≡ false) × (weigh line xs ≡ read u)
+unfolding weigh pick
+weigh-one number line true xs u e = refused-read e
+weigh-one number line false xs u e = (refl, e)
+
+-- What a reader's verdict says of the reading.
+pub done-read : {A C : Type 0} (m : Read A) → read tt ≡ doneRead m → ((a : A) → m ≡ read a → C) → C
+unfolding doneRead
+done-read (refused number line) e on = refused-read (sym e)
+done-read (read a) e on = on a refl
+
+pub done-refused : {A : Type 0} (m : Read A) (number line : ℕ) → refused number line ≡ doneRead m → m ≡ refused number line
+unfolding doneRead
+done-refused (refused i j) number line e = cc
+done-refused (read a) number line e = refused-read e

@@ -1,0 +1,61 @@
+-- `scoap_report` tells the answer of the analysis by one number. Assumes nothing.
+use native.Mathlib.Omega.{arith}
+use denote.Ref.{now}
+use Rattle.scoap_c.specs.Coded.{ownTables}
+use Rattle.scoap_c.proofs.Coding.{line-below, coded-accepted, coded-refused}
+use borrow.Author.Needs.{needs}
+use Rattle.scoap_c.proofs.scoap_report.Statement.{statement}
+use Rattle.scoap_c.proofs.scoap_report.Tie as tie
+
+-- ---- the places of the code that the answers speak of
+
+abbrev begins : tie.After-analyse → tie.Start
+begins c = c .before .before .before .before .before .before .before .before
+
+abbrev analysed : tie.After-slice-known2 → tie.After-analyse
+analysed c = c .before .before .before .before .before
+
+abbrev accepted : tie.After-known-told → tie.After-slice-known2
+accepted c = c .before .before .before
+
+abbrev refused : tie.After-struct-known → tie.After-slice-known2
+refused c = c .before .before .before .before
+
+add-result : tie.Need-add-result
+unfolding ownTables
+add-result c =
+    let k = analysed (refused c) in
+    let a = begins k .args in
+    omega (arith, line-below (now (a .lib)) (now (a .net)) (now (a .report)) _ (k .analyse .result) (k .analyse .ensures) (c .before .before .answer2 .given .0 .0) (search needs))
+
+returns : tie.Need-returns
+unfolding ownTables
+returns c =
+    let k = analysed (accepted c) in
+    let a = begins k .args in
+    coded-accepted (now (a .lib)) (now (a .net)) (now (a .report)) _ (k .analyse .result) (k .analyse .ensures) (c .before .answer .given .0 .0) (search needs)
+
+returns-2 : tie.Need-returns-2
+unfolding ownTables
+returns-2 c =
+    let k = analysed (refused c) in
+    let a = begins k .args in
+    coded-refused (now (a .lib)) (now (a .net)) (now (a .report)) _ (k .analyse .result) (k .analyse .ensures) (c .before .before .answer2 .given .0 .0) (search needs)
+
+pub scoap-report-spec : {M : Type 1} → statement M
+scoap-report-spec =
+    tie.close
+    (tie.spec
+    (λ c. search needs)
+    (λ c. search needs)
+    (λ c. search needs)
+    (λ c κs. search needs)
+    (λ c. search needs)
+    (λ c. search needs)
+    (λ c. search needs)
+    (λ c. search needs)
+    add-result
+    (λ c. search needs)
+    returns
+    (λ c. search needs)
+    returns-2)

@@ -1,0 +1,26 @@
+// The calls for C, in one archive, `libscoap_c.a`, with one header, include/scoap.h. Each has tables of
+// its own, and answers by one number.
+//
+// Open to others: `scoap_report`. It has no condition on its input; specs/Coded.antt says what it
+// promises.
+use outcome::Answer;
+ghost use Rattle.scoap_c.specs.Coded.{Coded};
+
+// "the refusal number times 1,000,000 plus the line"
+const CODE_LINES: u64 = 1_000_000;
+
+// For C: tables of its own, and one number for the answer: the report's length when accepted, else
+// the refusal number times 1,000,000 plus the line.
+#[no_mangle]
+pub extern "C" fn scoap_report(lib: &[u8], net: &[u8], report: &mut [u8]) -> u64
+    ensures { λ r. ⌜ Coded (now (lib .entry)) (now (net .entry)) (now (report .entry)) (now (report .exit)) r ⌝ }
+{
+    let mut library = [0u32; sizes::LIBRARY];
+    let mut netlist = [0u32; sizes::NETLIST];
+    let mut numbers = [0u32; sizes::NUMBERS];
+    let answer = analysis::analyse(lib, net, &mut library, &mut netlist, &mut numbers, report);
+    match answer {
+        Answer::Accepted(s) => s.length as u64,
+        Answer::Refused(r) => r.number as u64 * CODE_LINES + r.line as u64,
+    }
+}

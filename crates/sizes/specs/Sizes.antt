@@ -1,0 +1,127 @@
+-- The sizes of document 01 and those that follow from them, as src/lib.rt has them. Each is an `abbrev`, so that arithmetic
+-- sees its value; the published sizes of the three lent tables are `library`, `netlist` and `numbers`.
+-- Assumes nothing.
+use Prim.Native.Nat.{ℕ, _+_, _*_}
+
+-- "2 a text above 65,535 bytes"
+abbrev pub textBytes : ℕ
+textBytes = 65535
+
+-- "a report buffer of 65,536 bytes"
+abbrev pub reportBytes : ℕ
+reportBytes = 65536
+
+-- "Line numbers run from 1 to 1,000." "16 a 1,001st gate"
+abbrev pub lines : ℕ
+lines = 1000
+
+abbrev pub gates : ℕ
+gates = lines
+
+-- "A library has at most 32 entries"
+abbrev pub cells : ℕ
+cells = 32
+
+-- "a name (1 to 8 bytes of A–Z, 0–9)"
+abbrev pub nameBytes : ℕ
+nameBytes = 8
+
+-- "5 pins not 1 to 8"
+abbrev pub pins : ℕ
+pins = 8
+
+-- "a group of alternatives, 1 to 16 rows"
+abbrev pub rows : ℕ
+rows = 16
+
+-- "A row is an octal number .., 1 to 7 digits."
+abbrev pub rowDigits : ℕ
+rowDigits = 7
+
+-- "Decimal fields have 1 to 5 digits"
+abbrev pub decimalDigits : ℕ
+decimalDigits = 5
+
+-- "six costs for each line": of each kind, combinational and sequential, those of setting it to 0 and to 1, then of each kind
+-- that of observing it
+abbrev pub kinds : ℕ
+kinds = 2
+
+abbrev pub values : ℕ
+values = 2
+
+abbrev pub observedAt : ℕ
+observedAt = kinds * values
+
+abbrev pub costs : ℕ
+costs = observedAt + kinds
+
+-- ---- the library table
+
+-- A row: its depth and its columns. A group: its count of rows, and its rows.
+abbrev pub rowWords : ℕ
+rowWords = 2
+
+abbrev pub groupWords : ℕ
+groupWords = 1 + rows * rowWords
+
+-- The groups of a cell: CC, SC, then CO and SO; the first of each.
+abbrev pub ccGroup : ℕ
+ccGroup = 0
+
+abbrev pub scGroup : ℕ
+scGroup = ccGroup + values
+
+abbrev pub coGroup : ℕ
+coGroup = scGroup + values
+
+abbrev pub soGroup : ℕ
+soGroup = coGroup + pins
+
+abbrev pub groups : ℕ
+groups = soGroup + pins
+
+-- A cell: the length of its name, its name, its pins, its groups.
+abbrev pub pinsAt : ℕ
+pinsAt = 1 + nameBytes
+
+abbrev pub groupsAt : ℕ
+groupsAt = pinsAt + 1
+
+abbrev pub cellWords : ℕ
+cellWords = groupsAt + groups * groupWords
+
+-- The count of cells, then the cells.
+abbrev pub cellsAt : ℕ
+cellsAt = 1
+
+abbrev pub library : ℕ
+library = cellsAt + cells * cellWords
+
+-- ---- the netlist table
+
+-- The count of gates; for each line what drives it, whether it is an output, whether it is mentioned; then the gates. What is
+-- said of line l stands at the part's number and l, what drives it at l itself.
+abbrev pub outputsAt : ℕ
+outputsAt = lines
+
+abbrev pub mentionsAt : ℕ
+mentionsAt = outputsAt + lines
+
+abbrev pub gatesAt : ℕ
+gatesAt = mentionsAt + lines + 1
+
+-- A gate: its cell, then its lines, which are the one that it drives and those of its pins.
+abbrev pub gateLines : ℕ
+gateLines = 1 + pins
+
+abbrev pub gateWords : ℕ
+gateWords = 1 + gateLines
+
+abbrev pub netlist : ℕ
+netlist = gatesAt + gates * gateWords
+
+-- ---- the numbers table
+
+abbrev pub numbers : ℕ
+numbers = lines * costs

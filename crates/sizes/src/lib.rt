@@ -1,0 +1,89 @@
+// The sizes of document 01, and all that is computed from them: how much a text, a library and a
+// netlist may hold, and where each thing stands in the lent tables (docs/TABLES.md). Each number has
+// its one home here, and in specs/Sizes.antt and specs/Places.antt.
+
+// "Both texts .. above 65,535 bytes": the most bytes of a text.
+pub const TEXT_BYTES: usize = 65535;
+
+// "The program scoap .. has a report buffer of 65,536 bytes."
+pub const REPORT_BYTES: usize = 65536;
+
+// "Line numbers run from 1 to 1,000"; a gate drives a line of its own.
+pub const LINES: usize = 1000;
+
+pub const GATES: usize = LINES;
+
+// "A library has at most 32 entries", each with a name of at most 8 bytes and at most 8 pins; "1 to 16
+// rows" a group, each of "1 to 7 digits"; "Decimal fields have 1 to 5 digits".
+pub const CELLS: usize = 32;
+
+pub const NAME_BYTES: usize = 8;
+
+pub const PINS: usize = 8;
+
+pub const ROWS: usize = 16;
+
+pub const ROW_DIGITS: usize = 7;
+
+pub const DECIMAL_DIGITS: usize = 5;
+
+// "The numbers table has six costs for each line": of each kind, combinational and sequential, those of
+// setting it to 0 and to 1, then of each kind that of observing it.
+pub const KINDS: usize = 2;
+
+pub const VALUES: usize = 2;
+
+pub const OBSERVED_AT: usize = KINDS * VALUES;
+
+pub const COSTS: usize = OBSERVED_AT + KINDS;
+
+// ---- the library table
+
+// A row: its depth and its columns. A group: its count of rows, and its rows.
+pub const ROW_WORDS: usize = 2;
+
+pub const GROUP_WORDS: usize = 1 + ROWS * ROW_WORDS;
+
+// The groups of a cell: CC, SC, then CO and SO; the first of each.
+pub const CC_GROUP: usize = 0;
+
+pub const SC_GROUP: usize = CC_GROUP + VALUES;
+
+pub const CO_GROUP: usize = SC_GROUP + VALUES;
+
+pub const SO_GROUP: usize = CO_GROUP + PINS;
+
+pub const GROUPS: usize = SO_GROUP + PINS;
+
+// A cell: the length of its name, its name, its pins, its groups.
+pub const PINS_AT: usize = 1 + NAME_BYTES;
+
+pub const GROUPS_AT: usize = PINS_AT + 1;
+
+pub const CELL_WORDS: usize = GROUPS_AT + GROUPS * GROUP_WORDS;
+
+// The count of cells, then the cells: the published size.
+pub const CELLS_AT: usize = 1;
+
+pub const LIBRARY: usize = CELLS_AT + CELLS * CELL_WORDS;
+
+// ---- the netlist table
+
+// The count of gates; for each line what drives it, whether it is an output, whether it is mentioned;
+// then the gates. What is said of line l stands at the part's number and l, what drives it at l itself.
+pub const OUTPUTS_AT: usize = LINES;
+
+pub const MENTIONS_AT: usize = OUTPUTS_AT + LINES;
+
+pub const GATES_AT: usize = MENTIONS_AT + LINES + 1;
+
+// A gate: its cell, then its lines, which are the one that it drives and those of its pins.
+pub const GATE_LINES: usize = 1 + PINS;
+
+pub const GATE_WORDS: usize = 1 + GATE_LINES;
+
+pub const NETLIST: usize = GATES_AT + GATES * GATE_WORDS;
+
+// ---- the numbers table
+
+pub const NUMBERS: usize = LINES * COSTS;

@@ -1,0 +1,48 @@
+-- `run` comes to settled numbers: before each sweep, all sweeps before it changed something. The count stays below its type's
+-- bound, and what is left to that bound falls. Assumes nothing.
+use mathlib.Core.Path.{_≡_, _∙_}
+use Prim.Native.Nat.{_-_, _^_}
+use native.Mathlib.Omega.{arith}
+use lib.ListN.{length}
+use Rattle.sizes.specs.Sizes as Size
+use Rattle.sweep.specs.Order.{ruleOf, sweepVisits}
+use Rattle.sweep.proofs.Visits.{swept-length}
+use Rattle.sweep.proofs.Running.{Before, run-first, run-on, run-fits, run-ends}
+use Rattle.sweep.proofs.run.Statement.{statement}
+use Rattle.sweep.proofs.run.Tie as tie
+
+abbrev Inv-loop : tie.InvT-loop
+Inv-loop role kind library netlist numbers₀ count₀ numbers count =
+    (length numbers ≡ Size.numbers) × Before (ruleOf role) (sweepVisits role kind library netlist) numbers₀ count numbers
+
+abbrev μ-loop : tie.MeasureT-loop
+μ-loop role kind library netlist numbers₀ count₀ numbers count = 2 ^ 32 - count
+
+abbrev began : tie.At-loop Inv-loop μ-loop → tie.Start Inv-loop μ-loop
+began c = c .before .before .before
+
+pub run-spec : {M : Type 1} → statement M
+run-spec =
+    tie.close
+    (tie.spec
+    Inv-loop
+    μ-loop
+    (λ c.
+    let s = c .before .before in
+    let a = s .args in
+    (s .pre .sweepFits .size, run-first (ruleOf (a .role)) (sweepVisits (a .role) (a .kind) (a .library .now) (a .netlist .now)) (a .numbers .now)))
+    (λ c κs.
+    let p = began (c .before) .pre .sweepFits in
+    record { roleFits = p .roleFits; kindFits = p .kindFits; tablesFit = p .tablesFit; size = c .before .loop .inv .0 })
+    (λ c.
+    let l = c .before .before .before in
+    omega (arith, run-fits (began l .pre .runs) (l .loop .inv .1) (c .before .one-sweep .ensures) (c .if1 .taken)))
+    (λ c.
+    let l = c .before .before .before in
+    omega (arith, run-fits (began l .pre .runs) (l .loop .inv .1) (c .before .one-sweep .ensures) (c .if1 .taken)))
+    (λ c.
+    let l = c .before .before .before in
+    (swept-length (began l .args .role) (c .before .one-sweep .ensures) ∙ l .loop .inv .0, run-on (began l .pre .runs) (l .loop .inv .1) (c .before .one-sweep .ensures) (c .if1 .taken)))
+    (λ c.
+    let l = c .before .before .before in
+    run-ends (began l .pre .runs) (l .loop .inv .1) (c .before .one-sweep .ensures) (c .if1 .left)))

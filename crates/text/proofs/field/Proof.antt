@@ -1,0 +1,12 @@
+-- `text::field` is a part up to its end. Assumes nothing.
+use borrow.Author.Needs.{needs}
+use Rattle.text.specs.Class.{endOf}
+use Rattle.text.proofs.field.Statement.{statement}
+use Rattle.text.proofs.field.Tie as tie
+
+returns : tie.Need-returns
+unfolding endOf
+returns c = search needs
+
+pub field-spec : {M : Type 1} → statement M
+field-spec = tie.close (tie.spec (λ c κs. search needs) returns)

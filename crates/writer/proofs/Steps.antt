@@ -1,0 +1,52 @@
+-- What the proofs of the functions that write at a cursor share: bytes put behind bytes.
+-- Assumes nothing.
+use mathlib.Core.List.{List, [], _∷_, _++_}
+use lib.Dec.{ltb}
+use borrow.Author.Tests.{ltb-true, ltb-false}
+use mathlib.Core.Path.{_≡_, refl, sym, ap, _∙_}
+use Prim.Native.Nat.{ℕ, suc, _+_, _≤_, _<_, min}
+use Rattle.reading.proofs.Laws.{by-test}
+use native.Mathlib.Nat.{zero-add, add-zero, add-suc, suc-add}
+use native.Mathlib.Omega.{arith}
+use lib.ListN.{length, set, drop, length-append}
+use lib.Seq.{sets, length-sets, set-out, sets-eq}
+use Rattle.writer.specs.Put.{Put}
+
+sets-past : (vs l : List ℕ) (i : ℕ) → length l ≤ i → sets l i vs ≡ l
+sets-past [] l i h = refl
+sets-past (a ∷ vs) l i h = rw (set-out l i a h) (sets-past vs l (suc i) (omega arith))
+
+sets-append : (vs ws l : List ℕ) (i : ℕ) → sets l i (vs ++ ws) ≡ sets (sets l i vs) (i + length vs) ws
+sets-append [] ws l i = rw (add-zero i) refl
+sets-append (a ∷ vs) ws l i =
+    sets-append vs ws (set l i a) (suc i)
+    ∙ ap (λ (k : ℕ). sets (sets (set l i a) (suc i) vs) k ws) (suc-add i (length vs) ∙ sym (add-suc i (length vs)))
+
+-- all the places past the end are as one
+sets-same : (vs l : List ℕ) (i j : ℕ) → min i (length l + 1) ≡ min j (length l + 1) → sets l i vs ≡ sets l j vs
+sets-same vs l i j h =
+    by-test (ltb i (length l))
+    (λ within. let inside : i < length l = ltb-true i (length l) within in ap (λ (k : ℕ). sets l k vs) (omega arith))
+    (λ past.
+    let out : length l ≤ i = ltb-false i (length l) past in
+    sets-past vs l i out ∙ sym (sets-past vs l j (omega arith)))
+
+pub put-none : (at : ℕ) (l : List ℕ) → Put at [] l l at
+put-none at l = record { stored = refl; moved = ap (λ (k : ℕ). min k (length l + 1)) (sym (add-zero at)) }
+
+pub put-then : {at next end : ℕ} {vs ws l l₁ l₂ : List ℕ} → Put at vs l l₁ next → Put next ws l₁ l₂ end → Put at (vs ++ ws) l l₂ end
+put-then {at} {next} {end} {vs} {ws} {l} {l₁} {l₂} p q =
+    let e : length l₁ ≡ length l = ap length (p .stored) ∙ length-sets l at vs in
+    let m : min end (length l + 1) ≡ min (next + length ws) (length l + 1) = rw e at (q .moved) in
+    record {
+      stored =
+          q .stored
+          ∙ sets-same ws l₁ next (at + length vs) (rw e (p .moved))
+          ∙ ap (λ (k : List ℕ). sets k (at + length vs) ws) (p .stored)
+          ∙ sym (sets-append vs ws l at);
+      moved = rw (length-append vs ws) (omega (arith, p .moved));
+    }
+
+-- bytes that fit stand in the buffer's front
+pub put-front : {next : ℕ} {vs l l₁ : List ℕ} → Put 0 vs l l₁ next → length vs ≤ length l → l₁ ≡ vs ++ drop (length vs) l
+put-front {next} {vs} {l} {l₁} p h = p .stored ∙ sets-eq vs l 0 (rw zero-add h) ∙ rw zero-add refl

@@ -1,0 +1,36 @@
+//! The refusal numbers. Their names are those of crates/reading, their words those of README's table:
+//! tests/refusals compares them.
+
+/// a text has more than 65,535 bytes
+pub const TEXT_LONG: u32 = 2;
+/// bad form: a wrong word, a missing or empty field, a bad number or name, an `M` out of place, no
+/// byte 10 at the end, an entry broken off
+pub const LIBRARY_FORM: u32 = 3;
+/// the name was used before
+pub const NAME_USED: u32 = 4;
+/// not 1 to 8 pins
+pub const PINS_BAD: u32 = 5;
+/// a wrong count of groups, or a group of more than 16 rows
+pub const GROUPS_BAD: u32 = 6;
+/// a row has a bit above its columns
+pub const BIT_ABOVE: u32 = 7;
+/// a CC or SC row names no pin, or a CO or SO row does not observe the output
+pub const ROW_IDLE: u32 = 8;
+/// a 33rd entry
+pub const CELLS_MANY: u32 = 9;
+/// bad form
+pub const NETLIST_FORM: u32 = 10;
+/// a line number is not 1 to 1,000
+pub const LINE_BAD: u32 = 11;
+/// the library has no such cell
+pub const CELL_UNKNOWN: u32 = 12;
+/// the count of pins differs from the cell's
+pub const PINS_DIFFER: u32 = 13;
+/// the line is driven already, by an input or a gate
+pub const DRIVEN_BEFORE: u32 = 14;
+/// the line is marked output already
+pub const MARKED_BEFORE: u32 = 15;
+/// a 1,001st gate (14 or 11 comes first, so it is never met)
+pub const GATES_MANY: u32 = 16;
+/// the report is longer than its buffer
+pub const REPORT_LONG: u32 = 17;
