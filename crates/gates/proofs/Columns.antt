@@ -2,7 +2,7 @@
 -- Assumes nothing.
 use mathlib.Core.List.{List, [], _∷_}
 use mathlib.Core.Path.{_≡_, refl, sym, ap, _∙_}
-use Prim.Native.Nat.{ℕ, zero, suc, _+_, _*_, _-_, _/_, _%_, _^_, _<_, min}
+use Prim.Native.Nat.{ℕ, zero, suc, _+_, _*_, _-_, _/_, _%_, _^_, _≤_, _<_, min}
 use native.Mathlib.Nat.{pow-suc, mod-lt}
 use native.Mathlib.Omega.{arith}
 use lib.Bits.{bitAnd, and-step, and-self, and-le-l}
@@ -101,3 +101,7 @@ rest-fewer k n p h =
       places-count place k 0 n h,
       places-count place k 0 (bitAnd n (n - 1)) (omega (arith, and-le-l n (n - 1))),
     )
+
+pub ones-most : (k n : ℕ) → n < 2 ^ k → ones n ≤ k
+ones-most zero n h = let e : n ≡ 0 = omega arith in rw e (unfold ones in omega arith)
+ones-most (suc k) n h = omega (arith, ones-step n, ones-most k (n / 2) (half-below k n h))

@@ -4,3 +4,4 @@ pub mod Columns
 pub mod Rows
 pub mod Naming
 pub mod Bridge
+pub mod Going

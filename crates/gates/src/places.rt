@@ -17,18 +17,13 @@ pub fn wide(x: u32) -> usize
     x as usize
 }
 
-// The lowest named column of a row that names one, column by column.
+// The lowest named column of a row that names one: as many columns below it are not named as the row
+// has trailing zeros.
 pub fn lowest(columns: u32) -> u32
     requires { ⌜ 0 < columns ⌝ }
     ensures { λ r. ⌜ r ≡ trailingZeros 32 columns ⌝ }
 {
-    let mut rest = columns;
-    let mut column: u32 = 0;
-    while rest % 2 == 0 {
-        rest = rest / 2;
-        column += 1;
-    }
-    column
+    u32::trailing_zeros(columns)
 }
 
 // The place of a line at a value, in the numbers table.
