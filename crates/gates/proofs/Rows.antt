@@ -60,6 +60,14 @@ module _ (kind : ℕ) (lines : List ℕ) (pins : ℕ) where
       at-getD xs (columnPlace kind lines pins j) 0 (omega (arith, f .size, column-inside j k (f .linesFit))) in
       sym (ap (sums xs) (lowest-first (columnPlace kind lines pins) 32 0 columns p h) ∙ rw (z, e))
 
+  -- Where the lowest column is the last, the sum of the rest is 0.
+  pub last-sum : (xs : List ℕ) (columns : ℕ) → kind ≤ 1 → RowFits lines pins xs → 0 < columns → columns < 2 ^ 32 → bitAnd columns (columns - 1) ≡ 0
+      → getD xs (columnPlace kind lines pins (trailingZeros 32 columns)) 0 ⊕ 0 ≡ sums xs (rowPlaces kind lines pins columns)
+  last-sum xs columns k f p h e =
+      ap (λ (z : ℕ). getD xs (columnPlace kind lines pins (trailingZeros 32 columns)) 0 ⊕ z)
+      (no-sum xs ∙ ap (λ (c : ℕ). sums xs (rowPlaces kind lines pins c)) (sym e))
+      ∙ lowest-sum xs columns k f p h
+
 -- ---- the least row sum, the rows taken from the last to the first
 
 module _ (kind : ℕ) (lines : List ℕ) (pins : ℕ) (library xs : List ℕ) (group : ℕ) where

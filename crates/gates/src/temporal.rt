@@ -9,7 +9,7 @@ ghost use Rattle.gates.specs.Tables.{rowPlaces};
 ghost use Rattle.gates.specs.Fits.{RowFits};
 
 // "A row's sum is taken as its lowest named column plus the sum of the rest, the routine calling
-// itself."
+// itself." Where the rest is empty its sum is 0, without a call.
 pub fn row_sum(
     lines: &[u32; sizes::GATE_LINES],
     pins: usize,
@@ -24,6 +24,10 @@ pub fn row_sum(
         return Temporal(0);
     }
     let place = column_place(SEQUENTIAL, lines, pins, lowest(columns));
-    let rest = row_sum(lines, pins, numbers, columns & (columns - 1));
-    Temporal(numbers[place]).plus(rest)
+    let cost = Temporal(numbers[place]);
+    let rest = columns & (columns - 1);
+    if rest == 0 {
+        return cost.plus(Temporal(0));
+    }
+    cost.plus(row_sum(lines, pins, numbers, rest))
 }

@@ -8,7 +8,7 @@ use borrow.Fn.Kinds.{In}
 use borrow.Fn.PlainCycle.{Measures, is, falls, and}
 use Rattle.cost.proofs.Temporal.plus.Reads as plus-reads
 use Rattle.gates.proofs.Columns.{rest-fewer}
-use Rattle.gates.proofs.Rows.{column-inside, no-sum, lowest-sum}
+use Rattle.gates.proofs.Rows.{column-inside, no-sum, lowest-sum, last-sum}
 use Rattle.gates.proofs.temporal.row_sum.Reads as row-sum
 use Rattle.gates.proofs.temporal.row_sum.Kinds as row-sum-kinds
 use Rattle.gates.proofs.temporal.+row_sum.Lts-row_sum as row-sum-lts
@@ -32,28 +32,33 @@ pub +row-sum-spec : {M : Type 1} → statement M
   lowest-reads.Learnt,
   column-place-reads.Asked,
   column-place-reads.Learnt,
-  row-sum-below t,
-  row-sum.Post,
   plus-reads.Asked,
   plus-reads.Learnt,
+  row-sum-below t,
+  row-sum.Post,
 )
     (row-sum-at t)
     row-sum.Post
     (λ c. let a = c .before .args in rw (c .if1 .taken) (no-sum 1 (a .lines .now) (a .pins) (a .numbers .now)))
     (λ c κs. omega arith)
     (λ c κs. (omega arith, c .before .before .pre .1 .linesFit))
-    (λ c. omega arith)
-    (λ c κs.
+    (λ c.
     let s = c .before .before .before in
-    (omega (arith, s .pre .0, rest-fewer 32 (s .args .columns) (omega arith) (omega arith)), s .pre .1))
+    omega (arith, c .column-place .ensures, column-inside 1 (s .args .lines .now) (s .args .pins) (c .before .lowest .result) (omega arith) (s .pre .1 .linesFit)))
     (λ c.
-    let s = c .before .before .before .before in
-    omega (arith, c .before .column-place .ensures, column-inside 1 (s .args .lines .now) (s .args .pins) (c .before .before .lowest .result) (omega arith) (s .pre .1 .linesFit)))
-    (λ c.
-    let s = c .before .before .before .before in
-    omega (arith, c .before .column-place .ensures, column-inside 1 (s .args .lines .now) (s .args .pins) (c .before .before .lowest .result) (omega arith) (s .pre .1 .linesFit)))
+    let s = c .before .before .before in
+    omega (arith, c .column-place .ensures, column-inside 1 (s .args .lines .now) (s .args .pins) (c .before .lowest .result) (omega arith) (s .pre .1 .linesFit)))
+    (λ c. omega arith)
     (λ c κs. tt)
     (λ c.
     let s = c .before .before .before .before .before .before in
     let a = s .args in
-    c .plus .ensures ∙ cc (lowest-sum 1 (a .lines .now) (a .pins) (a .numbers .now) (a .columns) (omega arith) (s .pre .1) (omega arith) (omega arith)))
+    c .plus .ensures ∙ cc (last-sum 1 (a .lines .now) (a .pins) (a .numbers .now) (a .columns) (omega arith) (s .pre .1) (omega arith) (omega arith) (c .before .if2 .taken)))
+    (λ c κs.
+    let s = c .before .before .before .before .before in
+    (omega (arith, s .pre .0, rest-fewer 32 (s .args .columns) (omega arith) (omega arith)), s .pre .1))
+    (λ c κs. tt)
+    (λ c.
+    let s = c .before .before .before .before .before .before .before in
+    let a = s .args in
+    c .plus2 .ensures ∙ cc (lowest-sum 1 (a .lines .now) (a .pins) (a .numbers .now) (a .columns) (omega arith) (s .pre .1) (omega arith) (omega arith)))
