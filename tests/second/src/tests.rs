@@ -510,3 +510,25 @@ fn cheapest_plans() {
     // Each kind of cost was met.
     assert!(counts.iter().all(|&count| count > 5), "{counts:?}");
 }
+
+/// The stored cases of the program, where both files can be read: what it must print is what this
+/// implementation says.
+#[test]
+fn stored_cases() {
+    let cases = concat!(env!("CARGO_MANIFEST_DIR"), "/../cases");
+    let mut tried = 0;
+    for folder in std::fs::read_dir(cases).unwrap() {
+        let folder = folder.unwrap().path();
+        let file = |name: &str| std::fs::read(folder.join(name));
+        let (Ok(lib), Ok(net)) = (file("lib.txt"), file("net.txt")) else {
+            continue;
+        };
+        let said = match analyse(&lib, &net, ROOM) {
+            Answer::Accepted { report, .. } => report,
+            Answer::Refused { number, line } => format!("refused,{number},{line}\n").into_bytes(),
+        };
+        assert!(said == file("stdout").unwrap(), "{}", folder.display());
+        tried += 1;
+    }
+    assert!(tried >= 10, "{tried} cases");
+}
