@@ -21,7 +21,7 @@ use Rattle.text.specs.Numeral.{value, nameForm}
 use Rattle.text.proofs.Laws.{nameForm-length}
 use Rattle.cell_library.specs.Cells.{Row, rowOf, Group, Cell, bit}
 use Rattle.cell_library.specs.Library.{Fields, isJoin, word, rowsForm, joinFirst, withRow, groupsOf, anyOf, aboveRows, above, observesNot, Word, CC, CO, SC, SO, wordBytes, groupCount, columnCount, idle, rowsAfter, rowLine, Header, nameAfter, endAfter, nameUsed, pinsBad, nameLine, wordLine, endLine, lineAfter, Place, outside, inside, Reading, begun, wordGroups, withGroups, libraryLine, libraryEnd, libraryFrom, library}
-use Rattle.cell_library.specs.Layout.{libraryWords, ShortName, FewPins, Fits, LibraryHolds}
+use Rattle.cell_library.specs.Layout.{ShortName, FewPins, Fits}
 use Rattle.cell_library.specs.Passes.{nameFormed, headerIn}
 use Rattle.cell_library.specs.Sound.{SoundRow, SoundGroup, SoundGroups, SoundHeader, SoundCell, Sound, SoundEntry, SoundPlace, SoundReading}
 use Rattle.cell_library.proofs.Passes.{nameAfter-formed, formed-name}
@@ -204,13 +204,6 @@ sound-fits cells s =
       short = each-map SoundCell ShortName (λ c g. nameForm-length (c .name) (g .header .form) .1) cells (s .each);
       narrow = each-map SoundCell FewPins (λ c g. g .header .most-pins) cells (s .each);
     }
-
-pub library-fits : (t : List ℕ) (cells : List Cell) → library t ≡ read cells → Fits cells
-library-fits t cells e = sound-fits cells (library-sound t cells e)
-
--- A table with what stands past its published size; the fields of `LibraryHolds` lead back.
-pub library-holds : (table past : List ℕ) (cells : List Cell) → table ≡ libraryWords cells ++ past → Fits cells → LibraryHolds table cells
-library-holds table past cells words fits = record { past = past; words = words; fits = fits }
 
 -- ---- groups and rows by their words
 

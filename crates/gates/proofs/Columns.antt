@@ -22,11 +22,6 @@ odd-trailing k n h = let e : n % 2 ≡ 1 = omega arith in rw e
 pub half-below : (k n : ℕ) → n < 2 ^ suc k → n / 2 < 2 ^ k
 half-below k n h = omega (arith, pow-suc 2 k)
 
--- An even number that is not 0 has a column left above its lowest.
-pub even-room : (k n : ℕ) → 0 < n → n % 2 ≡ 0 → n < 2 ^ suc k → 0 < k
-even-room zero n p e h = absurd (omega arith)
-even-room (suc k) n p e h = omega arith
-
 -- ---- the lowest and the rest
 
 module _ (place : ℕ → ℕ) where

@@ -171,8 +171,8 @@ fn main() {
     lend_all(latch_with(gate(0, 5, 1, 0, 2)), 6);
     // 11: line 0, line 1,001, pin 1,001
     lend_all(latch, 6);
-    lend_all(latch_with(mark(1, 1001)), 6);
-    lend_all(latch_with(gate(0, 5, 1, 1001, 0)), 6);
+    lend_all(latch_with(mark(1, sizes::LINES as u32 + 1)), 6);
+    lend_all(latch_with(gate(0, 5, 1, sizes::LINES as u32 + 1, 0)), 6);
     // 12 to 15, and 17
     lend_all(latch_with(gate(1, 5, 1, 2, 0)), 6);
     lend_all(latch_with(gate(0, 5, 1, 0, 0)), 6);
