@@ -1,6 +1,6 @@
 # make run    proves and builds the program, and runs it on a bundled example, C17
 # make test   passes all tests: its last line is 'N passed, 0 failed'
-# make bench  the archive and the second implementation side by side
+# make bench  times the archive and the second implementation side by side
 #
 # README says how long each takes the first time. What is proved stays proved until its files change.
 

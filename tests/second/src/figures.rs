@@ -1,6 +1,7 @@
 //! The scope paper's figures to hold, and netlists that grow with a size: texts for the unit tests,
 //! the comparison and the benchmark.
 
+use crate::library::{MOST_PINS, MOST_ROWS};
 use std::fmt::Write;
 
 pub const C1130: &str = "\
@@ -197,23 +198,53 @@ End
 
 /// The gate of line k + 1 reads line k with pin 1 and itself with pin 2.
 pub fn slow_chain(gates: usize) -> String {
+    own_chain("SLOW", 2, gates)
+}
+
+/// Gates listed backwards, each with all pins on the line before but the last, which reads itself.
+fn own_chain(cell: &str, pins: usize, gates: usize) -> String {
     let mut net = String::from("input,1\n");
     for gate in (1..=gates).rev() {
-        writeln!(net, "gate,SLOW,{},{gate},{}", gate + 1, gate + 1).unwrap();
+        let before = format!(",{gate}").repeat(pins - 1);
+        let own = gate + 1;
+        writeln!(net, "gate,{cell},{own}{before},{own}").unwrap();
     }
     writeln!(net, "output,{}", gates + 1).unwrap();
     net
 }
 
-/// Latches of two NAND2 each, four lines apiece, every one with its own inputs and one output.
+/// The most work that a cell can be: sixteen rows in each of the groups for eight pins, and each row
+/// names every column, but for the one that gives a 0 or a 1. These name all that is known in time
+/// where `full_chain` takes 2G + 1 sweeps: for the 0 not the last pin at 0, for the 1 the last pin
+/// not at all.
+pub fn full_cell() -> String {
+    let group = |first: u32, rest: u32| {
+        let mut rows = vec![format!("{first:o}")];
+        rows.resize(MOST_ROWS, format!("{rest:o}"));
+        rows.join(",M,")
+    };
+    let set_all = (1 << (2 * MOST_PINS + 1)) - 1;
+    let observe_all = (1 << (2 * MOST_PINS + 4)) - 1;
+    let set = [0b100, 0b110].map(|own| group(set_all & !own, set_all));
+    let observe = [(); MOST_PINS].map(|()| group(observe_all, observe_all));
+    let (set, observe) = (set.join(","), observe.join(","));
+    format!("Name,FULL,{MOST_PINS}\nCC,{set}\nCO,{observe}\nSC,{set}\nSO,{observe}\nEnd\n")
+}
+
+/// As `slow_chain`, over the cell above.
+pub fn full_chain(gates: usize) -> String {
+    own_chain("FULL", MOST_PINS, gates)
+}
+
+/// Latches of two NAND2 each, which are set together by line 1; every one has three lines: a reset,
+/// an output and the output's complement.
 pub fn latches(count: usize) -> String {
-    let mut net = String::new();
+    let mut net = String::from("input,1\n");
     for latch in 0..count {
-        let [set, reset, q, p] = [1, 2, 3, 4].map(|line| 4 * latch + line);
+        let [reset, q, p] = [2, 3, 4].map(|line| 3 * latch + line);
         write!(
             net,
-            "input,{set}\ninput,{reset}\ngate,NAND2,{q},{set},{p}\ngate,NAND2,{p},{reset},{q}\n\
-             output,{q}\n"
+            "input,{reset}\ngate,NAND2,{q},1,{p}\ngate,NAND2,{p},{reset},{q}\noutput,{q}\n"
         )
         .unwrap();
     }

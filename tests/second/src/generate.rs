@@ -129,6 +129,8 @@ pub enum Style {
     Any,
     /// Groups of sixteen rows over eight pins.
     Largest,
+    /// Any rows, with one in each group that asks for little: a change goes on from gate to gate.
+    Carrying,
 }
 
 fn row(rng: &mut Random, columns: usize, style: Style) -> u32 {
@@ -160,10 +162,30 @@ fn group(rng: &mut Random, style: Style, mut draw: impl FnMut(&mut Random) -> u3
     (0..rows).map(|_| draw(rng)).collect()
 }
 
+/// Puts a row into each group that asks for the first pin alone, or for nothing but the observed
+/// output. Some ask for both of the pin's values, so that costs grow fast; some zeros ask for the
+/// last pin at 1, often the gate's own output, so that 0 and 1 are found in different sweeps.
+fn carry(rng: &mut Random, pins: usize, lines: &mut [Vec<Vec<u32>>; 4]) {
+    for (line, groups) in lines.iter_mut().enumerate() {
+        for (place, rows) in groups.iter_mut().enumerate() {
+            let named = match rng.below(8) {
+                0 if line % 2 == 1 => (rng.within(1, 3) as u32) << (2 * pins + 1),
+                _ if line % 2 == 1 => 0,
+                0 => 3 << (2 * pins - 1),
+                1 | 2 if place == 0 => 1 << 1,
+                _ => 1 << (2 * pins - rng.below(2)),
+            };
+            let observed = (line % 2 == 1) as u32;
+            let at = rng.below(rows.len());
+            rows[at] = observed << (2 * pins + 3) | named | rng.below(2) as u32;
+        }
+    }
+}
+
 /// The four lines of rows of a cell.
 fn ways(rng: &mut Random, pins: usize, style: Style) -> [Vec<Vec<u32>>; 4] {
     if style != Style::Common {
-        let set = |rng: &mut Random| {
+        let set = |rng: &mut Random| -> Vec<Vec<u32>> {
             (0..2)
                 .map(|_| group(rng, style, |rng| row(rng, 2 * pins, style)))
                 .collect()
@@ -179,7 +201,11 @@ fn ways(rng: &mut Random, pins: usize, style: Style) -> [Vec<Vec<u32>>; 4] {
             };
             (0..pins).map(|_| group(rng, style, draw)).collect()
         };
-        return [set(rng), observe(rng), set(rng), observe(rng)];
+        let mut lines = [set(rng), observe(rng), set(rng), observe(rng)];
+        if style == Style::Carrying {
+            carry(rng, pins, &mut lines);
+        }
+        return lines;
     }
     // A gate whose output is fixed by one pin at `value`, and needs all pins at the other for the
     // opposite; `inverted` says which output that is.
@@ -245,8 +271,13 @@ pub enum Wiring {
     Forward,
     /// The lines driven just before it: deep netlists.
     Deep,
+    /// Mostly one of the hundred lines driven before it, once in 32 any line: few loops.
+    Near,
     /// Any line, its own output and undriven ones included: loops.
     Any,
+    /// The first pin reads the line driven just before it; the others lines near it on both sides,
+    /// its own output, a line that another of its pins reads, or any: loops that values go along.
+    Ladder,
 }
 
 /// In which order the gates stand.
@@ -298,13 +329,28 @@ pub fn add_netlist(rng: &mut Random, pair: &mut Pair, shape: &Shape) {
     for place in inputs..inputs + gates {
         let cell = rng.pick(&pair.cells).clone();
         let mut gate = vec![b"gate".to_vec(), cell.name, text(numbers[place])];
-        for _ in 0..cell.pins {
+        let mut reads: Vec<usize> = Vec::new();
+        for pin in 0..cell.pins {
             let read = match shape.wiring {
                 Wiring::Forward if place > 0 => rng.below(place),
                 Wiring::Deep if place > 0 => place - 1 - rng.below(place.min(3)),
+                Wiring::Near if place > 0 && !rng.once_in(32) => {
+                    place - 1 - rng.below(place.min(100))
+                }
                 Wiring::Any if rng.once_in(10) => place,
+                Wiring::Ladder if place > 0 && pin == 0 => place - 1,
+                Wiring::Ladder if pin + 1 == cell.pins && rng.once_in(2) => place,
+                Wiring::Ladder => match rng.below(8) {
+                    // The last line: without a driver, or the ladder's end.
+                    0 if rng.once_in(4) => total - 1,
+                    0 => rng.below(total),
+                    1 => place,
+                    2 if pin > 0 => *rng.pick(&reads),
+                    _ => rng.within(place.saturating_sub(4), (place + 4).min(total - 1)),
+                },
                 _ => rng.below(total),
             };
+            reads.push(read);
             gate.push(text(numbers[read]));
         }
         gates_text.push(gate);
@@ -321,6 +367,11 @@ pub fn add_netlist(rng: &mut Random, pair: &mut Pair, shape: &Shape) {
         marked.reverse();
     } else {
         rng.shuffle(&mut marked);
+    }
+    if shape.wiring == Wiring::Ladder && inputs + gates > 0 {
+        // The ladder's end, so that observing goes all the way back.
+        marked.retain(|&line| line != numbers[inputs + gates - 1]);
+        marked.insert(0, numbers[inputs + gates - 1]);
     }
     for &line in marked.iter().take(shape.outputs) {
         outputs_text.push(vec![b"output".to_vec(), text(line)]);
@@ -369,6 +420,36 @@ pub fn pair(rng: &mut Random, gates: usize) -> Pair {
             Order::Shuffled,
         ]),
         scattered: rng.once_in(3),
+    };
+    add_netlist(rng, &mut pair, &shape);
+    pair
+}
+
+/// A pair that is accepted and often takes many sweeps, most of which change few numbers: `gates`
+/// gates along a ladder, mostly listed against its direction.
+pub fn ladder(rng: &mut Random, gates: usize) -> Pair {
+    let mut pair = Pair::default();
+    for _ in 0..rng.within(1, 6) {
+        let pins = match rng.below(8) {
+            0 => MOST_PINS,
+            _ => rng.within(1, 4),
+        };
+        add_cell(rng, &mut pair, pins, Style::Carrying);
+    }
+    let inputs = rng.within(1, 3).min(MOST_LINES - gates);
+    let shape = Shape {
+        inputs,
+        gates,
+        undriven: rng.below(3),
+        outputs: rng.within(1, 3),
+        wiring: Wiring::Ladder,
+        order: *rng.pick(&[
+            Order::Backward,
+            Order::Backward,
+            Order::Shuffled,
+            Order::Forward,
+        ]),
+        scattered: rng.once_in(2),
     };
     add_netlist(rng, &mut pair, &shape);
     pair

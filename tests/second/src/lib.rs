@@ -12,6 +12,7 @@ mod netlist;
 pub mod random;
 pub mod refusal;
 mod report;
+pub mod shapes;
 mod sweep;
 mod text;
 

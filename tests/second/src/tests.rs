@@ -1,8 +1,8 @@
 //! The scope paper's figures and at least one text for every refusal.
 
 use crate::figures::*;
-use crate::generate::pair;
-use crate::library::{self, Library, Ways};
+use crate::generate::{fields, groups_of, ladder, pair, ENTRY};
+use crate::library::{self, Library, Ways, MOST_ROWS};
 use crate::netlist::{self, Netlist};
 use crate::random::Random;
 use crate::{analyse, report_into, sweep, Answer, LARGEST, NEVER, OVER};
@@ -106,14 +106,38 @@ fn trees() {
 
 #[test]
 fn most_sweeps() {
-    for gates in [1, 2, 10, 999] {
-        let report = report(SLOW, &slow_chain(gates));
+    let holds = |lib: &str, net: &str, gates: usize| {
         let (set, observe) = ((2 * gates + 1).to_string(), (gates + 1).to_string());
         assert_eq!(
-            printed(&report, 0),
+            printed(&report(lib, net), 0),
             [set.clone(), set, observe.clone(), observe]
         );
+    };
+    for gates in [1, 2, 10, 999] {
+        holds(SLOW, &slow_chain(gates), gates);
     }
+    for gates in [1, 2, 10, 40] {
+        holds(&full_cell(), &full_chain(gates), gates);
+    }
+}
+
+/// Sixteen rows in each group, each naming every column: only three columns of either kind are left
+/// out.
+#[test]
+fn full_rows() {
+    let mut left_out = Vec::new();
+    for line in full_cell().lines().skip(1).take(4) {
+        let columns = if line.starts_with("CC") || line.starts_with("SC") {
+            16
+        } else {
+            19
+        };
+        let groups = groups_of(&fields(line));
+        assert!(groups.iter().all(|rows| rows.len() == MOST_ROWS), "{line}");
+        let rows = groups.iter().flatten();
+        left_out.push(rows.map(|row| columns + 1 - row.count_ones()).sum::<u32>());
+    }
+    assert_eq!(left_out, [3, 0, 3, 0]);
 }
 
 /// A cell that sets its 1 from its own 0: seen in the same visit, so two sweeps do.
@@ -531,4 +555,44 @@ fn stored_cases() {
         tried += 1;
     }
     assert!(tried >= 10, "{tried} cases");
+}
+
+/// What the ladders are made for comes up: gates that read their own output, pins that share a line,
+/// lines without a driver, rows for both values of a pin, observing rows for the output's own values.
+#[test]
+fn ladders() {
+    let mut rng = Random::from(7);
+    let (mut own, mut shared, mut undriven) = (0, 0, 0);
+    let (mut both, mut output) = (0, 0);
+    for round in 1..=100 {
+        let pair = ladder(&mut rng, round);
+        let library = library::read(&pair.lib.bytes()).unwrap();
+        let netlist = netlist::read(&pair.net.bytes(), &library).unwrap();
+        assert_eq!(netlist.gates.len(), round);
+        let mut driven: Vec<bool> = netlist.marks.iter().map(|marks| marks.input).collect();
+        for gate in &netlist.gates {
+            driven[gate.output()] = true;
+        }
+        for gate in &netlist.gates {
+            let lines: Vec<usize> = (0..gate.pins).map(|pin| gate.pin(pin)).collect();
+            own += usize::from(lines.contains(&gate.output()));
+            shared += usize::from((1..gate.pins).any(|pin| lines[..pin].contains(&lines[pin])));
+            undriven += usize::from(lines.iter().any(|&line| !driven[line]));
+        }
+        for (cell, entry) in pair.cells.iter().zip(pair.lib.lines.chunks(ENTRY)) {
+            let rows = |line: usize| groups_of(&entry[line]).into_iter().flatten();
+            // The bits of the pins at 1; those at 0 are one higher.
+            let ones = (0..cell.pins).fold(0, |ones, pin| ones | 1u32 << (2 * pin + 1));
+            let twice = |row: &u32| row & row >> 1 & ones != 0;
+            both += (1..=4).flat_map(rows).filter(twice).count();
+            let values = 3u32 << (2 * cell.pins + 1);
+            output += [2, 4]
+                .into_iter()
+                .flat_map(rows)
+                .filter(|row| row & values != 0)
+                .count();
+        }
+    }
+    let met = [own, shared, undriven, both, output];
+    assert!(met.iter().all(|&count| count >= 100), "{met:?}");
 }

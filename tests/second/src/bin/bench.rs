@@ -1,72 +1,28 @@
 //! The proved archive and the second implementation timed side by side in one process. Both get the
 //! same texts and a buffer cleared before each call; they take turns, and each row shows the medians
 //! of several rounds. The clock is the thread's own processor time, so that other work on the machine
-//! counts for neither side. A ratio below 1 means that the archive is the faster.
+//! counts for neither side.
+//!
+//! Before a shape is timed, both sides must have given the same answer and the same bytes, and the
+//! shape must be what its label says; else the program fails.
 
 #[path = "../archive.rs"]
 mod archive;
 
-use second::figures::*;
-use second::generate::{add_cells, add_netlist, library_of, Order, Pair, Shape, Style, Wiring};
-use second::random::Random;
 use second::report_into;
+use second::shapes::{self, Case, SEED};
 use std::hint::black_box;
 use std::process::ExitCode;
 use std::time::Duration;
 
-const SEED: u64 = 0x5c0a_9197_9115_2026;
 const ROOM: usize = 65_536;
 const ROUNDS: usize = 11;
 /// A batch of calls takes about so long, so that the clock's own steps don't show.
 const BATCH: Duration = Duration::from_millis(12);
+/// Where a call takes longer on either side, one call of each has to do.
+const LONG: Duration = Duration::from_secs(2);
 
 type Entry = fn(&[u8], &[u8], &mut [u8]) -> u64;
-
-struct Case {
-    label: String,
-    gates: usize,
-    lib: Vec<u8>,
-    net: Vec<u8>,
-}
-
-impl Case {
-    fn of(label: &str, lib: &str, net: &str) -> Self {
-        let label = label.to_string();
-        Case::from(label, lib.as_bytes().to_vec(), net.as_bytes().to_vec())
-    }
-
-    fn from(label: String, lib: Vec<u8>, net: Vec<u8>) -> Self {
-        let gates = net
-            .split(|&b| b == b'\n')
-            .filter(|line| line.starts_with(b"gate,"))
-            .count();
-        Case {
-            label,
-            gates,
-            lib,
-            net,
-        }
-    }
-
-    /// A random netlist over common cells: mostly forward, with `gates` gates and an input for
-    /// every nine of them, as far as 1,000 lines allow.
-    fn random(rng: &mut Random, label: &str, gates: usize, wiring: Wiring, order: Order) -> Self {
-        let mut pair = Pair::default();
-        // One library for every size, so that only the gates differ.
-        add_cells(&mut Random::from(SEED), &mut pair, 8, Style::Common);
-        let shape = Shape {
-            inputs: (gates / 9).clamp(4, 1_000 - gates),
-            gates,
-            undriven: 0,
-            outputs: gates / 9 + 1,
-            wiring,
-            order,
-            scattered: false,
-        };
-        add_netlist(rng, &mut pair, &shape);
-        Case::from(label.to_string(), pair.lib.bytes(), pair.net.bytes())
-    }
-}
 
 /// Processor time of this thread, as Linux tells it on 64-bit machines.
 fn now() -> Duration {
@@ -88,23 +44,30 @@ fn now() -> Duration {
     Duration::new(time.seconds as u64, time.nanoseconds as u32)
 }
 
+/// One call on a cleared buffer.
+fn call(entry: Entry, case: &Case, buffer: &mut [u8]) -> u64 {
+    buffer.fill(0);
+    entry(
+        black_box(&case.lib),
+        black_box(&case.net),
+        black_box(buffer),
+    )
+}
+
 /// The time of `calls` calls.
 fn batch(entry: Entry, case: &Case, buffer: &mut [u8], calls: u32) -> Duration {
     let start = now();
     for _ in 0..calls {
-        buffer.fill(0);
-        black_box(entry(
-            black_box(&case.lib),
-            black_box(&case.net),
-            black_box(buffer),
-        ));
+        black_box(call(entry, case, buffer));
     }
     now() - start
 }
 
+/// Medians in microseconds for one call, and the sweeps as the table shows them.
 struct Times {
     archive: f64,
     second: f64,
+    sweeps: String,
 }
 
 fn median(mut times: Vec<f64>) -> f64 {
@@ -112,27 +75,56 @@ fn median(mut times: Vec<f64>) -> f64 {
     times[times.len() / 2]
 }
 
-/// Medians in microseconds for one call, or nothing where the two sides disagree.
-fn measure(case: &Case, buffer: &mut [u8]) -> Option<Times> {
-    let mut other = vec![0; buffer.len()];
-    buffer.fill(0);
-    let answer = archive::scoap_report(&case.lib, &case.net, buffer);
-    if answer != report_into(&case.lib, &case.net, &mut other)
-        || buffer != other
-        || answer >= 1_000_000
-    {
-        println!(
-            "{}: the archive answers {answer}; the two sides disagree or refuse",
-            case.label
-        );
-        return None;
+/// Times a case, or says why it cannot be timed.
+fn measure(case: &Case) -> Result<Times, String> {
+    let entries: [Entry; 2] = [archive::scoap_report, report_into];
+    let mut buffers = [(); 2].map(|()| vec![0; ROOM]);
+    let mut answers = [0; 2];
+    let mut once = [Duration::ZERO; 2];
+    for side in 0..2 {
+        let start = now();
+        answers[side] = call(entries[side], case, &mut buffers[side]);
+        once[side] = now() - start;
     }
+    let [answer, other] = answers;
+    if answer != other {
+        return Err(format!("the archive answers {answer}, the second {other}"));
+    }
+    if buffers[0] != buffers[1] {
+        return Err(format!("both answer {answer}, with different bytes"));
+    }
+    let length = if answer < 1_000_000 {
+        answer as usize
+    } else {
+        0
+    };
+    let report = &buffers[0][..length];
+    if let Some(instead) = case.untrue(answer, report) {
+        return Err(format!("not what its label says: {instead}"));
+    }
+    let sweeps = shapes::sweeps(report).map_or("-".to_string(), |counts| {
+        counts.map(|count| count.to_string()).join(",")
+    });
+    let micros = |time: Duration| time.as_secs_f64() * 1e6;
+    let [archive, second] = if once.iter().any(|&time| time > LONG) {
+        once.map(micros)
+    } else {
+        rounds(&entries, case, &mut buffers[0]).map(median)
+    };
+    Ok(Times {
+        archive,
+        second,
+        sweeps,
+    })
+}
+
+/// Microseconds for one call of each side, round by round.
+fn rounds(entries: &[Entry; 2], case: &Case, buffer: &mut [u8]) -> [Vec<f64>; 2] {
     let mut calls = 1;
     while batch(report_into, case, buffer, calls) < BATCH && calls < 1 << 20 {
         calls *= 2;
     }
     let mut times = [Vec::new(), Vec::new()];
-    let entries: [Entry; 2] = [archive::scoap_report, report_into];
     for round in 0..ROUNDS {
         // Each side goes first in every other round.
         for turn in 0..2 {
@@ -141,111 +133,83 @@ fn measure(case: &Case, buffer: &mut [u8]) -> Option<Times> {
             times[side].push(time.as_secs_f64() * 1e6 / f64::from(calls));
         }
     }
-    let [archive, second] = times.map(median);
-    Some(Times { archive, second })
+    times
 }
 
-fn main() -> ExitCode {
-    println!("seed {SEED:#x}; medians of {ROUNDS} rounds, microseconds for a call");
-    let mut rng = Random::from(SEED);
-    let rng = &mut rng;
-    let mut buffer = vec![0; ROOM];
-    let mut agreed = true;
+/// Tells why a case was not timed.
+fn failed(case: &Case, problem: &str) {
+    println!("FAILED: {}, {} gates: {problem}", case.label, case.gates());
+}
 
-    let mut long = library_of(rng, 65_535);
-    let shape = Shape {
-        inputs: 5,
-        gates: 6,
-        undriven: 0,
-        outputs: 2,
-        wiring: Wiring::Forward,
-        order: Order::Forward,
-        scattered: false,
-    };
-    add_netlist(rng, &mut long, &shape);
-    let cases = [
-        Case::of("C17", NAND2, C17_NET),
-        Case::random(rng, "random", 100, Wiring::Forward, Order::Forward),
-        Case::random(rng, "random", 300, Wiring::Forward, Order::Forward),
-        Case::random(rng, "random", 990, Wiring::Forward, Order::Forward),
-        Case::random(
-            rng,
-            "random, any order",
-            100,
-            Wiring::Forward,
-            Order::Shuffled,
-        ),
-        Case::random(
-            rng,
-            "random, any order",
-            300,
-            Wiring::Forward,
-            Order::Shuffled,
-        ),
-        Case::random(
-            rng,
-            "random, any order",
-            990,
-            Wiring::Forward,
-            Order::Shuffled,
-        ),
-        Case::random(rng, "random, loops", 990, Wiring::Any, Order::Shuffled),
-        Case::of("chain", INV, &chain("INV", 999, false)),
-        Case::of("chain listed backwards", INV, &chain("INV", 999, true)),
-        Case::of("array of 250 latches", NAND2, &latches(250)),
-        Case::of("2G + 1 sweeps", SLOW, &slow_chain(999)),
-        Case::from(
-            "library of 65,535 bytes".to_string(),
-            long.lib.bytes(),
-            long.net.bytes(),
-        ),
-    ];
+/// All shapes, with a ratio for each.
+fn table() -> bool {
     println!(
-        "{:<26} {:>6} {:>12} {:>12} {:>7}",
-        "case", "gates", "archive", "second", "ratio"
+        "{:<27} {:>5} {:<20} {:>11} {:>11} {:>6}",
+        "shape", "gates", "sweeps CC,SC,CO,SO", "archive", "second", "ratio"
     );
-    let mut largest = 0f64;
-    for case in &cases {
-        let Some(Times { archive, second }) = measure(case, &mut buffer) else {
-            agreed = false;
-            continue;
-        };
-        let ratio = archive / second;
-        largest = largest.max(ratio);
-        println!(
-            "{:<26} {:>6} {archive:>12.2} {second:>12.2} {ratio:>7.2}",
-            case.label, case.gates
-        );
+    let mut sound = true;
+    let mut ratios = Vec::new();
+    for case in shapes::all() {
+        match measure(&case) {
+            Ok(Times {
+                archive,
+                second,
+                sweeps,
+            }) => {
+                let ratio = archive / second;
+                println!(
+                    "{:<27} {:>5} {sweeps:<20} {archive:>11.1} {second:>11.1} {ratio:>6.2}",
+                    case.label,
+                    case.gates()
+                );
+                ratios.push(ratio);
+            }
+            Err(problem) => {
+                failed(&case, &problem);
+                sound = false;
+            }
+        }
     }
-    println!("largest ratio {largest:.2}");
+    let largest = ratios.iter().copied().fold(0.0, f64::max);
+    let faster = ratios.iter().filter(|&&ratio| ratio < 1.0).count();
+    println!(
+        "largest ratio {largest:.2}; the archive is faster on {faster} of {} shapes",
+        ratios.len()
+    );
+    sound
+}
 
-    // Twice the gates: a factor of 2 means that the time grows as the gates, 4 as their square.
-    println!();
+/// Twice the gates: a factor of 2 means that the time grows as the gates, 4 as their square.
+fn growth() -> bool {
     println!("growth with the gates, and the factor from half as many");
     println!(
-        "{:<26} {:>6} {:>12} {:>7} {:>12} {:>7}",
-        "case", "gates", "archive", "factor", "second", "factor"
+        "{:<27} {:>5} {:>11} {:>6} {:>11} {:>6}",
+        "shape", "gates", "archive", "factor", "second", "factor"
     );
-    type Make = fn(&mut Random, usize) -> Case;
-    let families: [Make; 4] = [
-        |rng, gates| Case::random(rng, "random", gates, Wiring::Forward, Order::Forward),
-        |_, gates| Case::of("chain", INV, &chain("INV", gates, false)),
-        |_, gates| Case::of("chain listed backwards", INV, &chain("INV", gates, true)),
-        |_, gates| Case::of("2G + 1 sweeps", SLOW, &slow_chain(gates)),
+    let families = [
+        shapes::forward,
+        shapes::inverters,
+        shapes::inverters_backwards,
+        shapes::slow,
     ];
+    let mut sound = true;
     for make in families {
         let mut half: Option<Times> = None;
         for gates in [60, 120, 240, 480, 960] {
-            let case = make(rng, gates);
-            let Some(times) = measure(&case, &mut buffer) else {
-                agreed = false;
-                continue;
+            let case = make(gates);
+            let times = match measure(&case) {
+                Ok(times) => times,
+                Err(problem) => {
+                    failed(&case, &problem);
+                    sound = false;
+                    continue;
+                }
             };
             let factor = |now: f64, before: Option<f64>| {
                 before.map_or(String::new(), |before| format!("{:.2}", now / before))
             };
             println!(
-                "{:<26} {gates:>6} {:>12.2} {:>7} {:>12.2} {:>7}",
+                "{:<27} {gates:>5} {:>11.1} {:>6} {:>11.1} {:>6}",
                 case.label,
                 times.archive,
                 factor(times.archive, half.as_ref().map(|half| half.archive)),
@@ -255,7 +219,23 @@ fn main() -> ExitCode {
             half = Some(times);
         }
     }
-    if agreed {
+    sound
+}
+
+fn main() -> ExitCode {
+    println!("archive: the proved program, libscoap_c.a, through its C entry");
+    println!("second:  the second implementation, a plain program in Rust, tests/second");
+    println!("ratio:   the archive's time over the second's; below 1 the archive is faster");
+    println!(
+        "Microseconds for a call, medians of {ROUNDS} rounds in turn, or one call each where it takes \
+         above {} s; seed {SEED:#x}",
+        LONG.as_secs()
+    );
+    println!();
+    let grown = growth();
+    println!();
+    let timed = table();
+    if grown && timed {
         ExitCode::SUCCESS
     } else {
         ExitCode::FAILURE

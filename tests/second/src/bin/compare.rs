@@ -1,5 +1,6 @@
 //! The proved archive and the second implementation side by side, through the C entry: the figures
-//! of the scope paper, the largest sizes, every one-byte change of a small pair and random pairs.
+//! of the scope paper, the largest sizes, every one-byte change of a small pair, random pairs, and
+//! ladders, in which a sweep changes few of the numbers.
 //!
 //! Every byte of the report buffer is compared, canaries stand before and past it and around the
 //! texts. The seed is fixed. The last line counts: 'N passed, M failed'.
@@ -10,8 +11,8 @@ mod archive;
 use second::damage::{any_damage, babble, one_line, overlong, scramble};
 use second::figures::*;
 use second::generate::{
-    add_cell, add_cells, add_netlist, library_of, netlist_of, pair, Order, Pair, Shape, Style,
-    Wiring,
+    add_cell, add_cells, add_netlist, ladder, library_of, netlist_of, pair, Order, Pair, Shape,
+    Style, Wiring,
 };
 use second::random::Random;
 use second::{analyse, report_into, Answer, Refusal, MOST_BYTES};
@@ -20,6 +21,8 @@ use std::process::ExitCode;
 const SEED: u64 = 0x5c0a_9197_9115_2026;
 /// Random pairs, besides the fixed ones.
 const PAIRS: usize = 40_000;
+/// Random ladders, besides those of chosen sizes.
+const LADDERS: usize = 2_000;
 /// Every answer must come up at least so often among the random pairs.
 const AT_LEAST: u64 = 100;
 /// The buffer that the program itself lends.
@@ -32,13 +35,15 @@ const TOLD: u64 = 10;
 /// 16 a 1,001st gate, which 14 comes before.
 const ANSWERS: [usize; 16] = [0, 2, 3, 4, 5, 6, 7, 8, 9, 10, 11, 12, 13, 14, 15, 17];
 
-/// What the reports of accepted pairs must have shown, each at least so often.
-const SHOWN: [(&str, u64); 5] = [
-    ("a cost that is over", AT_LEAST),
-    ("a cost that is never", AT_LEAST),
-    ("more than 3 sweeps", AT_LEAST),
-    ("more than 100 sweeps", 10),
-    ("1,000 lines", 10),
+/// What the reports of accepted pairs must have shown: at least so often in random pairs, and in
+/// ladders.
+const SHOWN: [(&str, [u64; 2]); 6] = [
+    ("a cost that is over", [AT_LEAST, 50]),
+    ("a cost that is never", [AT_LEAST, AT_LEAST]),
+    ("more than 3 sweeps", [AT_LEAST, 1_000]),
+    ("more than 100 sweeps", [10, 50]),
+    ("more sweeps than lines", [0, AT_LEAST]),
+    ("1,000 lines", [10, 10]),
 ];
 
 /// Bytes lent in the middle of canaries, at any alignment.
@@ -198,16 +203,33 @@ impl Comparison {
                     .max()
                     .unwrap_or(0)
             });
-        let lines = report.iter().filter(|&&b| b == b'\n').count();
+        // The first line is the head, the last one has the sweeps.
+        let lines = report
+            .iter()
+            .filter(|&&b| b == b'\n')
+            .count()
+            .saturating_sub(2);
         let shows = [
             has(b"over"),
             has(b"never"),
             most > 3,
             most > 100,
-            lines == 1_002,
+            most as usize > lines,
+            lines == 1_000,
         ];
         for (count, shown) in self.shown.iter_mut().zip(shows) {
             *count += u64::from(shown);
+        }
+    }
+
+    /// Tells what the reports have shown; `part` is 0 for random pairs and 1 for ladders.
+    fn tell_shown(&mut self, part: usize) {
+        println!("among the accepted:");
+        for (at, (title, least)) in SHOWN.into_iter().enumerate() {
+            let count = self.shown[at];
+            println!("  {title:<22} {count:>6}");
+            let problem = (count < least[part]).then(|| format!("came up {count} times only"));
+            self.verdict(title, problem);
         }
     }
 
@@ -350,10 +372,13 @@ fn figures(all: &mut Comparison) {
             &slow_chain(gates),
             &known,
         );
+        if gates <= 5 {
+            all.costs("full rows", &full_cell(), &full_chain(gates), &known);
+        }
         all.costs("chain", INV, &chain("INV", gates, false), &[]);
         all.costs("chain backwards", INV, &chain("INV", gates, true), &[]);
     }
-    for count in [1, 2, 50, 250] {
+    for count in [1, 2, 50, 333] {
         all.costs("latches", NAND2, &latches(count), &[]);
     }
 }
@@ -591,6 +616,28 @@ fn random(all: &mut Comparison, rng: &mut Random) {
     all.check(&label, &lib, &net, room, known);
 }
 
+/// Ladders of any size, most of them small, and of the sizes about which sets of 64 gates end.
+fn ladders(all: &mut Comparison, rng: &mut Random) {
+    let mut check = |gates: usize| {
+        let made = ladder(rng, gates);
+        let (lib, net) = (made.lib.bytes(), made.net.bytes());
+        all.check("ladder", &lib, &net, ROOM, None);
+    };
+    for gates in [63, 64, 65, 127, 128, 129, 960, 961, 998, 999, 999, 999] {
+        for _ in 0..4 {
+            check(gates);
+        }
+    }
+    let mut sizes = Random::from(SEED);
+    for _ in 0..LADDERS {
+        check(match sizes.below(200) {
+            0..=159 => sizes.within(1, 40),
+            160..=197 => sizes.within(41, 200),
+            _ => sizes.within(201, 999),
+        });
+    }
+}
+
 fn main() -> ExitCode {
     println!("seed {SEED:#x}");
     let mut rng = Random::from(SEED);
@@ -628,13 +675,13 @@ fn main() -> ExitCode {
         let problem = (count < AT_LEAST).then(|| format!("came up {count} times only"));
         all.verdict(&title, problem);
     }
-    println!("among the accepted:");
-    for (at, (title, least)) in SHOWN.into_iter().enumerate() {
-        let count = all.shown[at];
-        println!("  {title:<22} {count:>6}");
-        let problem = (count < least).then(|| format!("came up {count} times only"));
-        all.verdict(title, problem);
-    }
+    all.tell_shown(0);
+
+    all.shown = [0; SHOWN.len()];
+    let before = all.passed + all.failed;
+    ladders(&mut all, &mut rng);
+    println!("{} ladders", all.passed + all.failed - before);
+    all.tell_shown(1);
     println!("{} passed, {} failed", all.passed, all.failed);
     if all.failed == 0 {
         ExitCode::SUCCESS
