@@ -24,8 +24,8 @@ extern "C" {
 #define SCOAP_REPORT 65536u
 
 /*
- * No report is longer, so a buffer of this length or more is never refused: a header of 27 bytes,
- * 1,000 lines with six costs of nine digits at most (63,893 bytes together), and the sweeps in 27.
+ * No report is longer, so that number 17 never comes of a buffer of this length or more: a header of 27
+ * bytes, 1,000 lines with six costs of nine digits at most (63,893 bytes together), and the sweeps in 27.
  */
 #define SCOAP_MOST_REPORT 63947u
 

@@ -1,4 +1,4 @@
--- A refused netlist text, or list of statements, is told by a number and a line.
+-- A refused netlist text, or list of statements, is told by a number of its own, and a line.
 -- Assumes nothing.
 use mathlib.Core.List.{List, [], _∷_, _++_}
 use mathlib.Core.Option.{Option}
@@ -8,7 +8,7 @@ use native.Mathlib.Omega.{arith}
 use lib.ListN.{length}
 use Rattle.reading.specs.Numbers as No
 use Rattle.reading.specs.Refusal.{form}
-use Rattle.reading.proofs.Bounds.{Within, within-bind, within-then, within-form, within-weigh}
+use Rattle.reading.proofs.Bounds.{Within, textNumber, within-bind, within-then, within-form, within-weigh}
 use Rattle.text.specs.Lines.{lines}
 use Rattle.text.proofs.Laws.{length-lines}
 use Rattle.cell_library.specs.Cells.{Cell}
@@ -22,15 +22,15 @@ forms-length cells (l ∷ ls) = ap suc (forms-length cells ls)
 
 module _ (n : ℕ) where
   pub admitted-within : (line : ℕ) (cells : List Cell) (ss : List Statement) (ws : List (Option Statement)) → line + length ws ≤ n
-      → Within n (admitted line cells ss ws)
+      → Within textNumber n (admitted line cells ss ws)
   unfolding admitted admit causes
   admitted-within line cells ss [] k = tt
   admitted-within line cells ss (w ∷ ws) k =
-      within-bind n (form No.netlistForm line w) _ (within-form n No.netlistForm line w (omega arith) (omega arith))
-      (λ s. within-then n (admit line cells ss s) _ (within-weigh n line _ (omega arith) refl)
+      within-bind textNumber n (form No.netlistForm line w) _ (within-form textNumber n No.netlistForm line w refl (omega arith))
+      (λ s. within-then textNumber n (admit line cells ss s) _ (within-weigh textNumber n line _ (omega arith) refl)
       (admitted-within (suc line) cells (ss ++ (s ∷ [])) ws (omega arith)))
 
-  pub netlist-within : (cells : List Cell) (t : List ℕ) → length t + 1 ≤ n → Within n (netlist cells t)
+  pub netlist-within : (cells : List Cell) (t : List ℕ) → length t + 1 ≤ n → Within textNumber n (netlist cells t)
   unfolding netlist
   netlist-within cells t k =
       admitted-within 1 cells [] (lineForms cells (lines t)) (omega (arith, length-lines t, forms-length cells (lines t)))

@@ -1,18 +1,29 @@
--- What the statements given to a call satisfy, whatever they come from: what is read is sound. A netlist text is such.
+-- What the statements given to a call satisfy, whatever they come from: what is read is sound, and no refusal has a number of
+-- the entry or the report. A netlist text is such.
 -- Assumes nothing.
+use mathlib.Core.Bool.{true}
 use mathlib.Core.List.{List}
-use mathlib.Core.Path.{_≡_}
-use Prim.Native.Nat.{ℕ}
-use Rattle.reading.specs.Refusal.{read}
+use mathlib.Core.Path.{_≡_, subst}
+use Prim.Native.Nat.{ℕ, _+_}
+use native.Mathlib.Omega.{arith}
+use lib.ListN.{length}
+use Rattle.reading.specs.Refusal.{refused, read}
+use Rattle.reading.proofs.Bounds.{Within, textNumber}
 use Rattle.cell_library.specs.Cells.{Cell}
 use Rattle.netlist.specs.Netlist.{Statement}
 use Rattle.netlist.specs.Sound.{Sound}
+use Rattle.netlist.proofs.Bounds.{netlist-within}
 use Rattle.netlist.proofs.Laws.{netlist-sound}
 use Rattle.outcome.specs.Outcome.{Given, givenTexts}
 
-abbrev pub Checked : Given → Type 0
-Checked g = (cells : List Cell) (ss : List Statement) → g .statements cells ≡ read ss → Sound cells ss
+pub record Checked (g : Given) : Type 0 where
+  pub sound : (cells : List Cell) (ss : List Statement) → g .statements cells ≡ read ss → Sound cells ss
+  pub numbered : (cells : List Cell) (number line : ℕ) → g .statements cells ≡ refused number line → textNumber number ≡ true
 
 pub texts-checked : (lib net : List ℕ) → Checked (givenTexts lib net)
 unfolding givenTexts
-texts-checked lib net cells ss e = netlist-sound cells net ss e
+texts-checked lib net =
+    record {
+      sound = λ cells ss e. netlist-sound cells net ss e;
+      numbered = λ cells number line e. subst (Within textNumber _) e (netlist-within (length net + 1) cells net (omega arith)) .0;
+    }

@@ -1,38 +1,55 @@
 -- A call that answers and leaves what the outcome says keeps its promise: the three demands follow.
 -- Assumes nothing.
+use mathlib.Core.Bool.{Bool, true, false}
 use mathlib.Core.List.{List, _++_}
 use mathlib.Core.Path.{_≡_, refl, sym, ap, subst, _∙_}
-use Prim.Native.Nat.{ℕ}
-use lib.ListN.{length, getD, drop, List·getD-append}
-use lib.Seq.{take-at}
+use Prim.Native.Nat.{ℕ, zero, suc, _+_, _≤_, _<_}
+use native.Mathlib.Omega.{arith}
+use lib.ListN.{length, getD, take, drop, List·getD-append}
+use lib.Seq.{take-at, drop-at}
+use Rattle.sizes.specs.Places.{linePlace}
 use Rattle.sizes.specs.Sizes as Size
+use Rattle.reading.specs.Numbers as No
 use Rattle.reading.specs.Refusal.{Read, refused, read, _>>_}
-use Rattle.reading.proofs.Laws.{refused-read, then-read}
+use Rattle.reading.proofs.Laws.{clash, refused-read, then-read}
+use Rattle.cost.specs.Cost.{never}
 use Rattle.cell_library.specs.Cells.{Cell}
-use Rattle.cell_library.specs.Library.{library}
-use Rattle.cell_library.proofs.Laws.{library-sound}
-use Rattle.netlist.specs.Netlist.{Statement}
+use Rattle.netlist.specs.Netlist.{Statement, mentioned, gatesOf}
 use Rattle.netlist.specs.Sound.{InRange}
-use Rattle.calculation.specs.Nodes.{Purpose, set, observe, node}
+use Rattle.calculation.specs.Nodes.{Kind, combinational, sequential, Purpose, set, observe, lineOf, node}
 use Rattle.calculation.specs.Calculation.{analysed}
+use Rattle.calculation.specs.Settled.{Settled, FewSweeps}
 use Rattle.calculation.specs.Plans.{Exact}
 use Rattle.calculation.specs.Acceptance.{BothSound}
-use Rattle.calculation.proofs.Laws.{exact, numbers-length, node-inside, Placed}
+use Rattle.calculation.specs.declared.Counts.{Counts}
+use Rattle.calculation.proofs.Laws.{exact, settled, settled-once, few-sweeps, unmentioned, entry-bounded, numbers-length, node-inside, Placed}
+use Rattle.report.specs.Report.{reportBytes}
+use Rattle.report.proofs.Laws.{report-same}
 use Rattle.outcome.specs.declared.Summary.{Summary}
-use Rattle.outcome.specs.Outcome.{Given, Lent, Accepted, summary, entry, outcome, reading, answer, left, leftFrom, leftLater, filled, zeroed}
-use Rattle.outcome.specs.Demands.{Reported, Promised}
+use Rattle.outcome.specs.Outcome.{Given, Lent, Accepted, summary, reportOf, entry, outcome, reading, answer, left, leftFrom, leftLater, filled, zeroed}
+use Rattle.outcome.specs.Demands.{Reported, standing, standingReport, PairRead, Acceptance, Calculated, Printed, Promised}
 use Rattle.outcome.proofs.Checking.{Checked}
 use Rattle.outcome.proofs.Accepting.{concluded, Accepts, accepts}
+use Rattle.outcome.proofs.Fitting.{report-short, pair-sound, accepts-fitting, entry-number, later-number, refused-where, long-refused}
 
 placed : (p : Purpose) → Reported p → Placed p
 unfolding InRange
 placed (set l v) h = ((h .0, h .1), h .2)
 placed (observe l) h = (h .0, h .1)
 
-module _ (g : Given) (checked : Checked g) (before after : Lent) (said : Read Summary) where
-  sound : (cells : List Cell) (ss : List Statement) → library (g .library) ≡ read cells → g .statements cells ≡ read ss → BothSound cells ss
-  sound cells ss p q = record { library = library-sound (g .library) cells p; netlist = checked cells ss q }
+-- Each of a line's six entries is the number of a kind and a purpose.
+by-purpose : (P : ℕ → Type 0) (l : ℕ) → 1 ≤ l → l ≤ Size.lines → ((k : Kind) (p : Purpose) → Placed p → lineOf p ≡ l → P (node k p))
+    → (i : ℕ) → i < Size.costs → P (linePlace l + i)
+unfolding node InRange
+by-purpose P l a b on zero h = on combinational (set l 0) ((a, b), omega arith) refl
+by-purpose P l a b on (suc zero) h = on combinational (set l 1) ((a, b), omega arith) refl
+by-purpose P l a b on (suc (suc zero)) h = on sequential (set l 0) ((a, b), omega arith) refl
+by-purpose P l a b on (suc (suc (suc zero))) h = on sequential (set l 1) ((a, b), omega arith) refl
+by-purpose P l a b on (suc (suc (suc (suc zero)))) h = on combinational (observe l) (a, b) refl
+by-purpose P l a b on (suc (suc (suc (suc (suc zero))))) h = on sequential (observe l) (a, b) refl
+by-purpose P l a b on (suc (suc (suc (suc (suc (suc i)))))) h = absurd (omega arith)
 
+module _ (g : Given) (checked : Checked g) (before after : Lent) (said : Read Summary) where
   at-entry : said ≡ answer (outcome g before) → after ≡ left g before → (number line : ℕ) → entry g before ≡ refused number line
       → (said ≡ refused number line) × (after ≡ before)
   unfolding answer outcome left leftFrom _>>_
@@ -44,51 +61,144 @@ module _ (g : Given) (checked : Checked g) (before after : Lent) (said : Read Su
   later a l (refused n i) o number line e s = rw (e, o) at l
   later a l (read x) o number line e s = refused-read (sym s ∙ rw (e, o) at a)
 
-  -- What the call read, where it accepts.
+  untouched : said ≡ answer (outcome g before) → after ≡ left g before → (number line : ℕ) → said ≡ refused number line
+      → No.ofEntry number ≡ true → after ≡ before
+  untouched a l number line r h =
+      refused-where g checked before number line (sym a ∙ r)
+      (λ e. at-entry a l number line e .1)
+      (λ e q. clash (No.ofEntry number) h (later-number g checked before number line q))
+
+  cleared : said ≡ answer (outcome g before) → after ≡ left g before → (number line : ℕ) → said ≡ refused number line
+      → No.ofEntry number ≡ false → after ≡ zeroed before
+  cleared a l number line r h =
+      refused-where g checked before number line (sym a ∙ r)
+      (λ e. clash (No.ofEntry number) (entry-number g checked before number line e) h)
+      (λ e q. later a l (reading g (length (before .report))) refl number line e r)
+
+  -- What an accepted call answers and leaves, by the cells and statements that were read.
   record Agrees (cells : List Cell) (ss : List Statement) (s : Summary) : Type 0 where
     numbers : after .numbers ≡ analysed cells ss .numbers ++ drop Size.numbers (before .numbers)
+    report : after .report ≡ reportOf ss (analysed cells ss) ++ drop (length (reportOf ss (analysed cells ss))) (before .report)
     says : s ≡ summary (concluded cells ss)
 
   filled-by : (x : Accepted) → outcome g before ≡ read x → left g before ≡ filled x before
   unfolding outcome left leftFrom leftLater
   filled-by x e = then-read (entry g before) _ x (λ u p q. rw (p, q)) e
 
-  agrees : (o : Read Accepted) → outcome g before ≡ o → said ≡ answer o → after ≡ left g before
-      → (cells : List Cell) (ss : List Statement) (s : Summary) → library (g .library) ≡ read cells → g .statements cells ≡ read ss
-      → said ≡ read s → Agrees cells ss s
+  agrees : (o : Read Accepted) → outcome g before ≡ o → said ≡ answer o → after ≡ left g before → (pair : PairRead g) (s : Summary)
+      → said ≡ read s → Agrees (pair .cells) (pair .statements) s
   unfolding answer filled
-  agrees (refused number line) e a l cells ss s p q r = refused-read (sym a ∙ r)
-  agrees (read x) e a l cells ss s p q r =
+  agrees (refused number line) e a l pair s r = refused-read (sym a ∙ r)
+  agrees (read x) e a l pair s r =
+      let cells = pair .cells in
+      let ss = pair .statements in
       let h : Accepts g x = accepts g before x e in
-      let sc : x .cells ≡ cells = cc (h .cells) in
+      let sc : x .cells ≡ cells = cc (h .cells, pair .cellsRead) in
       let h2 : g .statements cells ≡ read (x .statements) = rw (← sc) (h .statements) in
-      let st : x .statements ≡ ss = cc in
+      let st : x .statements ≡ ss = cc (pair .statementsRead) in
       let made : x ≡ concluded cells ss = sym (h .made) ∙ (λ i. concluded (sc i) (st i)) in
+      let stands : after ≡ filled (concluded cells ss) before = l ∙ filled-by x e ∙ ap (λ (y : Accepted). filled y before) made in
       record {
-        numbers = ap (λ (y : Lent). y .numbers) (l ∙ filled-by x e) ∙ ap (λ (y : Accepted). y .analysis .numbers ++ drop Size.numbers (before .numbers)) made;
+        numbers = ap (λ (y : Lent). y .numbers) stands;
+        report = ap (λ (y : Lent). y .report) stands;
         says = let e2 : s ≡ summary x = cc in e2 ∙ ap summary made;
       }
 
+  -- ---- an accepted call
+
+  module _ (cells : List Cell) (ss : List Statement) (sound : BothSound cells ss) (s : Summary) (z : Agrees cells ss s) where
+    entry-at : (i : ℕ) → i < Size.numbers → getD (after .numbers) i 0 ≡ getD (analysed cells ss .numbers) i 0
+    entry-at i h =
+        ap (λ (y : List ℕ). getD y i 0) (z .numbers)
+        ∙ List·getD-append (analysed cells ss .numbers) (drop Size.numbers (before .numbers)) 0 i (rw (numbers-length cells ss sound) h)
+
+    counts-are : s .counts ≡ analysed cells ss .counts
+    unfolding summary
+    counts-are = ap (λ (y : Summary). y .counts) (z .says)
+
+    numbers-are : take Size.numbers (after .numbers) ≡ analysed cells ss .numbers
+    numbers-are =
+        rw (z .numbers) (take-at (analysed cells ss .numbers) (drop Size.numbers (before .numbers)) Size.numbers (numbers-length cells ss sound))
+
+    stands : standing after s ≡ analysed cells ss
+    stands = λ i. record { numbers = numbers-are i; counts = counts-are i }
+
+    unmentioned-at : (l i : ℕ) → 1 ≤ l → l ≤ Size.lines → i < Size.costs → mentioned l ss ≡ false → getD (after .numbers) (linePlace l + i) 0 ≡ never
+    unmentioned-at l i a b h e =
+        by-purpose (λ (n : ℕ). getD (after .numbers) n 0 ≡ never) l a b
+        (λ k p q same. entry-at (node k p) (node-inside k p q) ∙ unmentioned cells ss sound k p q (rw same e)) i h
+
+    calculates : Calculated g before after said cells ss s
+    calculates =
+        record {
+          numbers = numbers-are;
+          counts = counts-are;
+          settled = subst (Settled cells ss) (sym stands) (settled cells ss sound);
+          settledOnce = λ a t. settled-once cells ss sound a t ∙ sym stands;
+          fewSweeps = subst (FewSweeps (length (gatesOf ss))) (sym counts-are) (few-sweeps cells ss sound);
+          costs = λ i h. rw (entry-at i h) (entry-bounded cells ss sound i);
+          unmentioned = unmentioned-at;
+        }
+
+    exact-at : (k : Kind) (p : Purpose) → Reported p → Exact cells ss k p (getD (after .numbers) (node k p) 0)
+    exact-at k p r =
+        subst (λ (y : ℕ). Exact cells ss k p y) (sym (entry-at (node k p) (node-inside k p (placed p r)))) (exact cells ss sound k p (placed p r))
+
+    report-is : reportOf ss (analysed cells ss) ≡ standingReport ss after s
+    unfolding reportOf
+    report-is =
+        let marks : ℕ → Bool = λ l. mentioned l ss in
+        report-same marks marks (analysed cells ss .numbers) (after .numbers) (analysed cells ss .counts) (λ l a b. refl) (λ i h. sym (entry-at i h))
+        ∙ ap (λ (k : Counts). reportBytes marks (after .numbers) k) (sym counts-are)
+
+    length-is : s .length ≡ length (reportOf ss (analysed cells ss))
+    unfolding summary
+    length-is = ap (λ (y : Summary). y .length) (z .says)
+
+    prints : Printed g before after said ss s
+    prints =
+        let r = reportOf ss (analysed cells ss) in
+        record {
+          size = length-is ∙ ap length report-is;
+          bytes = rw (z .report) (take-at r (drop (length r) (before .report)) (s .length) (sym length-is)) ∙ report-is;
+          past = rw (z .report) (drop-at r (drop (length r) (before .report)) (s .length) (sym length-is)) ∙ ap (λ (n : ℕ). drop n (before .report)) (sym length-is);
+          short = rw length-is (report-short cells ss sound);
+        }
+
+  -- ---- the promise
+
+  pair-of : (o : Read Accepted) → outcome g before ≡ o → (s : Summary) → read s ≡ answer o → PairRead g
+  unfolding answer
+  pair-of (refused number line) e s r = refused-read (sym r)
+  pair-of (read x) e s r =
+      let h : Accepts g x = accepts g before x e in
+      record { cells = x .cells; statements = x .statements; cellsRead = h .cells; statementsRead = h .statements }
+
+  accepting : said ≡ answer (outcome g before) → Acceptance g before after said
+  accepting a =
+      record {
+        wasRead = λ s r. pair-of (outcome g before) refl s (sym r ∙ a);
+        accepts = λ e pair h. (summary (concluded (pair .cells) (pair .statements)), a ∙ accepts-fitting g checked before e pair h);
+        reportLong = λ line r. long-refused g checked before line (sym a ∙ r);
+      }
+
   pub keeps : said ≡ answer (outcome g before) → after ≡ left g before → Promised g before after said
-  unfolding summary
   keeps a l =
+      let sound = pair-sound g checked in
+      let agreed = agrees (outcome g before) refl a l in
       record {
         answers = a;
         leaves = l;
-        demand1 = record { refuses = a; atEntry = at-entry a l; later = later a l (reading g (length (before .report))) refl };
-        demand2 =
-            λ cells ss s p q r.
-            let z = agrees (outcome g before) refl a l cells ss s p q r in
+        demand1 =
             record {
-              numbers = rw (z .numbers) (take-at (analysed cells ss .numbers) (drop Size.numbers (before .numbers)) Size.numbers (numbers-length cells ss (sound cells ss p q)));
-              counts = ap (λ (y : Summary). y .counts) (z .says);
+              refuses = a;
+              atEntry = at-entry a l;
+              later = later a l (reading g (length (before .report))) refl;
+              untouched = untouched a l;
+              cleared = cleared a l;
             };
-        demand3 =
-            λ cells ss s p q r k u v.
-            let z = agrees (outcome g before) refl a l cells ss s p q r in
-            let snd = sound cells ss p q in
-            subst (λ (y : ℕ). Exact cells ss k u y)
-            (sym (ap (λ (y : List ℕ). getD y (node k u) 0) (z .numbers)
-            ∙ List·getD-append (analysed cells ss .numbers) (drop Size.numbers (before .numbers)) 0 (node k u) (rw (numbers-length cells ss snd) (node-inside k u (placed u v)))))
-            (exact cells ss snd k u (placed u v));
+        demand2 = λ pair s r. calculates (pair .cells) (pair .statements) (sound pair) s (agreed pair s r);
+        demand3 = λ pair s r. exact-at (pair .cells) (pair .statements) (sound pair) s (agreed pair s r);
+        acceptance = accepting a;
+        printing = λ pair s r. prints (pair .cells) (pair .statements) (sound pair) s (agreed pair s r);
       }

@@ -1,5 +1,6 @@
 pub mod Accepting
 pub mod Checking
+pub mod Fitting
 pub mod Keeping
 pub mod Concluding
 pub mod Entering

@@ -1,6 +1,6 @@
 -- From the steps of a call to its promise: the entry and the library, the netlist, however it was given, and the end.
 -- Assumes nothing.
-use mathlib.Core.List.{List, [], _++_}
+use mathlib.Core.List.{List, _++_}
 use mathlib.Core.Path.{_≡_, refl, sym, ap, _∙_}
 use Prim.Native.Nat.{ℕ, _≤_}
 use native.Mathlib.Omega.{arith}
@@ -115,7 +115,7 @@ module _ (g : Given) (m : Lent) where
           sound =
               record {
                 library = library-sound (g .library) (b .cells) (b .cellsRead);
-                netlist = checked (b .cells) (b .statements) (b .statementsRead);
+                netlist = checked .sound (b .cells) (b .statements) (b .statementsRead);
               };
         }
 

@@ -1,18 +1,25 @@
--- The three demands of the minutes, as statements of one call: `g` is what it was given to read, `before` and `after` what it
--- was lent as it was called and as it returned, `said` what it answered. A call's contract is `Promised`. That the call ends,
--- and relies on no earlier check, is what the checker shows of every function that has no `requires`. Assumes nothing.
+-- The three demands of the minutes, and what else holds of one call: `g` is what it was given to read, `before` and `after`
+-- what it was lent as it was called and as it returned, `said` what it answered. A call's contract is `Promised`. That the
+-- call ends, and relies on no earlier check, is what the checker shows of every function that has no `requires`.
+-- Assumes nothing.
+use mathlib.Core.Bool.{true, false}
 use mathlib.Core.List.{List}
 use mathlib.Core.Path.{_≡_}
-use Prim.Native.Nat.{ℕ, _≤_}
-use lib.ListN.{getD, take}
+use Prim.Native.Nat.{ℕ, _+_, _≤_, _<_}
+use lib.ListN.{length, getD, take, drop}
 use Rattle.sizes.specs.Sizes as Size
+use Rattle.sizes.specs.Places.{linePlace}
+use Rattle.reading.specs.Numbers as No
 use Rattle.reading.specs.Refusal.{Read, refused, read}
+use Rattle.cost.specs.Cost.{never}
 use Rattle.cell_library.specs.Cells.{Cell}
 use Rattle.cell_library.specs.Library.{library}
-use Rattle.netlist.specs.Netlist.{Statement}
+use Rattle.netlist.specs.Netlist.{Statement, mentioned, gatesOf}
 use Rattle.calculation.specs.Nodes.{Kind, Purpose, set, observe, node}
-use Rattle.calculation.specs.Calculation.{analysed}
+use Rattle.calculation.specs.Calculation.{Analysed, analysed}
+use Rattle.calculation.specs.Settled.{Settled, FewSweeps}
 use Rattle.calculation.specs.Plans.{Exact}
+use Rattle.report.specs.Report.{reportBytes, longestReport}
 use Rattle.outcome.specs.declared.Summary.{Summary}
 use Rattle.outcome.specs.Outcome.{Given, Lent, entry, outcome, answer, left, zeroed}
 
@@ -20,6 +27,21 @@ use Rattle.outcome.specs.Outcome.{Given, Lent, entry, outcome, answer, l
 abbrev pub Reported : Purpose → Type 0
 Reported (set l v) = (1 ≤ l) × (l ≤ Size.lines) × (v ≤ 1)
 Reported (observe l) = (1 ≤ l) × (l ≤ Size.lines)
+
+-- The analysis that a call leaves and answers: the entries of the numbers table, and the counts.
+abbrev pub standing : Lent → Summary → Analysed
+standing m s = record { numbers = take Size.numbers (m .numbers); counts = s .counts }
+
+-- The report of the entries that stand in the numbers table.
+abbrev pub standingReport : List Statement → Lent → Summary → List ℕ
+standingReport ss m s = reportBytes (λ l. mentioned l ss) (m .numbers) (s .counts)
+
+-- "accepted library and netlist": what is given reads as these cells and statements.
+pub record PairRead (g : Given) : Type 0 where
+  pub cells : List Cell
+  pub statements : List Statement
+  pub cellsRead : library (g .library) ≡ read cells
+  pub statementsRead : g .statements cells ≡ read statements
 
 module _ (g : Given) (before after : Lent) (said : Read Summary) where
   -- 1. "The analyser, from the first byte read to the last byte of its report, ends on every pair of texts and refuses a bad
@@ -29,17 +51,41 @@ module _ (g : Given) (before after : Lent) (said : Read Summary) where
     pub refuses : said ≡ answer (outcome g before)
     pub atEntry : (number line : ℕ) → entry g before ≡ refused number line → (said ≡ refused number line) × (after ≡ before)
     pub later : (number line : ℕ) → entry g before ≡ read tt → said ≡ refused number line → after ≡ zeroed before
+    -- The same by the number alone: "Entry refusals leave lent memory untouched; later ones leave every table and the report
+    -- buffer zero."
+    pub untouched : (number line : ℕ) → said ≡ refused number line → No.ofEntry number ≡ true → after ≡ before
+    pub cleared : (number line : ℕ) → said ≡ refused number line → No.ofEntry number ≡ false → after ≡ zeroed before
+
+  -- Which calls are accepted.
+  pub record Acceptance : Type 0 where
+    -- Only an accepted library and netlist have a report,
+    pub wasRead : (s : Summary) → said ≡ read s → PairRead g
+    -- and "demand 2 accepts every text that the table doesn't name", where the buffer has room for the longest report.
+    pub accepts : entry g before ≡ read tt → PairRead g → longestReport ≤ length (before .report)
+        → (s : Summary) × (said ≡ read s)
+    -- "17 report longer than its buffer": never of such a buffer, nor of the 65,536 bytes that `scoap` lends.
+    pub reportLong : (line : ℕ) → said ≡ refused No.reportLong line → length (before .report) < longestReport
 
   -- 2. "For every accepted library and netlist, loops included, the six numbers of each line and the four sweep counts are
   -- those of Goldstein's calculation as document 01 sets it out, costs up to 999,999,999 exact."
   pub record Calculated (cells : List Cell) (ss : List Statement) (s : Summary) : Type 0 where
+    -- By computation,
     pub numbers : take Size.numbers (after .numbers) ≡ (analysed cells ss) .numbers
     pub counts : s .counts ≡ (analysed cells ss) .counts
+    -- and by the rule, which has no bound: "Sweeps stop after the first that changes nothing; it is counted. CC and SC run
+    -- separately. Then CO and SO". No other numbers and counts follow it.
+    pub settled : Settled cells ss (standing after s)
+    pub settledOnce : (a : Analysed) → Settled cells ss a → a ≡ standing after s
+    -- "With G gates, CC and SC take at most 2G + 1 sweeps each, CO and SO at most G + 1."
+    pub fewSweeps : FewSweeps (length (gatesOf ss)) (s .counts)
+    -- "A cost is a whole number from 0 to 999,999,999, "over" (1,000,000,000 in tables) or "never" (1,000,000,001)."
+    pub costs : (i : ℕ) → i < Size.numbers → getD (after .numbers) i 0 ≤ never
+    -- "The numbers table has six costs for each line 1 to 1,000 ..; unmentioned lines hold never."
+    pub unmentioned : (l i : ℕ) → 1 ≤ l → l ≤ Size.lines → i < Size.costs → mentioned l ss ≡ false
+        → getD (after .numbers) (linePlace l + i) 0 ≡ never
 
   abbrev pub Demand2 : Type 0
-  Demand2 =
-      (cells : List Cell) (ss : List Statement) (s : Summary)
-      → library (g .library) ≡ read cells → g .statements cells ≡ read ss → said ≡ read s → Calculated cells ss s
+  Demand2 = (pair : PairRead g) (s : Summary) → said ≡ read s → Calculated (pair .cells) (pair .statements) s
 
   -- 3. "Whatever fan-out and loops an accepted netlist has, nobody sets a line to 0, sets it to 1 or carries it to an output,
   -- by any finite plan that the library allows, for less than the number reported. This holds for all six numbers of every
@@ -47,15 +93,29 @@ module _ (g : Given) (before after : Lent) (said : Read Summary) where
   -- `Exact` has the rest of it.
   abbrev pub Demand3 : Type 0
   Demand3 =
-      (cells : List Cell) (ss : List Statement) (s : Summary)
-      → library (g .library) ≡ read cells → g .statements cells ≡ read ss → said ≡ read s
-      → (k : Kind) (p : Purpose) → Reported p → Exact cells ss k p (getD (after .numbers) (node k p) 0)
+      (pair : PairRead g) (s : Summary) → said ≡ read s
+      → (k : Kind) (p : Purpose) → Reported p → Exact (pair .cells) (pair .statements) k p (getD (after .numbers) (node k p) 0)
+
+  -- "The numbers reported are the entries that an accepted analysis leaves in the numbers table, for lines 1 to 1,000, and the
+  -- costs in its report." The report is that of the entries in the table, so that demand 3 holds of what its bytes say.
+  pub record Printed (ss : List Statement) (s : Summary) : Type 0 where
+    pub size : s .length ≡ length (standingReport ss after s)
+    pub bytes : take (s .length) (after .report) ≡ standingReport ss after s
+    -- "Report bytes past its end keep their values."
+    pub past : drop (s .length) (after .report) ≡ drop (s .length) (before .report)
+    -- Below the 1,000,000 from which on a C caller has a refusal.
+    pub short : s .length ≤ longestReport
+
+  abbrev pub Printing : Type 0
+  Printing = (pair : PairRead g) (s : Summary) → said ≡ read s → Printed (pair .statements) s
 
   -- What a call promises: by equation its answer, the refusal and its line, and every entry of every lent slice afterwards;
-  -- and the three demands.
+  -- the three demands; which calls are accepted, and what their reports say.
   pub record Promised : Type 0 where
     pub answers : said ≡ answer (outcome g before)
     pub leaves : after ≡ left g before
     pub demand1 : Demand1
     pub demand2 : Demand2
     pub demand3 : Demand3
+    pub acceptance : Acceptance
+    pub printing : Printing

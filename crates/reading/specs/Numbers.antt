@@ -1,7 +1,9 @@
 -- The refusal numbers. Document 01, "Where a text stops". Pages that cite them say `as No`, so that a number and the condition
 -- that it stands for may have one name.
 -- Assumes nothing.
+use mathlib.Core.Bool.{Bool, _||_}
 use Prim.Native.Nat.{ℕ}
+use lib.Dec.{eqb}
 
 -- "entry (line 0)": "1 a lent table below its published size; 2 a text above 65,535 bytes"
 abbrev pub tableShort : ℕ
@@ -9,6 +11,10 @@ tableShort = 1
 
 abbrev pub textLong : ℕ
 textLong = 2
+
+-- Whether a number is the entry's, for a caller who is told the number alone.
+abbrev pub ofEntry : ℕ → Bool
+ofEntry number = eqb number tableShort || eqb number textLong
 
 -- "library line": "3 form; 4 name used before; 5 pins not 1 to 8; 6 wrong count of groups or a group above 16 rows; 7 a row with
 -- a bit above its columns; 8 a CC or SC row naming no pin, or a CO or SO row without "observe the output"; 9 a 33rd entry"

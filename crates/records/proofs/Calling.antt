@@ -2,16 +2,19 @@
 -- Assumes nothing.
 use mathlib.Core.Bool.{Bool, or-false}
 use mathlib.Core.List.{List, [], _∷_}
-use mathlib.Core.Path.{_≡_, sym, ap, _∙_}
-use Prim.Native.Nat.{ℕ}
+use mathlib.Core.Path.{_≡_, sym, ap, subst, _∙_}
+use Prim.Native.Nat.{ℕ, _+_}
+use native.Mathlib.Omega.{arith}
 use lib.Dec.{ltb}
 use lib.ListN.{length, drop}
 use Rattle.sizes.specs.Sizes as Size
 use Rattle.table.specs.Blocks.{cleared}
 use Rattle.reading.specs.Numbers as No
 use Rattle.reading.specs.Refusal.{Read, weigh}
+use Rattle.reading.proofs.Bounds.{Within, textNumber}
 use Rattle.cell_library.specs.Library.{library}
 use Rattle.cell_library.proofs.Laws.{sound-fits}
+use Rattle.netlist.proofs.Bounds.{admitted-within}
 use Rattle.netlist.proofs.Laws.{admitted-sound, sound-none}
 use Rattle.sweep.specs.Ready.{Ready}
 use Rattle.outcome.specs.declared.Progress.{Progress}
@@ -49,10 +52,16 @@ module _ (text lib ts num rep : List ℕ) (recs : List Record) where
   abbrev before : Lent
   before = lentOf lib ts num rep
 
-  -- What is read of records is sound.
+  -- What is read of records is sound, and no refusal has a number of the entry or the report.
   checked : Checked given
   unfolding givenRecords fromRecords
-  checked cells ss e = admitted-sound cells 1 [] (recordForms recs) ss (sound-none cells) e
+  checked =
+      record {
+        sound = λ cells ss e. admitted-sound cells 1 [] (recordForms recs) ss (sound-none cells) e;
+        numbered =
+            λ cells number line e.
+            subst (Within textNumber _) e (admitted-within (1 + length (recordForms recs)) 1 cells [] (recordForms recs) (omega arith)) .0;
+      }
 
   -- The entry is weighed by lengths: there is no second text.
   records-entry : entryBy (length text) 0 (length lib) (length ts) (length num) ≡ entry given before

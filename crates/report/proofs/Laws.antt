@@ -6,19 +6,19 @@ use mathlib.Core.Path.{_≡_, refl, ap}
 use Prim.Native.Nat.{ℕ, zero, suc, _+_, _*_, _^_, _≤_, _<_}
 use native.Mathlib.Omega.{arith}
 use lib.Dec.{leb, eqb}
-use lib.ListN.{length, getD, drop, length-append}
-use borrow.Author.Tests.{le-leb, leb-false, eqb-false}
+use lib.ListN.{length, getD, length-append}
+use borrow.Author.Tests.{leb-false, eqb-false}
 use Rattle.sizes.specs.Sizes as Size
 use Rattle.sizes.specs.Places.{linePlace}
 use Rattle.cost.specs.Cost.{over, never}
 use Rattle.text.specs.Bytes.{bytes}
 use Rattle.reading.specs.Choice.{pick}
-use Rattle.reading.specs.Refusal.{read}
 use Rattle.reading.proofs.Laws.{by-test}
 use Rattle.writer.specs.Decimal.{decimalBytes, decimal-open}
-use Rattle.writer.proofs.Decimal.{decimal-below, decimal-length}
+use Rattle.writer.proofs.Decimal.{decimal-below}
 use Rattle.calculation.specs.declared.Counts.{Counts}
-use Rattle.report.specs.Report.{costBytes, costsFrom, lineBytes, linesBytes, sweepsBytes, header, reportBytes, written, reportAfter}
+use Rattle.calculation.specs.Settled.{FewSweeps}
+use Rattle.report.specs.Report.{costBytes, costsFrom, lineBytes, linesBytes, sweepsBytes, header, reportBytes, longestReport}
 
 -- ---- what the report depends on
 
@@ -45,7 +45,7 @@ report-same m q ns ms k marks same =
     ap (λ (f : List ℕ). header ++ (f ++ sweepsBytes k))
     (lines-same m q ns ms Size.lines 1 (omega arith) (λ i a b. marks i a (omega arith)) same)
 
--- ---- how long the report is: for a reader, no proof cites it
+-- ---- how long the report is
 
 cost-length : (x : ℕ) → length (costBytes x) ≤ 9
 unfolding costBytes bytes pick
@@ -95,44 +95,17 @@ lines-digits : numbersLength Size.lines 1 ≡ 2893
 unfolding numbersLength decimal-open
 lines-digits = refl
 
--- Each count of the sweeps has at most so many digits.
-record CountsBelow (digits : ℕ) (k : Counts) : Type 0 where
-  pub cc : length (decimalBytes (k .cc)) ≤ digits
-  pub sc : length (decimalBytes (k .sc)) ≤ digits
-  pub co : length (decimalBytes (k .co)) ≤ digits
-  pub so : length (decimalBytes (k .so)) ≤ digits
-
-length-by : (m : ℕ → Bool) (ns : List ℕ) (k : Counts) (digits : ℕ) → CountsBelow digits k → length (reportBytes m ns k) ≤ 63931 + 4 * digits
+-- "With G gates, CC and SC take at most 2G + 1 sweeps each, CO and SO at most G + 1": four digits for each count.
+pub report-length : (m : ℕ → Bool) (ns : List ℕ) (k : Counts) (gates : ℕ) → gates ≤ Size.gates → FewSweeps gates k → length (reportBytes m ns k) ≤ longestReport
 unfolding reportBytes header sweepsBytes bytes
-length-by m ns k digits b =
-    simp length-append (omega (arith, lines-length m ns Size.lines 1, lines-digits, b .cc, b .sc, b .co, b .so))
-
--- How long a report can be, whatever it is made of: 27 bytes of header, 63,893 for the lines, and 11 for the sweeps with ten
--- for each count.
-pub report-length : (m : ℕ → Bool) (ns : List ℕ) (k : Counts) → length (reportBytes m ns k) ≤ 63971
-report-length m ns k =
-    length-by m ns k 10
-    (record {
-      cc = decimal-length (k .cc) .1;
-      sc = decimal-length (k .sc) .1;
-      co = decimal-length (k .co) .1;
-      so = decimal-length (k .so) .1;
-    })
-
--- With counts of at most four digits, as those of an analysis are, "CC and SC take at most 2G + 1 sweeps each".
-pub report-length-counted : (m : ℕ → Bool) (ns : List ℕ) (k : Counts) → k .cc < 10 ^ 4 → k .sc < 10 ^ 4 → k .co < 10 ^ 4 → k .so < 10 ^ 4 → length (reportBytes m ns k) ≤ 63947
-report-length-counted m ns k cc sc co so =
-    length-by m ns k 4
-    (record {
-      cc = decimal-below 3 (k .cc) cc;
-      sc = decimal-below 3 (k .sc) sc;
-      co = decimal-below 3 (k .co) co;
-      so = decimal-below 3 (k .so) so;
-    })
-
--- "a report buffer of 65,536 bytes" always has room for it: 17 never comes of such a buffer.
-pub report-fits : (m : ℕ → Bool) (ns : List ℕ) (k : Counts) (before : List ℕ) → Size.reportBytes ≤ length before
-    → (written (reportBytes m ns k) before ≡ read (length (reportBytes m ns k))) × (reportAfter (reportBytes m ns k) before ≡ reportBytes m ns k ++ drop (length (reportBytes m ns k)) before)
-unfolding written reportAfter pick
-report-fits m ns k before h =
-    rw (le-leb (length (reportBytes m ns k)) (length before) (omega (arith, report-length m ns k))) (refl, refl)
+report-length m ns k gates h few =
+    simp length-append
+    (omega (
+      arith,
+      lines-length m ns Size.lines 1,
+      lines-digits,
+      decimal-below 3 (k .cc) (omega arith),
+      decimal-below 3 (k .sc) (omega arith),
+      decimal-below 3 (k .co) (omega arith),
+      decimal-below 3 (k .so) (omega arith),
+    ))

@@ -45,6 +45,11 @@ header = bytes "line,cc0,cc1,sc0,sc1,co,so" ++ (10 ∷ [])
 unfoldable pub reportBytes : (ℕ → Bool) → List ℕ → Counts → List ℕ
 reportBytes mentioned numbers k = header ++ (linesBytes mentioned numbers Size.lines 1 ++ sweepsBytes k)
 
+-- No report of an analysis is longer: 27 bytes of header; 1,000 lines, each with six costs of nine digits at most, in 63,893;
+-- and the sweeps, of four digits at most, in 27 (`report-length` of proofs/Laws.antt).
+abbrev pub longestReport : ℕ
+longestReport = 63947
+
 -- The report's length; "17 report longer than its buffer", at "report (line 0)".
 unfoldable pub written : List ℕ → List ℕ → Read ℕ
 written report before = pick (leb (length report) (length before)) (read (length report)) (refused No.reportLong 0)

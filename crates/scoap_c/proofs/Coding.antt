@@ -1,22 +1,33 @@
 -- The C entry's number, from the answer of the analysis.
 -- Assumes nothing.
+use mathlib.Core.Bool.{true, false, true≢false}
 use mathlib.Core.List.{List}
 use mathlib.Core.Path.{_≡_, refl, sym, ap, subst, _∙_}
-use Prim.Native.Nat.{ℕ, _+_, _*_, _≤_, _<_}
+use Prim.Native.Nat.{ℕ, zero, suc, _+_, _*_, _/_, _≤_, _<_}
 use native.Mathlib.Omega.{arith}
-use Rattle.reading.specs.Refusal.{refused, read}
+use lib.ListN.{length, replicate}
+use Rattle.reading.specs.Numbers as No
+use Rattle.reading.specs.Refusal.{Read, refused, read}
 use Rattle.reading.specs.declared.Refusal.{Refusal}
+use Rattle.report.specs.Report.{longestReport}
 use Rattle.outcome.specs.declared.Answer.{Answer}
 use Rattle.outcome.specs.declared.Answer.the-variants.{Accepted, Refused}
 use Rattle.outcome.specs.declared.Summary.{Summary}
 use Rattle.outcome.specs.Answer.{answerRead}
 use Rattle.outcome.specs.Demands.{Promised}
 use Rattle.outcome.specs.Outcome.{Lent, givenTexts}
-use Rattle.outcome.proofs.Bounds.{refusal-told, report-short}
-use Rattle.scoap_c.specs.Coded.{ownTables, codeLines, numberOf, Decoded, Coded}
+use Rattle.outcome.specs.Outcome as O
+use Rattle.outcome.proofs.Bounds.{refusal-told}
+use Rattle.outcome.proofs.Checking.{texts-checked}
+use Rattle.outcome.proofs.Fitting.{short-refused}
+use Rattle.scoap_c.specs.Coded.{ownTables, codeLines, numberOf, Decoded, Seen, Coded}
 
 decoded : (number line : ℕ) → 1 ≤ number → line < codeLines → Decoded (number * codeLines + line) number line
 decoded number line h k = record { above = omega arith; numberIs = omega arith; lineIs = omega arith }
+
+own-fit : (report : List ℕ) → O.tableShort (ownTables report) ≡ false
+unfolding O.tableShort ownTables
+own-fit report = refl
 
 module _ (lib net before : List ℕ) (after : Lent) (r : Answer) (p : Promised (givenTexts lib net) (ownTables before) after (answerRead r)) where
   told : (number line : ℕ) → answerRead r ≡ refused number line → (1 ≤ number) × (line < codeLines)
@@ -30,9 +41,74 @@ module _ (lib net before : List ℕ) (after : Lent) (r : Answer) (p : Promised (
       let h = told number line e in
       rw e (decoded number line (h .0) (h .1))
 
+  length-short : (s : Summary) → answerRead r ≡ read s → s .length ≤ longestReport
+  length-short s e = p .printing (p .acceptance .wasRead s e) s e .short
+
   length-below : (s : Summary) → answerRead r ≡ read s → numberOf (answerRead r) < codeLines
   unfolding numberOf
-  length-below s e = rw e (omega (arith, report-short (givenTexts lib net) (ownTables before) s (sym e ∙ p .answers)))
+  length-below s e = rw e (omega (arith, length-short s e))
+
+  seen-by : (o : Read Summary) → answerRead r ≡ o → numberOf o < codeLines → Seen lib net (after .report) (numberOf o)
+  unfolding numberOf
+  seen-by (refused number line) e h = absurd (omega (arith, told number line e .0))
+  seen-by (read s) e h =
+      let pair = p .acceptance .wasRead s e in
+      record {
+        pair = pair;
+        numbers = after .numbers;
+        counts = s .counts;
+        size = p .printing pair s e .size;
+        bytes = p .printing pair s e .bytes;
+        settled = p .demand2 pair s e .settled;
+        exact = p .demand3 pair s e;
+        short = length-short s e;
+      }
+
+  -- ---- a refusal by its one number
+
+  -- A number of 1,000,000 or more is that of a refusal.
+  by-code : {B : Type 0} → ((number line : ℕ) → answerRead r ≡ refused number line → numberOf (answerRead r) / codeLines ≡ number → B)
+      → codeLines ≤ numberOf (answerRead r) → B
+  by-code {B = B} on h = cases (answerRead r) refl
+    where
+      cases : (o : Read Summary) → answerRead r ≡ o → B
+      cases (refused number line) e = on number line e (refusal-decoded number line e .numberIs)
+      cases (read s) e = absurd (omega (arith, length-below s e))
+
+  -- So is one whose number, told so, is not 0.
+  above : (number : ℕ) → numberOf (answerRead r) / codeLines ≡ number → 1 ≤ number → codeLines ≤ numberOf (answerRead r)
+  above number e h = omega arith
+
+  no-short : numberOf (answerRead r) / codeLines ≡ No.tableShort → ⊥
+  no-short told-short =
+      by-code
+      (λ number line e is.
+      let same : answerRead r ≡ refused No.tableShort line = e ∙ ap (λ (x : ℕ). refused x line) (sym is ∙ told-short) in
+      true≢false (sym (short-refused (givenTexts lib net) (texts-checked lib net) (ownTables before) line (sym (p .answers) ∙ same)) ∙ own-fit before))
+      (above No.tableShort told-short (omega arith))
+
+  long-told : numberOf (answerRead r) / codeLines ≡ No.reportLong → length before < longestReport
+  unfolding ownTables
+  long-told told-long =
+      by-code
+      (λ number line e is. p .acceptance .reportLong line (e ∙ ap (λ (x : ℕ). refused x line) (sym is ∙ told-long)))
+      (above No.reportLong told-long (omega arith))
+
+  -- 0 is no number of the entry.
+  entry-above : (number : ℕ) → No.ofEntry number ≡ true → 1 ≤ number
+  entry-above zero h = absurd (true≢false (sym h))
+  entry-above (suc number) h = omega arith
+
+  untouched-by : No.ofEntry (numberOf (answerRead r) / codeLines) ≡ true → after .report ≡ before
+  unfolding ownTables
+  untouched-by h =
+      by-code
+      (λ number line e is. ap (λ (m : Lent). m .report) (p .demand1 .untouched number line e (rw is at h)))
+      (above _ refl (entry-above (numberOf (answerRead r) / codeLines) h))
+
+  cleared-by : codeLines ≤ numberOf (answerRead r) → No.ofEntry (numberOf (answerRead r) / codeLines) ≡ false → after .report ≡ replicate (length before) 0
+  unfolding ownTables O.zeroed
+  cleared-by over h = by-code (λ number line e is. ap (λ (m : Lent). m .report) (p .demand1 .cleared number line e (rw is at h))) over
 
   coded : Coded lib net before (after .report) (numberOf (answerRead r))
   coded =
@@ -46,6 +122,11 @@ module _ (lib net before : List ℕ) (after : Lent) (r : Answer) (p : Promised (
         promised = p;
         accepted = length-below;
         refusal = refusal-decoded;
+        seen = seen-by (answerRead r) refl;
+        untouched = untouched-by;
+        cleared = cleared-by;
+        tableShort = no-short;
+        reportLong = long-told;
       }
 
   pub coded-accepted : (s : Summary) → r ≡ Accepted s → Coded lib net before (after .report) (s .length)

@@ -1,13 +1,21 @@
 -- What the calls for C answer and leave.
 -- Assumes nothing.
+use mathlib.Core.Bool.{true, false}
 use mathlib.Core.List.{List}
 use mathlib.Core.Path.{_≡_}
 use Prim.Native.Nat.{ℕ, _+_, _*_, _/_, _%_, _≤_, _<_}
-use lib.ListN.{replicate}
+use lib.ListN.{length, getD, take, replicate}
 use Rattle.sizes.specs.Sizes as Size
+use Rattle.reading.specs.Numbers as No
 use Rattle.reading.specs.Refusal.{Read, refused, read}
+use Rattle.netlist.specs.Netlist.{mentioned}
+use Rattle.calculation.specs.declared.Counts.{Counts}
+use Rattle.calculation.specs.Nodes.{Kind, Purpose, node}
+use Rattle.calculation.specs.Plans.{Exact}
+use Rattle.calculation.specs.Settled.{Settled}
+use Rattle.report.specs.Report.{reportBytes, longestReport}
 use Rattle.outcome.specs.declared.Summary.{Summary}
-use Rattle.outcome.specs.Demands.{Promised}
+use Rattle.outcome.specs.Demands.{Reported, PairRead, Promised}
 use Rattle.outcome.specs.Outcome as O
 
 -- What the C entry lends `analyse`: tables of its own, of the published sizes.
@@ -35,9 +43,21 @@ pub record Decoded (said number line : ℕ) : Type 0 where
   pub numberIs : said / codeLines ≡ number
   pub lineIs : said % codeLines ≡ line
 
+-- What a caller has of an accepted pair who sees its bytes alone: they are the report of numbers and counts of which demands 2
+-- and 3 hold, and no more than the longest report has.
+pub record Seen (lib net after : List ℕ) (said : ℕ) : Type 0 where
+  pub pair : PairRead (O.givenTexts lib net)
+  pub numbers : List ℕ
+  pub counts : Counts
+  pub size : said ≡ length (reportBytes (λ l. mentioned l (pair .statements)) numbers counts)
+  pub bytes : take said after ≡ reportBytes (λ l. mentioned l (pair .statements)) numbers counts
+  pub settled : Settled (pair .cells) (pair .statements) (record { numbers = take Size.numbers numbers; counts = counts })
+  pub exact : (k : Kind) (p : Purpose) → Reported p → Exact (pair .cells) (pair .statements) k p (getD numbers (node k p) 0)
+  pub short : said ≤ longestReport
+
 -- What the C entry promises: its number and the whole report buffer afterwards, by equation; that it is an analysis on tables
--- of its own, whose numbers and report keep the whole promise of `analyse`, the three demands among it; and that the number is
--- never ambiguous.
+-- of its own, whose numbers and report keep the whole promise of `analyse`, the three demands among it; that the number is
+-- never ambiguous; and what a caller sees who has but the number and the buffer.
 pub record Coded (lib net before after : List ℕ) (said : ℕ) : Type 0 where
   pub answers : said ≡ numberOf (O.answer (O.outcome (O.givenTexts lib net) (ownTables before)))
   pub leaves : after ≡ O.left (O.givenTexts lib net) (ownTables before) .report
@@ -48,3 +68,12 @@ pub record Coded (lib net before after : List ℕ) (said : ℕ) : Type 0 where
   pub promised : Promised (O.givenTexts lib net) (ownTables before) tables answer
   pub accepted : (s : Summary) → answer ≡ read s → said < codeLines
   pub refusal : (number line : ℕ) → answer ≡ refused number line → Decoded said number line
+  -- By the number alone: the report,
+  pub seen : said < codeLines → Seen lib net after said
+  -- "Entry refusals leave lent memory untouched; later ones leave every table and the report buffer zero",
+  pub untouched : No.ofEntry (said / codeLines) ≡ true → after ≡ before
+  pub cleared : codeLines ≤ said → No.ofEntry (said / codeLines) ≡ false → after ≡ replicate (length before) 0
+  -- "1 a lent table below its published size": its own tables are not,
+  pub tableShort : said / codeLines ≡ No.tableShort → ⊥
+  -- "17 report longer than its buffer": never of a buffer that has room for the longest report.
+  pub reportLong : said / codeLines ≡ No.reportLong → length before < longestReport

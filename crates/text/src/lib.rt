@@ -1,7 +1,7 @@
 // The text layer: classes of bytes, lines and fields of a lent text, words, names and numbers.
 //
-// Open to other crates, each for every input: `class_of`, `line`, `field`, `after`, `same`, `is_name`, `decimal`,
-// `octal`, and the types `Class` and `Numeral`.
+// Open to other crates, each for every input: `line`, `field`, `after`, `same`, `is_name`, `decimal`, `octal`, and
+// the type `Numeral`. The type `Class` is `pub` for the figures.
 ghost use mathlib.Core.Path.{_≡_};
 ghost use mathlib.Core.Bool.{true};
 ghost use Prim.Native.Nat.{_+_, _-_, _^_, _≤_, _<_, min};
@@ -24,7 +24,7 @@ pub enum Class {
     Other,
 }
 
-pub fn class_of(b: u8) -> Class
+fn class_of(b: u8) -> Class
     ensures { λ r. ⌜ r ≡ classOf b ⌝ }
 {
     match b {

@@ -1,0 +1,141 @@
+-- Which calls are accepted, and by which numbers the others are refused. No report is longer than the longest: what is read is
+-- accepted where the buffer has room for that, and 17 needs a shorter one.
+-- Assumes nothing.
+use mathlib.Core.Bool.{true, false, true≢false}
+use mathlib.Core.List.{List}
+use mathlib.Core.Logic.{_⊎_, inl, inr, ⊎-elim}
+use mathlib.Core.Path.{_≡_, refl, sym, ap, subst, _∙_}
+use Prim.Native.Nat.{ℕ, _+_, _≤_, _<_}
+use native.Mathlib.Omega.{arith}
+use borrow.Author.Tests.{le-ltb, ltb-true}
+use lib.Dec.{ltb}
+use lib.ListN.{length}
+use Rattle.reading.specs.Choice.{pick}
+use Rattle.reading.specs.Numbers as No
+use Rattle.reading.specs.Refusal.{Read, refused, read, _>>=_, _>>_, weigh}
+use Rattle.reading.proofs.Bounds.{Within, textNumber, text-not-entry, within-weigh}
+use Rattle.reading.proofs.Laws.{by-test, refused-read}
+use Rattle.cell_library.specs.Cells.{Cell}
+use Rattle.cell_library.specs.Library.{library}
+use Rattle.cell_library.proofs.Bounds.{library-within}
+use Rattle.cell_library.proofs.Laws.{library-sound}
+use Rattle.netlist.specs.Netlist.{Statement, mentioned, gatesOf}
+use Rattle.calculation.specs.Acceptance.{BothSound}
+use Rattle.calculation.specs.Calculation.{analysed}
+use Rattle.calculation.proofs.Laws.{few-sweeps}
+use Rattle.report.specs.Report.{longestReport}
+use Rattle.report.proofs.Laws.{report-length}
+use Rattle.outcome.specs.Demands.{PairRead}
+use Rattle.outcome.specs.Outcome.{Given, Lent, Accepted, entry, outcome, reading, conclude, answer, summary, reportOf, tableShort}
+use Rattle.outcome.proofs.Accepting.{concluded}
+use Rattle.outcome.proofs.Checking.{Checked}
+
+module _ (cells : List Cell) (ss : List Statement) (sound : BothSound cells ss) where
+  pub report-short : length (reportOf ss (analysed cells ss)) ≤ longestReport
+  unfolding reportOf
+  report-short =
+      let a = analysed cells ss in
+      report-length (λ l. mentioned l ss) (a .numbers) (a .counts) (length (gatesOf ss)) (sound .netlist .few) (few-sweeps cells ss sound)
+
+  concludes-fitting : (space : ℕ) → longestReport ≤ space → conclude cells ss space ≡ read (concluded cells ss)
+  unfolding conclude weigh _>>_ pick
+  concludes-fitting space h = rw (le-ltb space (length (reportOf ss (analysed cells ss))) (omega (arith, report-short)))
+
+  concludes-long : (space number line : ℕ) → conclude cells ss space ≡ refused number line → (number ≡ No.reportLong) × (space < longestReport)
+  unfolding conclude weigh _>>_ pick
+  concludes-long space number line e =
+      by-test (ltb space (length (reportOf ss (analysed cells ss))))
+      (λ long. (cc (rw long at e), omega (arith, ltb-true space (length (reportOf ss (analysed cells ss))) long, report-short)))
+      (λ fits. refused-read (sym (rw fits at e)))
+
+module _ (g : Given) (checked : Checked g) where
+  pub pair-sound : (pair : PairRead g) → BothSound (pair .cells) (pair .statements)
+  pair-sound pair =
+      record {
+        library = library-sound (g .library) (pair .cells) (pair .cellsRead);
+        netlist = checked .sound (pair .cells) (pair .statements) (pair .statementsRead);
+      }
+
+  module _ (m : Lent) where
+    pub accepts-fitting : entry g m ≡ read tt → (pair : PairRead g) → longestReport ≤ length (m .report)
+        → answer (outcome g m) ≡ read (summary (concluded (pair .cells) (pair .statements)))
+    unfolding answer outcome reading _>>_ _>>=_
+    accepts-fitting e pair h =
+        rw (e, pair .cellsRead, pair .statementsRead, concludes-fitting (pair .cells) (pair .statements) (pair-sound pair) (length (m .report)) h)
+
+    -- ---- which numbers there are behind the entry: those of the texts, and 17 where the buffer is short
+
+    abbrev Behind : ℕ → Type 0
+    Behind number = (textNumber number ≡ true) ⊎ ((number ≡ No.reportLong) × (length (m .report) < longestReport))
+
+    module _ (number line : ℕ) where
+      from-statements : (cells : List Cell) → library (g .library) ≡ read cells → (o : Read (List Statement)) → g .statements cells ≡ o
+          → (o >>= λ ss. conclude cells ss (length (m .report))) ≡ refused number line → Behind number
+      unfolding _>>=_
+      from-statements cells p (refused n l) q e =
+          let same : n ≡ number = cc in
+          inl (rw same at (checked .numbered cells n l q))
+      from-statements cells p (read ss) q e =
+          let pair : PairRead g = record { cells = cells; statements = ss; cellsRead = p; statementsRead = q } in
+          inr (concludes-long cells ss (pair-sound pair) (length (m .report)) number line e)
+
+      from-library : (o : Read (List Cell)) → library (g .library) ≡ o
+          → (o >>= λ cells. g .statements cells >>= λ ss. conclude cells ss (length (m .report))) ≡ refused number line → Behind number
+      unfolding _>>=_
+      from-library (refused n l) p e =
+          let same : n ≡ number = cc in
+          let last : ℕ = length (g .library) + 1 in
+          inl (rw same at (subst (Within textNumber last) p (library-within last (g .library) (omega arith)) .0))
+      from-library (read cells) p e = from-statements cells p (g .statements cells) refl e
+
+      behind : reading g (length (m .report)) ≡ refused number line → Behind number
+      unfolding reading
+      behind e = from-library (library (g .library)) refl e
+
+      pub entry-number : entry g m ≡ refused number line → No.ofEntry number ≡ true
+      unfolding entry
+      entry-number e = subst (Within No.ofEntry 0) e (within-weigh No.ofEntry 0 0 _ (omega arith) refl) .0
+
+      pub later-number : reading g (length (m .report)) ≡ refused number line → No.ofEntry number ≡ false
+      later-number e = ⊎-elim (λ t. text-not-entry number t) (λ r. ap No.ofEntry (r .0)) (behind e)
+
+    -- ---- a call that answers so
+
+    module _ (number line : ℕ) where
+      from-entry : {B : Type 0} → (entry g m ≡ refused number line → B) → (entry g m ≡ read tt → reading g (length (m .report)) ≡ refused number line → B)
+          → (o : Read (Unit {0})) → entry g m ≡ o → (o >> reading g (length (m .report))) ≡ refused number line → B
+      unfolding _>>_
+      from-entry at-entry later (refused n l) p e = at-entry (p ∙ cc)
+      from-entry at-entry later (read u) p e = later p e
+
+      from-answer : (o : Read Accepted) → answer o ≡ refused number line → o ≡ refused number line
+      unfolding answer
+      from-answer (refused n l) e = cc
+      from-answer (read a) e = refused-read (sym e)
+
+      -- It refuses at entry, or behind it.
+      pub refused-where : {B : Type 0} → answer (outcome g m) ≡ refused number line → (entry g m ≡ refused number line → B)
+          → (entry g m ≡ read tt → reading g (length (m .report)) ≡ refused number line → B) → B
+      unfolding outcome
+      refused-where e at-entry later = from-entry at-entry later (entry g m) refl (from-answer (outcome g m) e)
+
+    pub long-refused : (line : ℕ) → answer (outcome g m) ≡ refused No.reportLong line → length (m .report) < longestReport
+    long-refused line e =
+        refused-where No.reportLong line e
+        (λ p. absurd (true≢false (sym (entry-number No.reportLong line p))))
+        (λ p q. ⊎-elim (λ t. absurd (true≢false (sym t))) (λ r. r .1) (behind No.reportLong line q))
+
+    entry-short : (line : ℕ) → entry g m ≡ refused No.tableShort line → tableShort m ≡ true
+    unfolding entry weigh pick
+    entry-short line e =
+        by-test (tableShort m) (λ short. short)
+        (λ fits.
+        by-test (g .long)
+        (λ long. let z : _≡_ {A = ℕ} No.textLong No.tableShort = cc (rw (fits, long) at e) in absurd (omega arith))
+        (λ brief. refused-read (sym (rw (fits, brief) at e))))
+
+    pub short-refused : (line : ℕ) → answer (outcome g m) ≡ refused No.tableShort line → tableShort m ≡ true
+    short-refused line e =
+        refused-where No.tableShort line e
+        (λ p. entry-short line p)
+        (λ p q. absurd (true≢false (later-number No.tableShort line q)))
