@@ -3,6 +3,7 @@ pub mod Placing
 pub mod Visiting
 pub mod Accepting
 pub mod Bounding
+pub mod Needing
 pub mod Planning
 pub mod Exactness
 pub mod Laws

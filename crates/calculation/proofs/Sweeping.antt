@@ -43,7 +43,7 @@ pub alters-renew : (v : Visit) (xs : List ℕ) → v .node < length xs → alter
 unfolding alters renew
 alters-renew v xs h = rw (at-set-same xs (v .node) (least xs (v .ways)) h)
 
-same-alters : (rule : Rule) (v : Visit) (xs : List ℕ) → at (rule xs v) (v .node) ≡ at xs (v .node) → alters rule v xs ≡ false
+pub same-alters : (rule : Rule) (v : Visit) (xs : List ℕ) → at (rule xs v) (v .node) ≡ at xs (v .node) → alters rule v xs ≡ false
 unfolding alters
 same-alters rule v xs e = rw (eq-eqb (at (rule xs v) (v .node)) (at xs (v .node)) e)
 

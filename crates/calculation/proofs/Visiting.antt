@@ -61,7 +61,7 @@ pub observes-has : (c : Cell) (role : Role) → Observes c role → Has c role
 observes-has c (setting e) h = absurd h
 observes-has c (observing i) h = h
 
-value-from : (c : Cell) (role : Role) → List·Memᴰ role valueRoles → Sets c role
+pub value-from : (c : Cell) (role : Role) → List·Memᴰ role valueRoles → Sets c role
 unfolding valueRoles
 value-from c role (List·Memᴰ·head e) = rw e (omega arith)
 value-from c role (List·Memᴰ·tail (List·Memᴰ·head e)) = rw e (omega arith)
@@ -73,7 +73,7 @@ value-listed c (setting (suc zero)) h = List·Memᴰ·tail (List·Memᴰ·head r
 value-listed c (setting (suc (suc e))) h = absurd (omega arith)
 value-listed c (observing i) h = absurd h
 
-pins-from : (count i : ℕ) (role : Role) → List·Memᴰ role (pinRoles count i) → (j : ℕ) × (i ≤ j) × (j < i + count) × (role ≡ observing j)
+pub pins-from : (count i : ℕ) (role : Role) → List·Memᴰ role (pinRoles count i) → (j : ℕ) × (i ≤ j) × (j < i + count) × (role ≡ observing j)
 unfolding pinRoles
 pins-from zero i role m = absurd (List·Memᴰ·not-nil m)
 pins-from (suc count) i role (List·Memᴰ·head e) = (i, omega arith, omega arith, e)

@@ -126,7 +126,7 @@ module _ (cells : List Cell) (ss : List Statement) (sound : BothSound cells ss) 
     pins-most : cell .pins ≤ Size.pins
     pins-most = gate-cell sound gate listed .header .most-pins
 
-    lines-are : gateLines netlist i ≡ linesOf gate
+    pub lines-are : gateLines netlist i ≡ linesOf gate
     unfolding gateLines
     lines-are = ext-getD 0 (take Size.gateLines (drop (gatePlace i + 1) netlist)) (linesOf gate) count each
       where

@@ -1,4 +1,5 @@
--- The theorems that specs/Statements.antt and specs/Stages.antt state, and the laws of tables and sweeps that other crates cite.
+-- The theorems that specs/Statements.antt, specs/Stages.antt and specs/Idle.antt state, and the laws of tables and sweeps that
+-- other crates cite.
 -- Assumes nothing.
 use mathlib.Core.List.{List}
 use mathlib.Core.Path.{refl}
@@ -6,7 +7,7 @@ use Prim.Native.Nat.{ℕ, suc, _+_}
 use native.Mathlib.Nat.{le-refl, le-trans}
 use native.Mathlib.Omega.{arith}
 use lib.ListN.{length}
-use Rattle.plans.specs.Sweep.{at, renew, lower, Above}
+use Rattle.plans.specs.Sweep.{at, renew, lower, Above, Lowering.keeps, Lowering.renews}
 use Rattle.plans.specs.Statements.{
   AttainedStays,
   NoneCheaper,
@@ -31,7 +32,9 @@ use Rattle.plans.proofs.Staging as Staging
 -- ---- tables, visits and sweeps, for the crates above
 pub use Rattle.plans.proofs.Table.{at-getD, at-set-same}
 pub use Rattle.plans.proofs.Falling.{never-above}
-pub use Rattle.plans.proofs.Keeping.{Stores, lower-stores, renew-stores, sweep-append, sweep-length, sweep-other, settles-length}
+pub use Rattle.plans.proofs.Keeping.{Stores, lower-stores, renew-stores, rule-other, sweep-append, sweep-length, sweep-other, settles-length}
+-- ---- visits that change nothing, as specs/Idle.antt states it
+pub use Rattle.plans.proofs.Idling.{idles-rest, asleep-skipped, skipped-sweep, woken-on, made-watched, asleep-settles}
 -- ---- runs one after the other, as specs/Stages.antt states them
 pub use Rattle.plans.proofs.Staging.{ranked-apart, stages-within, stages-once, stages-left, stages-exact, first-start}
 -- ---- what a reader may ask of exact numbers, and what requests K10, K11 and K14 rest on
@@ -102,7 +105,7 @@ renewing-works vs us xs all bounded inside once above bound h =
           let r : SettlesWithin renew vs ys bound (length us + 1) =
           renew-bound vs us ys bound all (λ n. le-trans (l .below n) (bounded n)) (λ v m. rw (l .long) (inside v m)) once (now ys l) h in
           (r .0, omega (arith, r .1));
-      lowers = λ ys zs k l s. Replacing.settles-same vs once (now ys l) .1 s;
+      lowering = λ ys l. renews refl once (now ys l);
     }
   where
     -- Numbers that fall elsewhere keep the visited ones above their sums.
@@ -118,5 +121,5 @@ leading-works vs outs xs leads bounded inside bound h =
           let r : SettlesWithin lower vs ys bound (length outs + 1) =
           lead-bound vs outs ys bound leads (λ n. le-trans (l .below n) (bounded n)) (λ v m. rw (l .long) (inside v m)) h in
           (r .0, omega (arith, r .1));
-      lowers = λ ys zs k l s. s;
+      lowering = λ ys l. keeps refl;
     }

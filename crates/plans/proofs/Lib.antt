@@ -4,6 +4,7 @@ mod Keeping
 mod Exactness
 mod Settling
 mod Replacing
+mod Idling
 mod Without
 mod Bounds
 mod Staging

@@ -2,7 +2,7 @@
 -- Assumes nothing.
 use mathlib.Core.List.{List, [], _∷_, List·Memᴰ, List·Memᴰ·head, List·Memᴰ·tail}
 use mathlib.Core.Logic.{_↔_}
-use mathlib.Core.Path.{_≡_, refl, sym, _∙_, ap}
+use mathlib.Core.Path.{_≡_, refl, sym, _∙_, ap, subst}
 use Prim.Native.Nat.{ℕ, zero, suc, _≤_, _<_}
 use native.Mathlib.Decide.{ℕ-discrete, decLt}
 use native.Mathlib.Nat.{le-refl, le-trans, le-of-eq, le-antisymm}
@@ -10,7 +10,7 @@ use native.Mathlib.Omega.{arith}
 use lib.ListN.{length, set}
 use Rattle.cost.specs.Cost.{lesser}
 use Rattle.plans.specs.System.{Visit}
-use Rattle.plans.specs.Sweep.{at, least, renew, lower, sweep, sweeps, Settles, run, Once, Above}
+use Rattle.plans.specs.Sweep.{at, least, Rule, renew, lower, sweep, sweeps, Settles, run, Once, Above, Lowering, Lowering.keeps, Lowering.renews}
 use Rattle.plans.proofs.Falling.{lesser-right, lesser-most, least-bound, least-mono, lower-under, lower-here, lower-past}
 use Rattle.plans.proofs.Keeping.{lower-stores, rule-other}
 
@@ -95,3 +95,21 @@ module _ (vs : List Visit) (once : Once vs) where
   unfolding run
   run-same zero xs h = refl
   run-same (suc fuel) xs h = rw (sweep-same xs h, run-same fuel (sweep lower vs xs) (sweep-above xs h))
+
+-- ---- by either rule
+
+module _ {rule : Rule} {vs : List Visit} where
+  -- One visit, and visits one after the other.
+  pub visit-lowers : {xs : List ℕ} → Lowering rule vs xs → (v : Visit) → List·Memᴰ v vs → rule xs v ≡ lower xs v
+  visit-lowers {xs} (keeps e) v m = ap (λ (r : Rule). r xs v) e
+  visit-lowers {xs} (renews e once above) v m = ap (λ (r : Rule). r xs v) e ∙ renew-lower xs v (above v m)
+
+  pub sweep-lowers : {xs : List ℕ} → Lowering rule vs xs → (us : List Visit) → ((v : Visit) → List·Memᴰ v us → List·Memᴰ v vs) → (sweep rule us xs ≡ sweep lower us xs) × Lowering rule vs (sweep lower us xs)
+  sweep-lowers {xs} (keeps e) us i = (ap (λ (r : Rule). sweep r us xs) e, keeps e)
+  sweep-lowers {xs} (renews e once above) us i =
+      let t : (sweep renew us xs ≡ sweep lower us xs) × Above vs (sweep lower us xs) = sweep-agrees vs once us xs i above in
+      (ap (λ (r : Rule). sweep r us xs) e ∙ t .0, renews e once (t .1))
+
+  pub settles-lowers : {xs ys : List ℕ} {k : ℕ} → Lowering rule vs xs → Settles rule vs xs k ys → Settles lower vs xs k ys
+  settles-lowers {xs} {ys} {k} (keeps e) s = subst (λ (r : Rule). Settles r vs xs k ys) e s
+  settles-lowers {xs} {ys} {k} (renews e once above) s = settles-same vs once above .1 (subst (λ (r : Rule). Settles r vs xs k ys) e s)

@@ -33,6 +33,7 @@ use Rattle.plans.proofs.Table.{Under, under-refl, under-trans}
 use Rattle.plans.proofs.Falling.{least-below, rests-least, sweeps-under, way-same}
 use Rattle.plans.proofs.Keeping.{lower-stores, settles-other}
 use Rattle.plans.proofs.Settling.{settles-once}
+use Rattle.plans.proofs.Replacing.{settles-lowers}
 use Rattle.plans.proofs.Exactness.{AllAttained, Closed, lower-attains, sweeps-attained, plan-bound, exact}
 
 pub settles-under : {vs : List Visit} {xs ys : List ℕ} {k : ℕ} → Settles lower vs xs k ys → Under ys xs
@@ -95,7 +96,7 @@ works-left : {s : Stage} {xs ys : List ℕ} → Works s xs → Left (s .visits) 
 works-left w l =
     record {
       within = λ zs m. w .within zs (left-trans l m);
-      lowers = λ zs us k m. w .lowers zs us k (left-trans l m);
+      lowering = λ zs m. w .lowering zs (left-trans l m);
     }
 
 all-left : (ss : List Stage) (xs ys : List ℕ) → Left (allVisits ss) xs ys → AllWork ss xs → AllWork ss ys
@@ -108,7 +109,7 @@ all-left (s ∷ ss) xs ys l w = (
 -- Where a stage has settled, the later ones work on what it leaves.
 module _ (s : Stage) (ss : List Stage) (xs : List ℕ) (apart : Apart (s ∷ ss)) (works : AllWork (s ∷ ss) xs) where
   settles-lower : (ys : List ℕ) (k : ℕ) → Settles (s .rule) (s .visits) xs k ys → Settles lower (s .visits) xs k ys
-  settles-lower ys k t = works .0 .lowers xs ys k (left-here (s .visits) xs) t
+  settles-lower ys k t = settles-lowers (works .0 .lowering xs (left-here (s .visits) xs)) t
 
   later-work : (ys : List ℕ) (k : ℕ) → Settles (s .rule) (s .visits) xs k ys → AllWork ss ys
   later-work ys k t =
@@ -123,6 +124,7 @@ stages-within [] xs apart works = tt
 stages-within (s ∷ ss) xs apart works = (
   works .0 .within xs (left-here (s .visits) xs),
   λ ys k t. stages-within ss ys (apart .1) (later-work s ss xs apart works ys k t),
+  works .0 .lowering xs (left-here (s .visits) xs),
 )
 
 pub stages-once : StagesOnce

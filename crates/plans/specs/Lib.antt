@@ -1,5 +1,6 @@
 pub mod System
 pub mod Sweep
+pub mod Idle
 pub mod Exact
 pub mod Trace
 pub mod Statements

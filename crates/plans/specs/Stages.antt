@@ -6,7 +6,7 @@ use mathlib.Core.Path.{_≡_}
 use Prim.Native.Nat.{ℕ, _≤_, _<_}
 use lib.ListN.{length}
 use Rattle.plans.specs.System.{Way, Visit, System, Offers}
-use Rattle.plans.specs.Sweep.{at, Rule, renew, lower, Settles, Run, run, Inside, Bounded, Visited, Once, Above, Leads}
+use Rattle.plans.specs.Sweep.{at, Rule, renew, lower, Settles, Run, run, Inside, Bounded, Visited, Once, Above, Lowering, Leads}
 use Rattle.plans.specs.Exact.{Exact, Start}
 use Rattle.plans.specs.Statements.{SettlesWithin}
 
@@ -53,13 +53,10 @@ pub record Left (vs : List Visit) (xs ys : List ℕ) : Type 0 where
   pub below : (n : ℕ) → at ys n ≤ at xs n
   pub kept : (n : ℕ) → Visited vs n → at ys n ≡ at xs n
 
--- From such numbers the stage settles within its bound, and as if its numbers kept the lesser.
+-- From such numbers the stage settles within its bound, and its numbers only fall.
 pub record Works (s : Stage) (xs : List ℕ) : Type 0 where
   pub within : (ys : List ℕ) → Left (s .visits) xs ys → SettlesWithin (s .rule) (s .visits) ys (s .bound) (s .bound)
-  pub lowers :
-      (ys zs : List ℕ) (count : ℕ) → Left (s .visits) xs ys →
-      Settles (s .rule) (s .visits) ys count zs →
-      Settles lower (s .visits) ys count zs
+  pub lowering : (ys : List ℕ) → Left (s .visits) xs ys → Lowering (s .rule) (s .visits) ys
 
 -- Each of the stages works from the numbers at the start of the first.
 abbrev pub AllWork : List Stage → List ℕ → Type 0
@@ -103,12 +100,13 @@ Ranked rank low (s ∷ ss) =
 abbrev pub RankedApart : Type 0
 RankedApart = (rank : ℕ → ℕ) (low : ℕ) (ss : List Stage) → Ranked rank low ss → Apart ss
 
--- `stages-within`: each stage settles within its bound, on whatever those before it settle.
+-- `stages-within`: each stage settles within its bound and only lowers, on whatever those before it settle.
 abbrev pub AllWithin : List Stage → List ℕ → Type 0
 AllWithin [] xs = Unit {0}
 AllWithin (s ∷ ss) xs =
     SettlesWithin (s .rule) (s .visits) xs (s .bound) (s .bound)
     × ((ys : List ℕ) (count : ℕ) → Settles (s .rule) (s .visits) xs count ys → AllWithin ss ys)
+    × Lowering (s .rule) (s .visits) xs
 
 abbrev pub StagesWithin : Type 0
 StagesWithin = (ss : List Stage) (xs : List ℕ) → Apart ss → AllWork ss xs → AllWithin ss xs

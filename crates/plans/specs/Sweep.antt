@@ -118,6 +118,11 @@ Once vs = (u v : Visit) → List·Memᴰ u vs → List·Memᴰ v vs → u .node 
 abbrev pub Above : List Visit → List ℕ → Type 0
 Above vs xs = (v : Visit) → List·Memᴰ v vs → least xs (v .ways) ≤ at xs (v .node)
 
+-- The rule is the second, or the first where both come to the same, sweep after sweep (`rules-agree` of proofs/Laws.antt).
+pub data Lowering (rule : Rule) (vs : List Visit) (xs : List ℕ) : Type 0 where
+  keeps : rule ≡ lower → Lowering rule vs xs
+  renews : rule ≡ renew → Once vs → Above vs xs → Lowering rule vs xs
+
 -- The node `o` leads the way `w`: the way needs it, and needs no other node that is visited. Of an observing row it is
 -- "observe the output", the observed output of the row's gate.
 pub record Lead (vs : List Visit) (w : Way) (o : ℕ) : Type 0 where

@@ -4,5 +4,5 @@
 //
 // No call is open to others, since there is no code. Other crates cite the pages of specs/, in this
 // order: System (ways, plans and their cost), Sweep (visits, sweeps and runs), Exact (what a number is
-// held against), Stages (runs one after the other), Trace (which way a number was last lowered by),
-// Statements; and proofs.Laws.
+// held against), Stages (runs one after the other), Idle (visits that a sweep may leave out), Trace
+// (which way a number was last lowered by), Statements; and proofs.Laws.

@@ -1,7 +1,7 @@
 -- The sizes of document 01 and those that follow from them, as src/lib.rt has them. Each is an `abbrev`, so that arithmetic
 -- sees its value; the published sizes of the three lent tables are `library`, `netlist` and `numbers`.
 -- Assumes nothing.
-use Prim.Native.Nat.{ℕ, _+_, _*_}
+use Prim.Native.Nat.{ℕ, _+_, _*_, _/_}
 
 -- "2 a text above 65,535 bytes"
 abbrev pub textBytes : ℕ
@@ -125,3 +125,19 @@ netlist = gatesAt + gates * gateWords
 
 abbrev pub numbers : ℕ
 numbers = lines * costs
+
+-- ---- the arrays of crate `awake`
+
+-- A bit for each gate, in words.
+abbrev pub wordBits : ℕ
+wordBits = 64
+
+abbrev pub awakeWords : ℕ
+awakeWords = gates / wordBits + 1
+
+-- A number for each line, and one for each pin of each gate. Both count from 1: place 0 is for none.
+abbrev pub linePlaces : ℕ
+linePlaces = 1 + lines
+
+abbrev pub pinPlaces : ℕ
+pinPlaces = 1 + gates * pins

@@ -87,3 +87,15 @@ pub const NETLIST: usize = GATES_AT + GATES * GATE_WORDS;
 // ---- the numbers table
 
 pub const NUMBERS: usize = LINES * COSTS;
+
+// ---- the arrays of crate `awake`
+
+// A bit for each gate, in words.
+pub const WORD_BITS: usize = 64;
+
+pub const AWAKE_WORDS: usize = GATES / WORD_BITS + 1;
+
+// A number for each line, and one for each pin of each gate. Both count from 1: place 0 is for none.
+pub const LINE_PLACES: usize = 1 + LINES;
+
+pub const PIN_PLACES: usize = 1 + GATES * PINS;

@@ -23,7 +23,8 @@ use Rattle.calculation.specs.Calculation.{startLine, startLines, start}
 use Rattle.calculation.specs.Acceptance.{BothSound}
 use Rattle.gates.specs.Tables.{kindNumber, byRole, gateVisit}
 use Rattle.gates.proofs.Bridge.{noGate, pins-number, visit-is}
-use Rattle.sweep.specs.Order.{inTurn, gateVisits, sweepVisits}
+use Rattle.sweep.specs.Order.{gateVisits, sweepVisits}
+use Rattle.plans.specs.Idle.{inTurn}
 use Rattle.sweep.specs.Start.{startNumber, lineStart, linesStart}
 
 -- ---- turns
@@ -92,7 +93,7 @@ module _ (cells : List Cell) (ss : List Statement) (sound : BothSound cells ss) 
   abbrev gate : ℕ → Gate
   gate i = getD (gatesOf ss) i noGate
 
-  values-are : (k : Kind) (i : ℕ) → i < length (gatesOf ss) → gateVisits 0 (kindNumber k) library netlist i ≡ both k cells (gate i)
+  pub values-are : (k : Kind) (i : ℕ) → i < length (gatesOf ss) → gateVisits 0 (kindNumber k) library netlist i ≡ both k cells (gate i)
   unfolding inTurn byRole pick W.gateVisits valueRoles groupIndex
   values-are k i h =
       rw (visit-is cells ss sound behind past i h k (setting 0) (omega arith), visit-is cells ss sound behind past i h k (setting 1) (omega arith))
@@ -103,7 +104,7 @@ module _ (cells : List Cell) (ss : List Statement) (sound : BothSound cells ss) 
       let z : p ≡ 1 + p - 1 = omega arith in
       ap (gateVisit 1 (kindNumber k) library netlist i) z ∙ visit-is cells ss sound behind past i h k (observing (1 + p)) (omega arith, omega arith)
 
-  pins-are : (k : Kind) (i : ℕ) → i < length (gatesOf ss) → gateVisits 1 (kindNumber k) library netlist i ≡ pins k cells (gate i)
+  pub pins-are : (k : Kind) (i : ℕ) → i < length (gatesOf ss) → gateVisits 1 (kindNumber k) library netlist i ≡ pins k cells (gate i)
   unfolding byRole pick
   pins-are k i h =
       rw (pins-number cells ss sound behind past i h)

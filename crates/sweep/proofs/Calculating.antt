@@ -4,10 +4,10 @@ use mathlib.Core.List.{List, [], _∷_}
 use mathlib.Core.Path.{_≡_, refl, ap, _∙_}
 use Prim.Native.Nat.{ℕ, _+_, _*_, _≤_}
 use native.Mathlib.Omega.{arith}
-use lib.ListN.{length, drop}
+use lib.ListN.{length, getD, drop}
 use Rattle.sizes.specs.Sizes as Size
 use Rattle.reading.specs.Choice.{pick}
-use Rattle.plans.specs.Sweep.{renew, lower, Settles}
+use Rattle.plans.specs.Sweep.{renew, lower, Settles, Lowering}
 use Rattle.plans.specs.Stages.{AllWithin, Stages, Stages.ended, Stages.stage}
 use Rattle.plans.specs.Statements.{SettlesWithin}
 use Rattle.plans.proofs.Laws.{settles-length}
@@ -21,14 +21,19 @@ use Rattle.calculation.proofs.Laws.{gates-apiece, within, settled-once}
 use Rattle.gates.specs.Tables.{kindNumber, byRole}
 use Rattle.gates.specs.Fits.{TablesFit}
 use Rattle.gates.proofs.Bridge.{tables-fit, netlist-room}
-use Rattle.sweep.specs.Fits.{RunFits}
+use Rattle.awake.specs.Lines.{LinesStand, Chained, Driven}
+use Rattle.sweep.specs.Fits.{FreshFits}
 use Rattle.sweep.specs.Order.{ruleOf, sweepVisits}
 use Rattle.sweep.specs.Ready.{Holds}
-use Rattle.sweep.specs.Runs.{Runs}
 use Rattle.sweep.specs.Start.{linesStart}
 use Rattle.sweep.proofs.Bridge.{setting-sweep, observing-sweep, start-is}
+use Rattle.sweep.proofs.Linking.{lines-stand, reads-linked, drives-linked}
 use Rattle.sweep.proofs.Starting.{laid-length}
 use Rattle.sweep.proofs.Visits.{rule-stores}
+
+kind-few : (k : Kind) → kindNumber k ≤ 1
+kind-few combinational = omega arith
+kind-few sequential = omega arith
 
 module _ {library netlist : List ℕ} {cells : List Cell} {ss : List Statement} (h : Holds library netlist cells ss) where
   abbrev gates : ℕ
@@ -53,93 +58,124 @@ module _ {library netlist : List ℕ} {cells : List Cell} {ss : List Statement} 
   observes : (k : Kind) → sweepVisits 1 (kindNumber k) library netlist ≡ observingVisits k cells (gatesOf ss)
   observes k = rw (h .cellsStand, h .statementsStand) (observing-sweep cells ss (h .sound) (h .behind) (h .past) k)
 
-  -- ---- each run ends ..
+  pub stands : LinesStand netlist (getD netlist 0 0)
+  stands = rw (h .statementsStand) (lines-stand cells ss (h .sound) (h .behind) (h .past))
 
-  run-fits : (role kind : ℕ) {xs : List ℕ} → role ≤ 1 → kind ≤ 1 → length xs ≡ Size.numbers → Runs (ruleOf role) (sweepVisits role kind library netlist) xs → RunFits role kind library netlist xs
-  run-fits role kind a b n r = record { sweepFits = record { roleFits = a; kindFits = b; tablesFit = fit; size = n }; runs = r }
+  -- ---- each run ends, with arrays that tell who reads and drives a line ..
 
-  set-runs : (k : Kind) {xs : List ℕ} → SettlesWithin renew (settingVisits k cells (gatesOf ss)) xs (2 * gates + 1) (2 * gates + 1) → Runs (ruleOf 0) (sweepVisits 0 (kindNumber k) library netlist) xs
-  unfolding byRole pick
-  set-runs k {xs} w =
-      rw (sets k)
-      (record {
-        flag = changes-renew (settingVisits k cells (gatesOf ss)) (gates-apiece cells ss (h .sound) k);
-        fuel = 2 * gates + 1;
-        bound = 2 * gates + 1;
-        within = w;
-        small = omega (arith, h .sound .netlist .few);
-      })
+  module _ {first next driver : List ℕ} (chained : Chained netlist (getD netlist 0 0) first next) (driven : Driven netlist (getD netlist 0 0) driver) where
+    set-fits : (k : Kind) {xs : List ℕ} → length xs ≡ Size.numbers → SettlesWithin renew (settingVisits k cells (gatesOf ss)) xs (2 * gates + 1) (2 * gates + 1)
+        → Lowering renew (settingVisits k cells (gatesOf ss)) xs → FreshFits 0 (kindNumber k) library netlist first next driver xs
+    unfolding byRole pick
+    set-fits k {xs} n w low =
+        record {
+          linksFit =
+              record {
+                roleFits = omega arith;
+                kindFits = kind-few k;
+                tablesFit = fit;
+                linked = rw (h .cellsStand, h .statementsStand) (reads-linked cells ss (h .sound) (h .behind) (h .past) k (rw (h .statementsStand) at chained) (rw (h .statementsStand) at driven));
+              };
+          size = n;
+          lowering = rw (sets k) low;
+          runs =
+              rw (sets k)
+              (record {
+                flag = changes-renew (settingVisits k cells (gatesOf ss)) (gates-apiece cells ss (h .sound) k);
+                fuel = 2 * gates + 1;
+                bound = 2 * gates + 1;
+                within = w;
+                small = omega (arith, h .sound .netlist .few);
+              });
+        }
 
-  observe-runs : (k : Kind) {xs : List ℕ} → SettlesWithin lower (observingVisits k cells (gatesOf ss)) xs (gates + 1) (gates + 1) → Runs (ruleOf 1) (sweepVisits 1 (kindNumber k) library netlist) xs
-  unfolding byRole pick
-  observe-runs k {xs} w =
-      rw (observes k)
-      (record {
-        flag = changes-lower (observingVisits k cells (gatesOf ss));
-        fuel = gates + 1;
-        bound = gates + 1;
-        within = w;
-        small = omega (arith, h .sound .netlist .few);
-      })
+    observe-fits : (k : Kind) {xs : List ℕ} → length xs ≡ Size.numbers → SettlesWithin lower (observingVisits k cells (gatesOf ss)) xs (gates + 1) (gates + 1)
+        → Lowering lower (observingVisits k cells (gatesOf ss)) xs → FreshFits 1 (kindNumber k) library netlist first next driver xs
+    unfolding byRole pick
+    observe-fits k {xs} n w low =
+        record {
+          linksFit =
+              record {
+                roleFits = omega arith;
+                kindFits = kind-few k;
+                tablesFit = fit;
+                linked = rw (h .cellsStand, h .statementsStand) (drives-linked cells ss (h .sound) (h .behind) (h .past) k (rw (h .statementsStand) at chained) (rw (h .statementsStand) at driven));
+              };
+          size = n;
+          lowering = rw (observes k) low;
+          runs =
+              rw (observes k)
+              (record {
+                flag = changes-lower (observingVisits k cells (gatesOf ss));
+                fuel = gates + 1;
+                bound = gates + 1;
+                within = w;
+                small = omega (arith, h .sound .netlist .few);
+              });
+        }
 
-  set-settled : (k : Kind) {xs ys : List ℕ} {count : ℕ} → Left 0 (kindNumber k) xs count ys → Settles renew (settingVisits k cells (gatesOf ss)) xs count ys
-  unfolding byRole pick
-  set-settled k s = rw (sets k) at s
+    set-settled : (k : Kind) {xs ys : List ℕ} {count : ℕ} → Left 0 (kindNumber k) xs count ys → Settles renew (settingVisits k cells (gatesOf ss)) xs count ys
+    unfolding byRole pick
+    set-settled k s = rw (sets k) at s
 
-  observe-settled : (k : Kind) {xs ys : List ℕ} {count : ℕ} → Left 1 (kindNumber k) xs count ys → Settles lower (observingVisits k cells (gatesOf ss)) xs count ys
-  unfolding byRole pick
-  observe-settled k s = rw (observes k) at s
+    observe-settled : (k : Kind) {xs ys : List ℕ} {count : ℕ} → Left 1 (kindNumber k) xs count ys → Settles lower (observingVisits k cells (gatesOf ss)) xs count ys
+    unfolding byRole pick
+    observe-settled k s = rw (observes k) at s
 
-  -- ---- .. and leaves the numbers of the calculation
+    -- ---- .. and leaves the numbers of the calculation
 
-  module _ {x0 : List ℕ} (begun : x0 ≡ linesStart netlist Size.lines 1) where
-    at-start : x0 ≡ start ss
-    at-start = begun ∙ starts
+    module _ {x0 : List ℕ} (begun : x0 ≡ linesStart netlist Size.lines 1) where
+      at-start : x0 ≡ start ss
+      at-start = begun ∙ starts
 
-    start-length : length x0 ≡ Size.numbers
-    start-length = ap length begun ∙ laid-length netlist Size.lines 1
+      start-length : length x0 ≡ Size.numbers
+      start-length = ap length begun ∙ laid-length netlist Size.lines 1
 
-    -- Each of the runs settles within its bound, on whatever those before it leave.
-    ends : AllWithin (stages cells (gatesOf ss)) x0
-    ends = rw at-start (within cells ss (h .sound))
+      -- Each of the runs settles within its bound, on whatever those before it leave.
+      ends : AllWithin (stages cells (gatesOf ss)) x0
+      ends = rw at-start (within cells ss (h .sound))
 
-    pub cc-fits : RunFits 0 0 library netlist x0
-    cc-fits = run-fits 0 0 (omega arith) (omega arith) start-length (set-runs combinational (ends .0))
+      pub cc-fits : FreshFits 0 0 library netlist first next driver x0
+      cc-fits = set-fits combinational start-length (ends .0) (ends .2)
 
-    module _ {x1 : List ℕ} {cc : ℕ} (rcc : Left 0 0 x0 cc x1) where
-      settled-cc : Settles renew (settingVisits combinational cells (gatesOf ss)) x0 cc x1
-      settled-cc = set-settled combinational rcc
+      module _ {x1 : List ℕ} {cc : ℕ} (rcc : Left 0 0 x0 cc x1) where
+        settled-cc : Settles renew (settingVisits combinational cells (gatesOf ss)) x0 cc x1
+        settled-cc = set-settled combinational rcc
 
-      cc-length : length x1 ≡ Size.numbers
-      cc-length = settles-length (ruleOf 0) (rule-stores 0) rcc ∙ start-length
+        cc-length : length x1 ≡ Size.numbers
+        cc-length = settles-length (ruleOf 0) (rule-stores 0) rcc ∙ start-length
 
-      pub sc-fits : RunFits 0 1 library netlist x1
-      sc-fits = run-fits 0 1 (omega arith) (omega arith) cc-length (set-runs sequential (ends .1 x1 cc settled-cc .0))
+        after-cc : AllWithin (drop 1 (stages cells (gatesOf ss))) x1
+        after-cc = ends .1 x1 cc settled-cc
 
-      module _ {x2 : List ℕ} {sc : ℕ} (rsc : Left 0 1 x1 sc x2) where
-        settled-sc : Settles renew (settingVisits sequential cells (gatesOf ss)) x1 sc x2
-        settled-sc = set-settled sequential rsc
+        pub sc-fits : FreshFits 0 1 library netlist first next driver x1
+        sc-fits = set-fits sequential cc-length (after-cc .0) (after-cc .2)
 
-        sc-length : length x2 ≡ Size.numbers
-        sc-length = settles-length (ruleOf 0) (rule-stores 0) rsc ∙ cc-length
+        module _ {x2 : List ℕ} {sc : ℕ} (rsc : Left 0 1 x1 sc x2) where
+          settled-sc : Settles renew (settingVisits sequential cells (gatesOf ss)) x1 sc x2
+          settled-sc = set-settled sequential rsc
 
-        after-sc : AllWithin (drop 2 (stages cells (gatesOf ss))) x2
-        after-sc = ends .1 x1 cc settled-cc .1 x2 sc settled-sc
+          sc-length : length x2 ≡ Size.numbers
+          sc-length = settles-length (ruleOf 0) (rule-stores 0) rsc ∙ cc-length
 
-        pub co-fits : RunFits 1 0 library netlist x2
-        co-fits = run-fits 1 0 (omega arith) (omega arith) sc-length (observe-runs combinational (after-sc .0))
+          after-sc : AllWithin (drop 2 (stages cells (gatesOf ss))) x2
+          after-sc = after-cc .1 x2 sc settled-sc
 
-        module _ {x3 : List ℕ} {co : ℕ} (rco : Left 1 0 x2 co x3) where
-          settled-co : Settles lower (observingVisits combinational cells (gatesOf ss)) x2 co x3
-          settled-co = observe-settled combinational rco
+          pub co-fits : FreshFits 1 0 library netlist first next driver x2
+          co-fits = observe-fits combinational sc-length (after-sc .0) (after-sc .2)
 
-          pub so-fits : RunFits 1 1 library netlist x3
-          so-fits =
-              run-fits 1 1 (omega arith) (omega arith) (settles-length (ruleOf 1) (rule-stores 1) rco ∙ sc-length)
-              (observe-runs sequential (after-sc .1 x3 co settled-co .0))
+          module _ {x3 : List ℕ} {co : ℕ} (rco : Left 1 0 x2 co x3) where
+            settled-co : Settles lower (observingVisits combinational cells (gatesOf ss)) x2 co x3
+            settled-co = observe-settled combinational rco
 
-          pub calculated : {x4 : List ℕ} {so : ℕ} → Left 1 1 x3 so x4 → record { numbers = x4; counts = record { cc = cc; sc = sc; co = co; so = so } } ≡ analysed cells ss
-          calculated {x4} {so} rso =
-              let all : Stages (stages cells (gatesOf ss)) x0 (cc ∷ sc ∷ co ∷ so ∷ []) x4 =
-              stage settled-cc (stage settled-sc (stage settled-co (stage (observe-settled sequential rso) (ended refl)))) in
-              settled-once cells ss (h .sound) (record { numbers = x4; counts = record { cc = cc; sc = sc; co = co; so = so } }) (rw at-start at all)
+            after-co : AllWithin (drop 3 (stages cells (gatesOf ss))) x3
+            after-co = after-sc .1 x3 co settled-co
+
+            pub so-fits : FreshFits 1 1 library netlist first next driver x3
+            so-fits = observe-fits sequential (settles-length (ruleOf 1) (rule-stores 1) rco ∙ sc-length) (after-co .0) (after-co .2)
+
+            pub calculated : {x4 : List ℕ} {so : ℕ} → Left 1 1 x3 so x4 → record { numbers = x4; counts = record { cc = cc; sc = sc; co = co; so = so } } ≡ analysed cells ss
+            calculated {x4} {so} rso =
+                let all : Stages (stages cells (gatesOf ss)) x0 (cc ∷ sc ∷ co ∷ so ∷ []) x4 =
+                stage settled-cc (stage settled-sc (stage settled-co (stage (observe-settled sequential rso) (ended refl)))) in
+                settled-once cells ss (h .sound) (record { numbers = x4; counts = record { cc = cc; sc = sc; co = co; so = so } }) (rw at-start at all)

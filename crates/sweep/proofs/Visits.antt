@@ -18,7 +18,8 @@ use Rattle.calculation.specs.Changes.{alters, changes}
 use Rattle.calculation.proofs.Sweeping.{alters-lower, alters-renew, changes-append}
 use Rattle.gates.specs.Tables.{groupVisit, gateCell, gatePins, gateLines, byRole, visitGroup, visitPlace, gateVisit}
 use Rattle.gates.proofs.Roles.{role-set, role-observed}
-use Rattle.sweep.specs.Order.{ruleOf, inTurn, gateOfTurn}
+use Rattle.sweep.specs.Order.{ruleOf, gateOfTurn}
+use Rattle.plans.specs.Idle.{inTurn}
 use Rattle.sweep.specs.Runs.{Stored, Renewed, Swept}
 
 -- ---- one number

@@ -3,32 +3,57 @@
 use mathlib.Core.List.{List}
 use mathlib.Core.Path.{_≡_}
 use Prim.Native.Nat.{ℕ, _≤_, _<_}
-use lib.ListN.{length}
+use lib.ListN.{length, getD}
 use Rattle.sizes.specs.Sizes as Size
-use Rattle.gates.specs.Fits.{SumFits, GateFits, TablesFit}
+use Rattle.plans.specs.Sweep.{Lowering}
+use Rattle.awake.specs.Lines.{Chained, Driven}
+use Rattle.gates.specs.Fits.{SumFits, TablesFit}
 use Rattle.sweep.specs.Order.{ruleOf, sweepVisits}
 use Rattle.sweep.specs.Runs.{Runs}
+use Rattle.sweep.specs.Waking.{Linked, Resting}
 
 -- One visit: a group at a gate's lines, and the place of its number.
 pub record VisitFits (kind : ℕ) (library : List ℕ) (group : ℕ) (lines : List ℕ) (pins : ℕ) (numbers : List ℕ) (place : ℕ) : Type 0 where
   pub sumFits : SumFits kind library group lines pins numbers
   pub placeFits : place < Size.numbers
 
--- The visits of one gate.
-pub record GateVisitsFit (role kind : ℕ) (library netlist numbers : List ℕ) (gate : ℕ) : Type 0 where
+-- The gates that need a line's number may be woken.
+pub record WakeFits (role line gates : ℕ) (first next driver awake : List ℕ) : Type 0 where
   pub roleFits : role ≤ 1
-  pub kindFits : kind ≤ 1
-  pub gateFits : GateFits library netlist gate
-  pub size : length numbers ≡ Size.numbers
+  pub inside : line ≤ Size.lines
+  pub netlist : List ℕ
+  pub chained : Chained netlist gates first next
+  pub driven : Driven netlist gates driver
+  pub size : length awake ≡ Size.awakeWords
 
--- A sweep.
-pub record SweepFits (role kind : ℕ) (library netlist numbers : List ℕ) : Type 0 where
+-- The tables, and the arrays beside them, of a role and a kind.
+pub record LinksFit (role kind : ℕ) (library netlist first next driver : List ℕ) : Type 0 where
   pub roleFits : role ≤ 1
   pub kindFits : kind ≤ 1
   pub tablesFit : TablesFit library netlist
+  pub linked : Linked role kind library netlist first next driver
+
+-- The visits of one gate.
+pub record GateVisitsFit (role kind : ℕ) (library netlist first next driver numbers awake : List ℕ) (gate : ℕ) : Type 0 where
+  pub linksFit : LinksFit role kind library netlist first next driver
+  pub inside : gate < getD netlist 0 0
   pub size : length numbers ≡ Size.numbers
+  pub awakeSize : length awake ≡ Size.awakeWords
+
+-- A sweep.
+pub record SweepFits (role kind : ℕ) (library netlist first next driver numbers awake : List ℕ) : Type 0 where
+  pub linksFit : LinksFit role kind library netlist first next driver
+  pub size : length numbers ≡ Size.numbers
+  pub resting : Resting role kind library netlist awake numbers
 
 -- Sweeps until nothing changes.
-pub record RunFits (role kind : ℕ) (library netlist numbers : List ℕ) : Type 0 where
-  pub sweepFits : SweepFits role kind library netlist numbers
+pub record RunFits (role kind : ℕ) (library netlist first next driver numbers awake : List ℕ) : Type 0 where
+  pub sweepFits : SweepFits role kind library netlist first next driver numbers awake
+  pub runs : Runs (ruleOf role) (sweepVisits role kind library netlist) numbers
+
+-- The same with all gates awake.
+pub record FreshFits (role kind : ℕ) (library netlist first next driver numbers : List ℕ) : Type 0 where
+  pub linksFit : LinksFit role kind library netlist first next driver
+  pub size : length numbers ≡ Size.numbers
+  pub lowering : Lowering (ruleOf role) (sweepVisits role kind library netlist) numbers
   pub runs : Runs (ruleOf role) (sweepVisits role kind library netlist) numbers

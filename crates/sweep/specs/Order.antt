@@ -1,21 +1,17 @@
 -- The visits of a sweep over the tables, in order. A role is a number, 0 setting and 1 observing, and a kind, 0 combinational
 -- and 1 sequential. `proofs/Bridge.antt` shows that at the tables of accepted cells and statements these are the visits of
 -- crate `calculation`. Assumes nothing.
-use mathlib.Core.List.{List, [], _∷_, _++_}
-use Prim.Native.Nat.{ℕ, zero, suc, _-_}
+use mathlib.Core.List.{List, [], _∷_}
+use Prim.Native.Nat.{ℕ, _-_}
 use lib.ListN.{getD}
 use Rattle.plans.specs.System.{Visit}
 use Rattle.plans.specs.Sweep.{Rule, renew, lower}
+use Rattle.plans.specs.Idle.{inTurn}
 use Rattle.gates.specs.Tables.{byRole, gatePins, visitCount, gateVisit}
 
 -- "each output number becomes the least row sum of its group"; "a line keeps the lesser of its number and the row sums"
 abbrev pub ruleOf : ℕ → Rule
 ruleOf role = byRole role renew lower
-
--- The visits of turn 0, of turn 1 and so on, of `count` turns.
-unfoldable pub inTurn : (ℕ → List Visit) → ℕ → List Visit
-inTurn visits zero = []
-inTurn visits (suc count) = inTurn visits count ++ visits count
 
 -- "visits the gates in netlist order"; "visit gates in reverse order"
 abbrev pub gateOfTurn : ℕ → ℕ → ℕ → ℕ
@@ -29,9 +25,12 @@ module _ (role kind : ℕ) (library netlist : List ℕ) where
   abbrev pub gateVisits : ℕ → List Visit
   gateVisits g = firstVisits g (visitCount role (gatePins library netlist g))
 
-  -- The visits of the gates of the first `count` turns.
+  -- The visits of a turn, and of the gates of the first `count` turns.
+  abbrev pub turnVisits : ℕ → List Visit
+  turnVisits turn = gateVisits (gateOfTurn role (getD netlist 0 0) turn)
+
   abbrev pub firstGates : ℕ → List Visit
-  firstGates count = inTurn (λ turn. gateVisits (gateOfTurn role (getD netlist 0 0) turn)) count
+  firstGates count = inTurn (λ turn. turnVisits turn) count
 
   -- One sweep over all gates.
   abbrev pub sweepVisits : List Visit

@@ -7,8 +7,19 @@
 // from the numbers that stand there. No inner function tests a bound: what each asks of the tables
 // (specs/Fits.antt) is shown once, by `calculate`.
 //
+// A sweep goes from one awake gate to the next (crate `awake`): a gate that is not awake is one whose
+// visits change nothing, so that numbers and counts are those of the whole sweep (specs/Waking.antt). A
+// run begins with at least those gates awake that are not idle; `run_all` begins with all.
+//
 // All goes by a role's number, 0 setting (CC, SC) and 1 observing (CO, SO), and by a kind's number,
 // 0 combinational (CC, CO) and 1 sequential (SC, SO).
+use awake::all_awake;
+use awake::chain;
+use awake::next_awake;
+use awake::note_drivers;
+use awake::rest;
+use awake::wake_driver;
+use awake::wake_readers;
 use calculation::Counts;
 use cost::NEVER;
 use gates::Sum;
@@ -28,7 +39,7 @@ use gates::visits::visit_place;
 ghost use mathlib.Core.Path.{_≡_};
 ghost use mathlib.Core.Bool.{_||_};
 ghost use mathlib.Core.List.{List, _++_};
-ghost use Prim.Native.Nat.{_+_, _*_, _-_, _≤_, _<_};
+ghost use Prim.Native.Nat.{ℕ, _+_, _*_, _-_, _≤_, _<_};
 ghost use lib.ListN.{length, drop};
 ghost use lib.Seq.{sets};
 ghost use Rattle.sizes.specs.Sizes as Size;
@@ -39,11 +50,13 @@ ghost use Rattle.netlist.specs.Netlist.{Statement};
 ghost use Rattle.calculation.specs.Calculation.{analysed};
 ghost use Rattle.gates.specs.Sums.{sumNumber};
 ghost use Rattle.gates.specs.Tables.{byRole, groupVisit};
-ghost use Rattle.sweep.specs.Fits.{VisitFits, GateVisitsFit, SweepFits, RunFits};
+ghost use Rattle.awake.specs.Lines.{Chained, Driven};
+ghost use Rattle.sweep.specs.Fits.{VisitFits, WakeFits, GateVisitsFit, SweepFits, RunFits, FreshFits};
 ghost use Rattle.sweep.specs.Order.{ruleOf, gateVisits, gateOfTurn, sweepVisits};
 ghost use Rattle.sweep.specs.Ready.{Holds, Ready, Calculated, whole};
 ghost use Rattle.sweep.specs.Runs.{Stored, Renewed, Swept};
 ghost use Rattle.sweep.specs.Start.{startNumber, lineStart, linesStart};
+ghost use Rattle.sweep.specs.Waking.{visitLine, LineWoken, ChangesWoken, Resting, DrivenOnce};
 
 fn either(a: bool, b: bool) -> bool
     ensures { λ r. ⌜ r ≡ (a || b) ⌝ }
@@ -97,21 +110,70 @@ fn visit(
     store(numbers, place, number_of(sum))
 }
 
+// The line whose number a visit renews.
+fn visit_line(role: usize, lines: &[u32; sizes::GATE_LINES], i: usize) -> u32
+    requires { ⌜ i < Size.pins ⌝ }
+    ensures { λ r. ⌜ r ≡ visitLine role (now (lines .entry)) i ⌝ }
+{
+    if role == SETTING {
+        lines[0]
+    } else {
+        lines[i + 1]
+    }
+}
+
+// Where a number of a line changed, wakes the gates that need it: where lines are set those that read
+// the line, where they are observed the one that drives it.
+fn wake_needing(
+    role: usize,
+    changed: bool,
+    line: u32,
+    gates: usize,
+    first: &[u16; sizes::LINE_PLACES],
+    next: &[u16; sizes::PIN_PLACES],
+    driver: &[u16; sizes::LINE_PLACES],
+    awake: &mut [u64; sizes::AWAKE_WORDS],
+)
+    requires { ⌜ WakeFits role line gates (now first) (now next) (now driver) (now awake) ⌝ }
+    ensures { λ _.
+        ⌜ ((netlist : List ℕ) → Chained netlist gates (now (first .entry)) (now (next .entry))
+        → Driven netlist gates (now (driver .entry)) → DrivenOnce netlist gates
+        → LineWoken role netlist gates line changed (now (awake .entry)) (now (awake .exit))) ⌝ }
+{
+    if !changed {
+        return;
+    }
+    if role == SETTING {
+        wake_readers(awake, first, next, wide(line));
+    } else {
+        wake_driver(awake, driver, gates, wide(line));
+    }
+}
+
 // A gate's visits, "the output's 0 before its 1" or "pins in order"; whether a number changed.
 fn visit_gate(
     role: usize,
     kind: usize,
     library: &[u32],
     netlist: &[u32],
+    first: &[u16; sizes::LINE_PLACES],
+    next: &[u16; sizes::PIN_PLACES],
+    driver: &[u16; sizes::LINE_PLACES],
     numbers: &mut [u32; sizes::NUMBERS],
+    awake: &mut [u64; sizes::AWAKE_WORDS],
     gate: usize,
 ) -> bool
-    requires { ⌜ GateVisitsFit role kind (now library) (now netlist) (now numbers) gate ⌝ }
-    ensures { λ r.
+    requires { ⌜ GateVisitsFit role kind (now library) (now netlist) (now first) (now next) (now driver)
+        (now numbers) (now awake) gate ⌝ }
+    ensures swept { λ r.
         ⌜ Swept (ruleOf role)
         (gateVisits role kind (now (library .entry)) (now (netlist .entry)) gate)
         (now (numbers .entry)) (now (numbers .exit)) r ⌝ }
+    ensures wakes { λ _.
+        ⌜ ChangesWoken role kind (now (library .entry)) (now (netlist .entry)) (now (awake .entry))
+        (now (numbers .entry)) (now (awake .exit)) (now (numbers .exit)) ⌝ }
 {
+    let gates = wide(netlist[0]);
     let cell = cell_place(netlist, gate);
     let pins = wide(library[cell + sizes::PINS_AT]);
     let lines = lines_of(netlist, gate);
@@ -122,6 +184,8 @@ fn visit_gate(
         let group = cell + sizes::GROUPS_AT + visit_group(role, kind, i) * sizes::GROUP_WORDS;
         let place = visit_place(role, kind, &lines, pins, i);
         let renewed = visit(role, kind, library, group, &lines, pins, numbers, place);
+        let line = visit_line(role, &lines, i);
+        wake_needing(role, renewed, line, gates, first, next, driver, awake);
         changed = either(changed, renewed);
         i += 1;
     }
@@ -140,50 +204,116 @@ fn gate_of_turn(role: usize, gates: usize, turn: usize) -> usize
     }
 }
 
-// One sweep over the gates; whether a number changed.
+// One sweep over the gates, from one that is awake to the next; whether a number changed.
 fn one_sweep(
     role: usize,
     kind: usize,
     library: &[u32],
     netlist: &[u32],
+    first: &[u16; sizes::LINE_PLACES],
+    next: &[u16; sizes::PIN_PLACES],
+    driver: &[u16; sizes::LINE_PLACES],
     numbers: &mut [u32; sizes::NUMBERS],
+    awake: &mut [u64; sizes::AWAKE_WORDS],
 ) -> bool
-    requires { ⌜ SweepFits role kind (now library) (now netlist) (now numbers) ⌝ }
-    ensures { λ r.
+    requires { ⌜ SweepFits role kind (now library) (now netlist) (now first) (now next) (now driver)
+        (now numbers) (now awake) ⌝ }
+    ensures swept { λ r.
         ⌜ Swept (ruleOf role) (sweepVisits role kind (now (library .entry)) (now (netlist .entry)))
         (now (numbers .entry)) (now (numbers .exit)) r ⌝ }
+    ensures rests { λ _.
+        ⌜ Resting role kind (now (library .entry)) (now (netlist .entry)) (now (awake .exit))
+        (now (numbers .exit)) ⌝ }
 {
     let gates = wide(netlist[0]);
     let mut changed = false;
-    let mut turn = 0;
+    let mut turn = next_awake(awake, 0, gates);
     while turn < gates {
         let gate = gate_of_turn(role, gates, turn);
-        let renewed = visit_gate(role, kind, library, netlist, numbers, gate);
+        rest(awake, turn);
+        let renewed = visit_gate(
+            role,
+            kind,
+            library,
+            netlist,
+            first,
+            next,
+            driver,
+            numbers,
+            awake,
+            gate,
+        );
         changed = either(changed, renewed);
-        turn += 1;
+        turn = next_awake(awake, turn + 1, gates);
     }
     changed
 }
 
-// Sweeps from the numbers that stand there: "Sweeps stop after the first that changes nothing; it is
-// counted."
+// Sweeps from the numbers that stand there, with at least those gates awake that are not idle: "Sweeps
+// stop after the first that changes nothing; it is counted."
 fn run(
     role: usize,
     kind: usize,
     library: &[u32],
     netlist: &[u32],
+    first: &[u16; sizes::LINE_PLACES],
+    next: &[u16; sizes::PIN_PLACES],
+    driver: &[u16; sizes::LINE_PLACES],
     numbers: &mut [u32; sizes::NUMBERS],
+    awake: &mut [u64; sizes::AWAKE_WORDS],
 ) -> u32
-    requires { ⌜ RunFits role kind (now library) (now netlist) (now numbers) ⌝ }
+    requires { ⌜ RunFits role kind (now library) (now netlist) (now first) (now next) (now driver)
+        (now numbers) (now awake) ⌝ }
     ensures { λ r.
         ⌜ Settles (ruleOf role) (sweepVisits role kind (now (library .entry)) (now (netlist .entry)))
         (now (numbers .entry)) r (now (numbers .exit)) ⌝ }
 {
     let mut count: u32 = 1;
-    while one_sweep(role, kind, library, netlist, numbers) {
+    while one_sweep(
+        role,
+        kind,
+        library,
+        netlist,
+        first,
+        next,
+        driver,
+        numbers,
+        awake,
+    ) {
         count += 1;
     }
     count
+}
+
+// A run with all gates awake.
+fn run_all(
+    role: usize,
+    kind: usize,
+    library: &[u32],
+    netlist: &[u32],
+    first: &[u16; sizes::LINE_PLACES],
+    next: &[u16; sizes::PIN_PLACES],
+    driver: &[u16; sizes::LINE_PLACES],
+    numbers: &mut [u32; sizes::NUMBERS],
+) -> u32
+    requires { ⌜ FreshFits role kind (now library) (now netlist) (now first) (now next) (now driver)
+        (now numbers) ⌝ }
+    ensures { λ r.
+        ⌜ Settles (ruleOf role) (sweepVisits role kind (now (library .entry)) (now (netlist .entry)))
+        (now (numbers .entry)) r (now (numbers .exit)) ⌝ }
+{
+    let mut awake = all_awake();
+    run(
+        role,
+        kind,
+        library,
+        netlist,
+        first,
+        next,
+        driver,
+        numbers,
+        &mut awake,
+    )
 }
 
 // What a number starts at: its price where the line is marked so.
@@ -231,11 +361,53 @@ fn analyse(library: &[u32], netlist: &[u32], numbers: &mut [u32; sizes::NUMBERS]
         ⌜ ((cells : List Cell) (ss : List Statement) → Holds (now (library .entry))
         (now (netlist .entry)) cells ss → whole r (now (numbers .exit)) ≡ analysed cells ss) ⌝ }
 {
+    let gates = wide(netlist[0]);
+    let mut first = [0u16; sizes::LINE_PLACES];
+    let mut next = [0u16; sizes::PIN_PLACES];
+    let mut driver = [0u16; sizes::LINE_PLACES];
+    chain(netlist, gates, &mut first, &mut next);
+    note_drivers(netlist, gates, &mut driver);
     start(netlist, numbers);
-    let cc = run(SETTING, COMBINATIONAL, library, netlist, numbers);
-    let sc = run(SETTING, SEQUENTIAL, library, netlist, numbers);
-    let co = run(OBSERVING, COMBINATIONAL, library, netlist, numbers);
-    let so = run(OBSERVING, SEQUENTIAL, library, netlist, numbers);
+    let cc = run_all(
+        SETTING,
+        COMBINATIONAL,
+        library,
+        netlist,
+        &first,
+        &next,
+        &driver,
+        numbers,
+    );
+    let sc = run_all(
+        SETTING,
+        SEQUENTIAL,
+        library,
+        netlist,
+        &first,
+        &next,
+        &driver,
+        numbers,
+    );
+    let co = run_all(
+        OBSERVING,
+        COMBINATIONAL,
+        library,
+        netlist,
+        &first,
+        &next,
+        &driver,
+        numbers,
+    );
+    let so = run_all(
+        OBSERVING,
+        SEQUENTIAL,
+        library,
+        netlist,
+        &first,
+        &next,
+        &driver,
+        numbers,
+    );
     Counts { cc, sc, co, so }
 }
 

@@ -1,60 +1,91 @@
--- `one_sweep` visits the gates in their order: with each turn one gate more is done. Assumes nothing.
+-- `one_sweep` goes from one awake turn to the next: the turns between are idle, so that with each turn all before it are done, and
+-- the turns that are asleep stay idle. Assumes nothing.
 use mathlib.Core.Path.{_≡_, _∙_, ap}
-use Prim.Native.Nat.{ℕ, _-_, _≤_}
+use Prim.Native.Nat.{ℕ, _-_, _≤_, _<_}
 use native.Mathlib.Omega.{arith}
 use lib.ListN.{getD}
 use borrow.Author.Needs.{needs}
-use Rattle.sweep.specs.Order.{ruleOf, inTurn, gateVisits, gateOfTurn, firstGates}
+use Rattle.plans.specs.Idle.{inTurn}
+use Rattle.sweep.specs.Order.{ruleOf, gateOfTurn, turnVisits, firstGates}
 use Rattle.sweep.specs.Runs.{Swept}
+use Rattle.sweep.specs.Waking.{Resting}
 use Rattle.sweep.proofs.Visits.{swept-none, swept-length, next-turn, turn-inside}
+use Rattle.sweep.proofs.Waking.{come, skips, rests-on}
 use Rattle.sweep.proofs.one_sweep.Statement.{statement}
 use Rattle.sweep.proofs.one_sweep.Tie as tie
 
 abbrev Inv-loop : tie.InvT-loop
-Inv-loop role kind library netlist numbers₀ gates changed₀ turn₀ numbers changed turn =
-    (turn ≤ getD netlist 0 0) × Swept (ruleOf role) (firstGates role kind library netlist turn) numbers₀ numbers changed
+Inv-loop role kind library netlist first next driver numbers₀ awake₀ gates changed₀ turn₀ numbers awake changed turn =
+    Swept (ruleOf role) (firstGates role kind library netlist (come role kind library netlist turn)) numbers₀ numbers changed
+    × Resting role kind library netlist awake numbers
 
 abbrev μ-loop : tie.MeasureT-loop
-μ-loop role kind library netlist numbers₀ gates changed₀ turn₀ numbers changed turn = gates - turn
+μ-loop role kind library netlist first next driver numbers₀ awake₀ gates changed₀ turn₀ numbers awake changed turn = gates - turn
 
-abbrev began : tie.At-loop Inv-loop μ-loop → tie.Start Inv-loop μ-loop
-began c = c .before .before .before .before .before
+-- ---- places
+
+abbrev counted : tie.After-next-awake Inv-loop μ-loop → tie.After-wide Inv-loop μ-loop
+counted c = c .before .before
+
+abbrev began : tie.After-next-awake Inv-loop μ-loop → tie.Start Inv-loop μ-loop
+began c = counted c .before .before .before .before
+
+abbrev turned : tie.After-rest Inv-loop μ-loop → tie.After-gate-of-turn Inv-loop μ-loop
+turned c = c .before .before
+
+abbrev rested : tie.After-visit-gate Inv-loop μ-loop → tie.After-rest Inv-loop μ-loop
+rested c = c .before .before .before
+
+-- ---- a turn
 
 gate-is : (c : tie.After-gate-of-turn Inv-loop μ-loop)
-    → let a = began (c .before .before) .args in
-    c .gate-of-turn .result ≡ gateOfTurn (a .role) (getD (a .netlist .now) 0 0) (c .before .before .loop .turn)
+    → let l = c .before .before in
+    let a = began (l .before) .args in
+    c .gate-of-turn .result ≡ gateOfTurn (a .role) (getD (a .netlist .now) 0 0) (l .loop .turn)
 gate-is c =
+    let l = c .before .before in
     c .gate-of-turn .ensures
-    ∙ ap (λ (n : ℕ). gateOfTurn (began (c .before .before) .args .role) n (c .before .before .loop .turn)) (c .before .before .before .wide .ensures)
+    ∙ ap (λ (n : ℕ). gateOfTurn (began (l .before) .args .role) n (l .loop .turn)) (counted (l .before) .wide .ensures)
+
+inside : (c : tie.In-loop Inv-loop μ-loop) → c .before .loop .turn < getD (began (c .before .before) .args .netlist .now) 0 0
+inside c = rw (counted (c .before .before) .wide .ensures) at (c .loop-test .taken)
 
 visit-gate-requires : tie.Need-visit-gate-requires Inv-loop μ-loop
 visit-gate-requires c κs =
-    let l = c .before .before .before in
-    let s = began l in
+    let r = c .before .before in
+    let t = turned r in
+    let l = t .before .before in
+    let s = began (l .before) in
     record {
-      roleFits = s .pre .roleFits;
-      kindFits = s .pre .kindFits;
-      gateFits =
-          s .pre .tablesFit .gates (c .before .gate-of-turn .result)
-          (rw (gate-is (c .before)) (turn-inside (s .args .role) (getD (s .args .netlist .now) 0 0) (l .loop .turn) (omega arith)));
-      size = swept-length (s .args .role) (l .loop .inv .1) ∙ s .pre .size;
+      linksFit = s .pre .linksFit;
+      inside = rw (gate-is t) (turn-inside (s .args .role) (getD (s .args .netlist .now) 0 0) (l .loop .turn) (inside (t .before)));
+      size = swept-length (s .args .role) (l .loop .inv .0) ∙ s .pre .size;
+      awakeSize = r .rest .ensures .size ∙ l .loop .inv .1 .size;
     }
 
 loop-again : tie.Need-loop-again Inv-loop μ-loop
 loop-again c =
-    let t = c .before .before .before in
+    let e = c .before .before in
+    let v = e .before in
+    let r = rested v in
+    let t = turned r in
     let l = t .before .before in
-    let a = began l .args in (
-      omega arith,
-      rw (c .either .ensures)
-          (next-turn (λ turn. gateVisits (a .role) (a .kind) (a .library .now) (a .netlist .now) (gateOfTurn (a .role) (getD (a .netlist .now) 0 0) turn)) (l .loop .turn) (l .loop .inv .1)
-          (rw (gate-is t) at (c .before .visit-gate .ensures))),
-    )
+    let a = began (l .before) .args in
+    let here = inside (t .before) in
+    let came : come (a .role) (a .kind) (a .library .now) (a .netlist .now) (l .loop .turn) ≡ l .loop .turn = omega arith in
+    let done = rw came at (l .loop .inv .0) in
+    let made = rw (gate-is t) at (v .visit-gate .ensures .0) in
+    let rests = rests-on (a .role) (a .kind) (a .library .now) (a .netlist .now) (l .loop .turn) here (l .loop .inv .1) (r .rest .ensures) (v .visit-gate .ensures .1) made in
+    let next = next-turn (λ turn. turnVisits (a .role) (a .kind) (a .library .now) (a .netlist .now) turn) (l .loop .turn) done made in
+    (rw (e .either .ensures) (skips (a .role) (a .kind) (a .library .now) (a .netlist .now) (omega arith) rests (c .next-awake2 .ensures) next), rests)
 
 returns : tie.Need-returns Inv-loop μ-loop
 returns c =
-    let e : c .before .loop .turn ≡ getD (began (c .before) .args .netlist .now) 0 0 = omega arith in
-    rw e at (c .before .loop .inv .1)
+    let l = c .before in
+    let a = began (l .before) .args in
+    let e : come (a .role) (a .kind) (a .library .now) (a .netlist .now) (l .loop .turn) ≡ getD (a .netlist .now) 0 0 =
+    omega (arith, counted (l .before) .wide .ensures) in
+    (rw e at (l .loop .inv .0), l .loop .inv .1)
 
 pub one-sweep-spec : {M : Type 1} → statement M
 one-sweep-spec =
@@ -62,13 +93,31 @@ one-sweep-spec =
     (tie.spec
     Inv-loop
     μ-loop
-    (λ c. let f = c .before .before .before .pre .tablesFit in omega arith)
+    (λ c. let f = c .before .before .before .pre .linksFit .tablesFit .some in omega arith)
     (λ c κs. search needs)
-    (unfold inTurn in (λ c. (omega arith, swept-none (ruleOf (c .before .before .before .before .args .role)) (c .before .before .before .before .args .numbers .now))))
-    (λ c κs. omega arith)
+    (λ c κs.
+    let w = c .before in
+    let p = w .before .before .before .before .pre in
+    (rw (w .wide .ensures) (p .linksFit .linked .chained .count), p .resting .size))
+    (unfold inTurn in
+    (λ c.
+    let s = began c in
+    let a = s .args in
+    (skips (a .role) (a .kind) (a .library .now) (a .netlist .now) (omega arith) (s .pre .resting) (c .next-awake .ensures) (swept-none (ruleOf (a .role)) (a .numbers .now)), s .pre .resting)))
+    (λ c κs. search needs)
+    (λ c κs.
+    let l = c .before .before .before in
+    let p = began (l .before) .pre in
+    (omega (arith, inside (c .before .before), p .linksFit .linked .chained .count), l .loop .inv .1 .size))
     visit-gate-requires
     (λ c κs. search needs)
     (λ c. omega arith)
-    (λ c. omega arith)
+    (λ c κs.
+    let v = c .before .before in
+    let r = rested v in
+    let l = turned r .before .before in
+    let p = began (l .before) .pre in
+    (rw (counted (l .before) .wide .ensures) (p .linksFit .linked .chained .count), v .visit-gate .ensures .1 .size ∙ r .rest .ensures .size ∙ l .loop .inv .1 .size))
+    (λ c. omega (arith, c .next-awake2 .ensures .least))
     loop-again
     returns)

@@ -1,4 +1,5 @@
--- `run` comes to settled numbers: before each sweep, all sweeps before it changed something. The count stays below its type's
+-- `run` comes to settled numbers: before each sweep, all sweeps before it changed something, and the
+-- turns that are asleep are idle. The count stays below its type's
 -- bound, and what is left to that bound falls. Assumes nothing.
 use mathlib.Core.Path.{_≡_, _∙_}
 use Prim.Native.Nat.{_-_, _^_}
@@ -6,17 +7,20 @@ use native.Mathlib.Omega.{arith}
 use lib.ListN.{length}
 use Rattle.sizes.specs.Sizes as Size
 use Rattle.sweep.specs.Order.{ruleOf, sweepVisits}
+use Rattle.sweep.specs.Waking.{Resting}
 use Rattle.sweep.proofs.Visits.{swept-length}
 use Rattle.sweep.proofs.Running.{Before, run-first, run-on, run-fits, run-ends}
 use Rattle.sweep.proofs.run.Statement.{statement}
 use Rattle.sweep.proofs.run.Tie as tie
 
 abbrev Inv-loop : tie.InvT-loop
-Inv-loop role kind library netlist numbers₀ count₀ numbers count =
-    (length numbers ≡ Size.numbers) × Before (ruleOf role) (sweepVisits role kind library netlist) numbers₀ count numbers
+Inv-loop role kind library netlist first next driver numbers₀ awake₀ count₀ numbers awake count =
+    (length numbers ≡ Size.numbers)
+    × Before (ruleOf role) (sweepVisits role kind library netlist) numbers₀ count numbers
+    × Resting role kind library netlist awake numbers
 
 abbrev μ-loop : tie.MeasureT-loop
-μ-loop role kind library netlist numbers₀ count₀ numbers count = 2 ^ 32 - count
+μ-loop role kind library netlist first next driver numbers₀ awake₀ count₀ numbers awake count = 2 ^ 32 - count
 
 abbrev began : tie.At-loop Inv-loop μ-loop → tie.Start Inv-loop μ-loop
 began c = c .before .before .before
@@ -30,19 +34,19 @@ run-spec =
     (λ c.
     let s = c .before .before in
     let a = s .args in
-    (s .pre .sweepFits .size, run-first (ruleOf (a .role)) (sweepVisits (a .role) (a .kind) (a .library .now) (a .netlist .now)) (a .numbers .now)))
+    (s .pre .sweepFits .size, run-first (ruleOf (a .role)) (sweepVisits (a .role) (a .kind) (a .library .now) (a .netlist .now)) (a .numbers .now), s .pre .sweepFits .resting))
     (λ c κs.
-    let p = began (c .before) .pre .sweepFits in
-    record { roleFits = p .roleFits; kindFits = p .kindFits; tablesFit = p .tablesFit; size = c .before .loop .inv .0 })
+    let l = c .before .before in
+    record { linksFit = began l .pre .sweepFits .linksFit; size = l .loop .inv .0; resting = l .loop .inv .2 })
     (λ c.
-    let l = c .before .before .before in
-    omega (arith, run-fits (began l .pre .runs) (l .loop .inv .1) (c .before .one-sweep .ensures) (c .if1 .taken)))
+    let l = c .before .before .before .before in
+    omega (arith, run-fits (began l .pre .runs) (l .loop .inv .1) (c .before .one-sweep .ensures .0) (c .if1 .taken)))
     (λ c.
-    let l = c .before .before .before in
-    omega (arith, run-fits (began l .pre .runs) (l .loop .inv .1) (c .before .one-sweep .ensures) (c .if1 .taken)))
+    let l = c .before .before .before .before in
+    omega (arith, run-fits (began l .pre .runs) (l .loop .inv .1) (c .before .one-sweep .ensures .0) (c .if1 .taken)))
     (λ c.
-    let l = c .before .before .before in
-    (swept-length (began l .args .role) (c .before .one-sweep .ensures) ∙ l .loop .inv .0, run-on (began l .pre .runs) (l .loop .inv .1) (c .before .one-sweep .ensures) (c .if1 .taken)))
+    let l = c .before .before .before .before in
+    (swept-length (began l .args .role) (c .before .one-sweep .ensures .0) ∙ l .loop .inv .0, run-on (began l .pre .runs) (l .loop .inv .1) (c .before .one-sweep .ensures .0) (c .if1 .taken), c .before .one-sweep .ensures .1))
     (λ c.
-    let l = c .before .before .before in
-    run-ends (began l .pre .runs) (l .loop .inv .1) (c .before .one-sweep .ensures) (c .if1 .left)))
+    let l = c .before .before .before .before in
+    run-ends (began l .pre .runs) (l .loop .inv .1) (c .before .one-sweep .ensures .0) (c .if1 .left)))

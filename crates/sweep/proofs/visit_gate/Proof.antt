@@ -1,26 +1,32 @@
 -- `visit_gate` makes the gate's visits in order: with each turn one visit more is done. Assumes nothing.
-use mathlib.Core.List.{[], _∷_}
-use mathlib.Core.Path.{_≡_, _∙_, ap₂, subst}
+use mathlib.Core.List.{List, [], _∷_}
+use mathlib.Core.Path.{_≡_, sym, _∙_, ap, ap₂, subst}
 use Prim.Native.Nat.{ℕ, _+_, _*_, _-_, _≤_, _<_}
 use native.Mathlib.Omega.{arith}
 use borrow.Author.Needs.{needs}
 use Rattle.sizes.specs.Sizes as Size
 use Rattle.sizes.specs.Places.{groupPlace}
-use Rattle.gates.specs.Tables.{gateCell, gatePins, visitCount, visitGroup, gateVisit}
-use Rattle.gates.specs.Fits.{LinesFit}
+use Rattle.awake.specs.Lines.{Chained, Driven}
+use Rattle.gates.specs.Tables.{gateCell, gatePins, gateLines, visitCount, visitGroup, gateVisit}
+use Rattle.gates.specs.Fits.{LinesFit, GateFits}
 use Rattle.gates.proofs.Roles.{visit-low, group-low, place-inside}
-use Rattle.sweep.specs.Order.{ruleOf, inTurn, firstVisits}
+use Rattle.sweep.specs.Order.{ruleOf, firstVisits}
+use Rattle.plans.specs.Idle.{inTurn}
 use Rattle.sweep.specs.Runs.{Swept}
+use Rattle.sweep.specs.Waking.{visitLine, DrivenOnce, ChangesWoken}
+use Rattle.sweep.proofs.Waking.{line-inside, visit-few, woken-same, changes-none, changes-on}
 use Rattle.sweep.proofs.Visits.{swept-none, swept-one, swept-length, next-turn, visit-is}
 use Rattle.sweep.proofs.visit_gate.Statement.{statement}
 use Rattle.sweep.proofs.visit_gate.Tie as tie
 
 abbrev Inv-loop : tie.InvT-loop
-Inv-loop role kind library netlist numbers₀ gate cell pins lines count changed₀ i₀ numbers changed i =
-    (i ≤ count) × Swept (ruleOf role) (firstVisits role kind library netlist gate i) numbers₀ numbers changed
+Inv-loop role kind library netlist first next driver numbers₀ awake₀ gate gates cell pins lines count changed₀ i₀ numbers awake changed i =
+    (i ≤ count)
+    × Swept (ruleOf role) (firstVisits role kind library netlist gate i) numbers₀ numbers changed
+    × ChangesWoken role kind library netlist awake₀ numbers₀ awake numbers
 
 abbrev μ-loop : tie.MeasureT-loop
-μ-loop role kind library netlist numbers₀ gate cell pins lines count changed₀ i₀ numbers changed i = count - i
+μ-loop role kind library netlist first next driver numbers₀ awake₀ gate gates cell pins lines count changed₀ i₀ numbers awake changed i = count - i
 
 -- ---- places
 
@@ -30,21 +36,30 @@ counted c = c .before .before
 abbrev celled : tie.After-visit-count Inv-loop μ-loop → tie.After-cell-place Inv-loop μ-loop
 celled c = c .before .before .before .before
 
+abbrev gatesRead : tie.After-visit-count Inv-loop μ-loop → tie.After-wide Inv-loop μ-loop
+gatesRead c = celled c .before
+
 abbrev began : tie.After-visit-count Inv-loop μ-loop → tie.Start Inv-loop μ-loop
-began c = celled c .before .before .before
+began c = gatesRead c .before .before .before .before
 
 abbrev grouped : tie.After-visit-arg Inv-loop μ-loop → tie.After-visit-group Inv-loop μ-loop
 grouped c = c .before .before .before .before
 
+abbrev visited : tie.After-visit-line Inv-loop μ-loop → tie.After-visit Inv-loop μ-loop
+visited c = c .before .before
+
 -- ---- what was read of the gate
 
-pins-are : (c : tie.After-visit-count Inv-loop μ-loop) → c .before .before .wide .result ≡ gatePins (began c .args .library .now) (began c .args .netlist .now) (began c .args .gate)
-pins-are c = rw (celled c .cell-place .ensures) at (c .before .before .wide .ensures)
+gate-fits : (c : tie.After-visit-count Inv-loop μ-loop) → let a = began c .args in GateFits (a .library .now) (a .netlist .now) (a .gate)
+gate-fits c = began c .pre .linksFit .tablesFit .gates (began c .args .gate) (began c .pre .inside)
 
-lines-fit : (c : tie.After-visit-count Inv-loop μ-loop) → LinesFit (c .before .lines-of .result) (c .before .before .wide .result)
-lines-fit c = rw (c .before .lines-of .ensures, pins-are c) (began c .pre .gateFits .lines)
+pins-are : (c : tie.After-visit-count Inv-loop μ-loop) → c .before .before .wide2 .result ≡ gatePins (began c .args .library .now) (began c .args .netlist .now) (began c .args .gate)
+pins-are c = rw (celled c .cell-place .ensures) at (c .before .before .wide2 .ensures)
 
-turn : (c : tie.In-loop Inv-loop μ-loop) → c .before .loop .i < visitCount (began (counted c) .args .role) (counted c .before .before .wide .result)
+lines-fit : (c : tie.After-visit-count Inv-loop μ-loop) → LinesFit (c .before .lines-of .result) (c .before .before .wide2 .result)
+lines-fit c = rw (c .before .lines-of .ensures, pins-are c) (gate-fits c .lines)
+
+turn : (c : tie.In-loop Inv-loop μ-loop) → c .before .loop .i < visitCount (began (counted c) .args .role) (counted c .before .before .wide2 .result)
 turn c = rw (counted c .visit-count .ensures) at (c .loop-test .taken)
 
 -- The number of the group that a turn visits, and where the group stands.
@@ -52,7 +67,7 @@ group-few : (c : tie.After-visit-group Inv-loop μ-loop) → c .visit-group .res
 group-few c =
     let d = counted (c .before) in
     let a = began d .args in
-    rw (c .visit-group .ensures) (group-low (a .role) (a .kind) (d .before .lines-of .result) (d .before .before .wide .result) (c .before .before .loop .i) (began d .pre .kindFits) (lines-fit d) (turn (c .before)))
+    rw (c .visit-group .ensures) (group-low (a .role) (a .kind) (d .before .lines-of .result) (d .before .before .wide2 .result) (c .before .before .loop .i) (began d .pre .linksFit .kindFits) (lines-fit d) (turn (c .before)))
 
 abbrev groupAt : tie.After-visit-group Inv-loop μ-loop → ℕ
 groupAt c = celled (counted (c .before)) .cell-place .result + Size.groupsAt + c .visit-group .result * Size.groupWords
@@ -74,29 +89,79 @@ visit-requires c κs =
     record {
       sumFits =
           record {
-            kindFits = s .pre .kindFits;
-            groupFits = rw (group-stands g) (s .pre .gateFits .groups (a .role) (a .kind) (l .i) (s .pre .roleFits) (s .pre .kindFits) (subst (λ (n : ℕ). l .i < visitCount (a .role) n) (pins-are d) t));
+            kindFits = s .pre .linksFit .kindFits;
+            groupFits = rw (group-stands g) (gate-fits d .groups (a .role) (a .kind) (l .i) (s .pre .linksFit .roleFits) (s .pre .linksFit .kindFits) (subst (λ (n : ℕ). l .i < visitCount (a .role) n) (pins-are d) t));
             rowFits = record { linesFit = lines-fit d; size = swept-length (a .role) (l .inv .1) ∙ s .pre .size };
           };
       placeFits =
           rw (c .before .before .visit-place .ensures)
-          (place-inside (a .role) (a .kind) (d .before .lines-of .result) (d .before .before .wide .result) (l .i) (s .pre .kindFits) (lines-fit d) t);
+          (place-inside (a .role) (a .kind) (d .before .lines-of .result) (d .before .before .wide2 .result) (l .i) (s .pre .linksFit .kindFits) (lines-fit d) t);
+    }
+
+-- The arrays, for the count of gates that was read.
+chained : (c : tie.After-visit-count Inv-loop μ-loop) → let a = began c .args in Chained (a .netlist .now) (gatesRead c .wide .result) (a .first .now) (a .next .now)
+chained c =
+    let a = began c .args in
+    subst (λ (n : ℕ). Chained (a .netlist .now) n (a .first .now) (a .next .now)) (sym (gatesRead c .wide .ensures)) (began c .pre .linksFit .linked .chained)
+
+driven : (c : tie.After-visit-count Inv-loop μ-loop) → let a = began c .args in Driven (a .netlist .now) (gatesRead c .wide .result) (a .driver .now)
+driven c =
+    let a = began c .args in
+    subst (λ (n : ℕ). Driven (a .netlist .now) n (a .driver .now)) (sym (gatesRead c .wide .ensures)) (began c .pre .linksFit .linked .driven)
+
+once : (c : tie.After-visit-count Inv-loop μ-loop) → DrivenOnce (began c .args .netlist .now) (gatesRead c .wide .result)
+once c = subst (DrivenOnce (began c .args .netlist .now)) (sym (gatesRead c .wide .ensures)) (began c .pre .linksFit .linked .once)
+
+-- The line whose number the turn renews.
+line-is : (c : tie.After-visit-line Inv-loop μ-loop)
+    → let d = counted (grouped (visited c .before) .before) in
+    let a = began d .args in
+    c .visit-line .result ≡ visitLine (a .role) (gateLines (a .netlist .now) (a .gate)) (grouped (visited c .before) .before .before .loop .i)
+line-is c =
+    let g = grouped (visited c .before) in
+    let d = counted (g .before) in
+    c .visit-line .ensures
+    ∙ ap (λ (ls : List ℕ). visitLine (began d .args .role) ls (g .before .before .loop .i)) (d .before .lines-of .ensures)
+
+wake-needing-requires : tie.Need-wake-needing-requires Inv-loop μ-loop
+wake-needing-requires c κs =
+    let x = c .before in
+    let g = grouped (visited x .before) in
+    let d = counted (g .before) in
+    let s = began d in
+    let l = g .before .before .loop in
+    let links = s .pre .linksFit in
+    record {
+      roleFits = links .roleFits;
+      inside = rw (x .visit-line .ensures) (line-inside (s .args .role) (d .before .lines-of .result) (d .before .before .wide2 .result) (l .i) (lines-fit d) (turn (g .before)));
+      netlist = s .args .netlist .now;
+      chained = chained d;
+      driven = driven d;
+      size = l .inv .2 .size ∙ s .pre .awakeSize;
     }
 
 loop-again : tie.Need-loop-again Inv-loop μ-loop
 loop-again c =
-    let v = c .before .before in
-    let g = grouped v in
+    let w = c .before in
+    let x = w .before .before in
+    let v = visited x in
+    let g = grouped (v .before) in
     let d = counted (g .before) in
-    let a = began d .args in
+    let s = began d in
+    let a = s .args in
     let l = g .before .before .loop in
     let this =
-    visit-is (a .role) (a .kind) (a .library .now) (a .netlist .now) (a .gate) (l .i) (groupAt g) (v .before .before .visit-place .result) (d .before .before .wide .result) (d .before .lines-of .result)
-    (d .before .lines-of .ensures) (pins-are d) (group-stands g) (v .before .before .visit-place .ensures) in (
+    visit-is (a .role) (a .kind) (a .library .now) (a .netlist .now) (a .gate) (l .i) (groupAt g) (v .before .before .before .visit-place .result) (d .before .before .wide2 .result) (d .before .lines-of .result)
+    (d .before .lines-of .ensures) (pins-are d) (group-stands g) (v .before .before .before .visit-place .ensures) in
+    let made = rw this at (v .visit .ensures) in
+    let woken = w .wake-needing .ensures (a .netlist .now) (chained d) (driven d) (once d) in (
       omega arith,
       rw (c .either .ensures)
-          (next-turn (λ i. gateVisit (a .role) (a .kind) (a .library .now) (a .netlist .now) (a .gate) i ∷ []) (l .i) (l .inv .1)
-          (swept-one (rw this at (c .before .visit .ensures)))),
+          (next-turn (λ i. gateVisit (a .role) (a .kind) (a .library .now) (a .netlist .now) (a .gate) i ∷ []) (l .i) (l .inv .1) (swept-one made)),
+      changes-on (a .role) (a .kind) (a .library .now) (a .netlist .now) (s .pre .linksFit .linked) (a .gate) (l .i) (s .pre .inside)
+          (subst (λ (n : ℕ). l .i < visitCount (a .role) n) (pins-are d) (turn (g .before)))
+          (l .inv .2) made
+          (woken-same (gatesRead d .wide .ensures) (line-is x) woken),
     )
 
 returns : tie.Need-returns Inv-loop μ-loop
@@ -104,7 +169,7 @@ returns c =
     let d = c .before .before in
     let a = began d .args in
     let e : c .before .loop .i ≡ visitCount (a .role) (gatePins (a .library .now) (a .netlist .now) (a .gate)) = rw (← pins-are d) (omega (arith, d .visit-count .ensures)) in
-    rw e at (c .before .loop .inv .1)
+    (rw e at (c .before .loop .inv .1), c .before .loop .inv .2)
 
 pub visit-gate-spec : {M : Type 1} → statement M
 visit-gate-spec =
@@ -112,23 +177,30 @@ visit-gate-spec =
     (tie.spec
     Inv-loop
     μ-loop
-    (λ c κs. let f = c .before .before .pre .gateFits in omega arith)
-    (λ c. let f = c .before .before .before .pre .gateFits in omega arith)
-    (λ c. let f = c .before .before .before .pre .gateFits in omega arith)
-    (λ c. let f = c .before .before .before .before .pre .gateFits in omega arith)
+    (λ c. let f = c .before .before .before .pre .linksFit .tablesFit .some in omega arith)
     (λ c κs. search needs)
-    (λ c κs. c .before .before .before .before .before .pre .gateFits .room)
+    (λ c κs. let s = c .before .before .before .before in let f = s .pre .linksFit .tablesFit .gates (s .args .gate) (s .pre .inside) in omega arith)
+    (λ c. let s = c .before .before .before .before .before in let f = s .pre .linksFit .tablesFit .gates (s .args .gate) (s .pre .inside) in omega arith)
+    (λ c. let s = c .before .before .before .before .before in let f = s .pre .linksFit .tablesFit .gates (s .args .gate) (s .pre .inside) in omega arith)
+    (λ c. let s = c .before .before .before .before .before .before in let f = s .pre .linksFit .tablesFit .gates (s .args .gate) (s .pre .inside) in omega arith)
     (λ c κs. search needs)
-    (unfold inTurn in (λ c. (omega arith, swept-none (ruleOf (began c .args .role)) (began c .args .numbers .now))))
-    (λ c. let f = began (counted c) .pre .gateFits in omega arith)
+    (λ c κs. let s = c .before .before .before .before .before .before .before in s .pre .linksFit .tablesFit .gates (s .args .gate) (s .pre .inside) .room)
+    (λ c κs. search needs)
+    (unfold inTurn in (λ c. (omega arith, swept-none (ruleOf (began c .args .role)) (began c .args .numbers .now), changes-none _ _ _ _ _ _)))
+    (λ c. let f = gate-fits (counted c) in omega arith)
     (λ c κs.
     let d = counted c in
-    let k = began d .pre .kindFits in
-    (k, visit-low (began d .args .role) (began d .args .kind) (d .before .lines-of .result) (d .before .before .wide .result) (c .before .loop .i) k (lines-fit d) (turn c)))
+    let k = began d .pre .linksFit .kindFits in
+    (k, visit-low (began d .args .role) (began d .args .kind) (d .before .lines-of .result) (d .before .before .wide2 .result) (c .before .loop .i) k (lines-fit d) (turn c)))
     (λ c. omega (arith, group-few c))
-    (λ c. let f = began (counted (c .before)) .pre .gateFits in omega (arith, group-few c))
-    (λ c κs. let d = counted (c .before .before) in (began d .pre .kindFits, lines-fit d, turn (c .before .before)))
+    (λ c. let f = gate-fits (counted (c .before)) in omega (arith, group-few c))
+    (λ c κs. let d = counted (c .before .before) in (began d .pre .linksFit .kindFits, lines-fit d, turn (c .before .before)))
     visit-requires
+    (λ c κs.
+    let g = grouped (c .before .before) in
+    let d = counted (g .before) in
+    visit-few (began d .args .role) (d .before .lines-of .result) (d .before .before .wide2 .result) (g .before .before .loop .i) (lines-fit d) (turn (g .before)))
+    wake-needing-requires
     (λ c κs. search needs)
     (λ c. omega arith)
     (λ c. omega arith)

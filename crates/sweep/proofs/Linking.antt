@@ -1,0 +1,179 @@
+-- The lines of the gates, at the tables of accepted cells and statements: which gates need a line, for the arrays that tell it.
+-- Assumes nothing.
+use mathlib.Core.List.{List, [], _∷_, _++_, List·Memᴰ, Memᴰ·of-map}
+use mathlib.Core.Path.{_≡_, refl, sym, ap, _∙_, subst}
+use Prim.Native.Nat.{ℕ, zero, suc, _+_, _-_, _≤_, _<_}
+use native.Mathlib.Decide.{decLt}
+use native.Mathlib.Omega.{arith}
+use lib.ListN.{length, getD, take, drop, List·getD-eq-default}
+use lib.Seq.{getD-take, getD-drop}
+use Rattle.sizes.specs.Sizes as Size
+use Rattle.sizes.specs.Places.{gatePlace, settingPlace, observingPlace}
+use Rattle.reading.specs.Choice.{pick}
+use Rattle.reading.proofs.Laws.{each-at}
+use Rattle.table.proofs.Places.{getD-fitted}
+use Rattle.plans.specs.System.{Visit}
+use Rattle.plans.specs.Idle.{Needs}
+use Rattle.cell_library.specs.Cells.{Cell}
+use Rattle.cell_library.specs.Layout.{libraryWords}
+use Rattle.netlist.specs.Netlist.{Gate, Statement, gatesOf}
+use Rattle.netlist.specs.Layout.{netlistWords}
+use Rattle.netlist.specs.Sound.{InRange, GateSound, DrivenOnce}
+use Rattle.netlist.proofs.Laws.{gate-sound, driven-once}
+use Rattle.netlist.proofs.Places.{netlist-count}
+use Rattle.calculation.specs.Acceptance.{BothSound}
+use Rattle.calculation.specs.Nodes.{Kind, set, observe, node}
+use Rattle.calculation.specs.Ways.{cellOf, pinLine, Role, setting, observing, visit, valueRoles, pinRoles}
+use Rattle.calculation.specs.Ways as W
+use Rattle.calculation.proofs.Accepting.{gate-cell, gate-pin}
+use Rattle.calculation.proofs.Needing.{setting-reads, observing-drives}
+use Rattle.calculation.proofs.Visiting.{getD-listed, Sets, value-from, pins-from}
+use Rattle.awake.specs.Lines.{gateLine, LinesStand, Chained, Driven}
+use Rattle.gates.specs.Tables.{kindNumber, byRole, gatePins, gateLines, visitCount, visitPlace}
+use Rattle.gates.proofs.Bridge.{noGate, netlist-room, pins-number, lines-are}
+use Rattle.gates.proofs.Naming.{set-node, observe-node, linesOf}
+use Rattle.sweep.specs.Order.{gateVisits}
+use Rattle.sweep.specs.Waking.{NeedsLine, visitLine, Linked}
+use Rattle.sweep.specs.Waking as Table
+use Rattle.sweep.proofs.Bridge.{values-are, pins-are}
+
+-- No two places of the list have gates that drive one line.
+once-at : (gs : List Gate) → DrivenOnce gs → (i j : ℕ) → i < length gs → j < length gs → (getD gs i noGate) .line ≡ (getD gs j noGate) .line → i ≡ j
+once-at (g ∷ gs) once zero zero a b e = refl
+once-at (g ∷ gs) once zero (suc j) a b e = absurd (once .0 (getD gs j noGate) (getD-listed gs j noGate (omega arith)) e)
+once-at (g ∷ gs) once (suc i) zero a b e = absurd (once .0 (getD gs i noGate) (getD-listed gs i noGate (omega arith)) (sym e))
+once-at (g ∷ gs) once (suc i) (suc j) a b e = ap suc (once-at gs (once .1) i j (omega arith) (omega arith) e)
+
+line-at : (netlist : List ℕ) (g i : ℕ) → i < Size.gateLines → getD (gateLines netlist g) i 0 ≡ gateLine netlist g i
+unfolding gateLines
+line-at netlist g i h = getD-take Size.gateLines (drop (gatePlace g + 1) netlist) i 0 h ∙ getD-drop (gatePlace g + 1) netlist i 0
+
+module _ (cells : List Cell) (ss : List Statement) (sound : BothSound cells ss) (behind past : List ℕ) where
+  abbrev library : List ℕ
+  library = libraryWords cells ++ behind
+
+  abbrev netlist : List ℕ
+  netlist = netlistWords ss ++ past
+
+  abbrev gate : ℕ → Gate
+  gate g = getD (gatesOf ss) g noGate
+
+  count : getD netlist 0 0 ≡ length (gatesOf ss)
+  count = netlist-count ss past
+
+  module _ (g : ℕ) (h : g < getD netlist 0 0) where
+    inside : g < length (gatesOf ss)
+    inside = omega (arith, count)
+
+    listed : List·Memᴰ (gate g) (gatesOf ss)
+    listed = getD-listed (gatesOf ss) g noGate inside
+
+    is-sound : GateSound cells (gate g)
+    is-sound = gate-sound cells ss (sound .netlist) (gate g) listed
+
+    -- The gate's own line, and that of a pin.
+    own-line : gateLine netlist g 0 ≡ gate g .line
+    own-line = sym (line-at netlist g 0 (omega arith)) ∙ ap (λ (ls : List ℕ). getD ls 0 0) (lines-are cells ss sound behind past g inside)
+
+    pin-line : (i : ℕ) → i < Size.pins → gateLine netlist g (i + 1) ≡ getD (gate g .pins) i 0
+    pin-line i b =
+        let e : i + 1 ≡ suc i = omega arith in
+        sym (line-at netlist g (i + 1) (omega arith))
+        ∙ ap (λ (ls : List ℕ). getD ls (i + 1) 0) (lines-are cells ss sound behind past g inside)
+        ∙ ap (λ (n : ℕ). getD (linesOf (gate g)) n 0) e
+        ∙ getD-fitted 0 Size.pins (gate g .pins) i b
+
+    pin-most : (i : ℕ) → getD (gate g .pins) i 0 ≤ Size.lines
+    unfolding InRange
+    pin-most i = go (decLt i (length (gate g .pins)))
+      where
+        go : Dec (i < length (gate g .pins)) → getD (gate g .pins) i 0 ≤ Size.lines
+        go (yes b) = each-at InRange (gate g .pins) i 0 b (is-sound .pins) .1
+        go (no b) = rw (List·getD-eq-default (gate g .pins) 0 {n = i} (omega arith)) (omega arith)
+
+    line-most : (i : ℕ) → i < Size.gateLines → gateLine netlist g i ≤ Size.lines
+    unfolding InRange
+    line-most zero b = rw own-line (is-sound .line .1)
+    line-most (suc i) b =
+        let e : suc i ≡ i + 1 = omega arith in
+        rw e (rw (pin-line i (omega arith)) (pin-most i))
+
+  pub lines-stand : LinesStand netlist (getD netlist 0 0)
+  lines-stand =
+      record {
+        count = rw count (sound .netlist .few);
+        room = omega (arith, netlist-room cells ss sound behind past, count, sound .netlist .few);
+        most = λ g i h b. line-most g h i b;
+      }
+
+  once : Table.DrivenOnce netlist (getD netlist 0 0)
+  once g h a b e =
+      once-at (gatesOf ss) (driven-once cells ss (sound .netlist)) g h (inside g a) (inside h b)
+      (sym (own-line g a) ∙ e ∙ own-line h b)
+
+  -- ---- who needs the number that a visit renews
+
+  module _ (k : Kind) (g h i : ℕ) (a : g < getD netlist 0 0) (b : h < getD netlist 0 0) where
+    reads : i < Size.values → (v : Visit) → List·Memᴰ v (gateVisits 0 (kindNumber k) library netlist g)
+        → Needs v (visitPlace 0 (kindNumber k) (gateLines netlist h) i)
+        → NeedsLine 0 netlist g (visitLine 0 (gateLines netlist h) i)
+    unfolding byRole pick W.gateVisits pinLine
+    reads c v m d = go (t .0) (value-from (cellOf cells (gate g)) (t .0) (t .1)) (t .2)
+      where
+        t : (role : Role) × List·Memᴰ role valueRoles × (visit k cells (gate g) role ≡ v)
+        t = Memᴰ·of-map (visit k cells (gate g)) valueRoles (rw (values-are cells ss sound behind past k g (inside g a)) at m)
+
+        own : getD (gateLines netlist h) 0 0 ≡ gate h .line
+        own = line-at netlist h 0 (omega arith) ∙ own-line h b
+
+        place : visitPlace 0 (kindNumber k) (gateLines netlist h) i ≡ node k (set (gate h .line) i)
+        place = ap (λ (l : ℕ). settingPlace (kindNumber k) l i) own ∙ set-node k (gate h .line) i
+
+        go : (role : Role) → Sets (cellOf cells (gate g)) role → visit k cells (gate g) role ≡ v → NeedsLine 0 netlist g (visitLine 0 (gateLines netlist h) i)
+        go (setting e) s q =
+            let r =
+            setting-reads k cells ss sound (gate g) (listed g a) e (gate h .line) i (is-sound h b .line, omega arith)
+            (subst (Needs (visit k cells (gate g) (setting e))) place (subst (λ (u : Visit). Needs u (visitPlace 0 (kindNumber k) (gateLines netlist h) i)) (sym q) d)) in
+            let few : r .0 ≤ Size.pins = omega (arith, r .2, gate-cell sound (gate g) (listed g a) .header .most-pins) in
+            let z : r .0 ≡ r .0 - 1 + 1 = omega (arith, r .1) in
+            (r .0, r .1, few, ap (gateLine netlist g) z ∙ pin-line g a (r .0 - 1) (omega (arith, r .1, few)) ∙ r .3 ∙ sym own)
+        go (observing j) s q = absurd s
+
+    drives : i < gatePins library netlist h → (v : Visit) → List·Memᴰ v (gateVisits 1 (kindNumber k) library netlist g)
+        → Needs v (visitPlace 1 (kindNumber k) (gateLines netlist h) i)
+        → NeedsLine 1 netlist g (visitLine 1 (gateLines netlist h) i)
+    unfolding byRole pick W.gateVisits pinLine
+    drives c v m d =
+        let t : (role : Role) × List·Memᴰ role (pinRoles (cellOf cells (gate g) .pins) 1) × (visit k cells (gate g) role ≡ v) =
+        Memᴰ·of-map (visit k cells (gate g)) (pinRoles (cellOf cells (gate g) .pins) 1) (rw (pins-are cells ss sound behind past k g (inside g a)) at m) in
+        let f = pins-from (cellOf cells (gate g) .pins) 1 (t .0) (t .1) in
+        let q : visit k cells (gate g) (observing (f .0)) ≡ v = ap (visit k cells (gate g)) (sym (f .3)) ∙ t .2 in
+        own-line g a
+        ∙ observing-drives k cells ss sound (gate g) (listed g a) (f .0) (getD (gate h .pins) i 0) ranged
+        (subst (Needs (visit k cells (gate g) (observing (f .0)))) place (subst (λ (u : Visit). Needs u (visitPlace 1 (kindNumber k) (gateLines netlist h) i)) (sym q) d))
+        ∙ sym read
+      where
+        few : i < cellOf cells (gate h) .pins
+        few = rw (pins-number cells ss sound behind past h (inside h b)) at c
+
+        low : i < Size.pins
+        low = omega (arith, few, gate-cell sound (gate h) (listed h b) .header .most-pins)
+
+        read : getD (gateLines netlist h) (i + 1) 0 ≡ getD (gate h .pins) i 0
+        read = line-at netlist h (i + 1) (omega (arith, low)) ∙ pin-line h b i low
+
+        ranged : InRange (getD (gate h .pins) i 0)
+        ranged =
+            let z : i + 1 - 1 ≡ i = omega arith in
+            rw z at (gate-pin sound (gate h) (listed h b) (i + 1) (omega arith) (omega (arith, few)))
+
+        place : visitPlace 1 (kindNumber k) (gateLines netlist h) i ≡ node k (observe (getD (gate h .pins) i 0))
+        place = ap (observingPlace (kindNumber k)) read ∙ observe-node k (getD (gate h .pins) i 0)
+
+  pub reads-linked : (k : Kind) {first next driver : List ℕ} → Chained netlist (getD netlist 0 0) first next → Driven netlist (getD netlist 0 0) driver → Linked 0 (kindNumber k) library netlist first next driver
+  unfolding byRole pick
+  reads-linked k c d = record { chained = c; driven = d; once = once; needs = λ g h i a b t v m n. reads k g h i a b t v m n }
+
+  pub drives-linked : (k : Kind) {first next driver : List ℕ} → Chained netlist (getD netlist 0 0) first next → Driven netlist (getD netlist 0 0) driver → Linked 1 (kindNumber k) library netlist first next driver
+  unfolding byRole pick
+  drives-linked k c d = record { chained = c; driven = d; once = once; needs = λ g h i a b t v m n. drives k g h i a b t v m n }
