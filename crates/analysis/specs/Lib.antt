@@ -1,1 +1,2 @@
 pub mod Netlist
+pub mod Own

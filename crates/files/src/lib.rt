@@ -1,18 +1,24 @@
 // Files and standard output, for the programs of this repository: reading a whole file by its name,
-// and printing what is refused or unreadable.
+// and printing bytes, or that a file is unreadable.
 //
-// For those programs alone: `load`, `front`, `print`, `print_refusal` and `print_unreadable`. A file that cannot
+// For those programs alone: `load`, `front`, `print` and `print_unreadable`. A file that cannot
 // be opened or read to its end is unreadable, a directory among them. A file longer than the buffer
 // fills it, so that a program tells one of more than 65,535 bytes by a buffer of 65,536.
 use libc::STDOUT_FILENO;
-use reading::Refusal;
 ghost use mathlib.Core.Path.{_≡_};
-ghost use lib.ListN.{take};
-ghost use Rattle.files.specs.Loading.{Within};
+ghost use Prim.Native.Nat.{_≤_};
+ghost use lib.ListN.{length, take};
+ghost use Rattle.files.specs.Loading.{Within, nextOf};
 
 pub enum Loaded {
     Bytes(usize),
     Unreadable,
+}
+
+// How far a buffer is filled: to a place, with more to come, or as far as it can be.
+enum Filling {
+    More(usize),
+    Done(Loaded),
 }
 
 pub fn load(path: &[u8], buffer: &mut [u8]) -> Loaded
@@ -27,23 +33,35 @@ pub fn load(path: &[u8], buffer: &mut [u8]) -> Loaded
     loaded
 }
 
-// Reads until the file ends or the buffer is full.
+// Reads until a read fails, the file ends or the buffer is full.
 fn fill(fd: i32, buffer: &mut [u8]) -> Loaded
     ensures { λ r. ⌜ Within r (now (buffer .exit)) ⌝ }
 {
     let mut at = 0;
-    while at < buffer.len() {
+    loop {
         let got = libc::read(fd, &mut buffer[at..]);
-        if got < 0 {
-            return Loaded::Unreadable;
+        let filling = next(buffer, at, got);
+        match filling {
+            Filling::Done(loaded) => return loaded,
+            Filling::More(end) => at = end,
         }
-        let n = io::count(got, &buffer[at..]);
-        if n == 0 {
-            return Loaded::Bytes(at);
-        }
-        at += n;
     }
-    Loaded::Bytes(at)
+}
+
+// What a read's answer means, that was to fill the buffer from a place on.
+fn next(buffer: &[u8], at: usize, got: isize) -> Filling
+    requires { ⌜ at ≤ length (now buffer) ⌝ }
+    ensures { λ r. ⌜ r ≡ nextOf (length (now (buffer .entry))) at got ⌝ }
+{
+    if got < 0 {
+        return Filling::Done(Loaded::Unreadable);
+    }
+    let end = at + io::count(got, &buffer[at..]);
+    if (end == at) | (end == buffer.len()) {
+        Filling::Done(Loaded::Bytes(end))
+    } else {
+        Filling::More(end)
+    }
 }
 
 // The first n bytes of a buffer, all of it where it has fewer.
@@ -59,15 +77,6 @@ pub fn front(buffer: &[u8], n: usize) -> &[u8]
 
 pub fn print(bytes: &[u8]) {
     io::write_all(STDOUT_FILENO, bytes);
-}
-
-// "On refusal the program prints `refused,number,line`".
-pub fn print_refusal(r: Refusal) {
-    io::write_all(STDOUT_FILENO, b"refused,");
-    io::print_decimal(STDOUT_FILENO, r.number as u64);
-    io::write_all(STDOUT_FILENO, b",");
-    io::print_decimal(STDOUT_FILENO, r.line as u64);
-    io::write_all(STDOUT_FILENO, b"\n");
 }
 
 // "when a file can't be read it prints `unreadable` and nothing else".

@@ -3,6 +3,7 @@
 // and accepted ones; that records and a text that say the same come to the same is proved, in crate
 // `records`, proofs/Same.antt.
 use outcome::Answer;
+use reading::Refusal;
 use records::Record;
 use records::analyse_records;
 ghost use Prim.Native.Nat.{_≤_};
@@ -15,6 +16,9 @@ ghost use Rattle.records.specs.Outcome.{givenRecords};
 const NUMBERS_SHORT: usize = sizes::NUMBERS - 1;
 
 const TEXT_LONG: usize = sizes::TEXT_BYTES + 1;
+
+// Enough for a refusal: `refused,`, two numbers of at most twenty digits, a comma and a line end.
+const REFUSAL_BYTES: usize = 50;
 
 // The first `count` of the records are lent. By hand, since it makes a slice of records.
 fn lend(
@@ -52,8 +56,14 @@ fn lend_with(lib: &[u8], records: [Record; 6], count: usize, numbers: &mut [u32]
     );
     match answer {
         Answer::Accepted(s) => files::print(files::front(report, s.length)),
-        Answer::Refused(r) => files::print_refusal(r),
+        Answer::Refused(r) => print_refusal(r),
     }
+}
+
+fn print_refusal(r: Refusal) {
+    let mut text = [0u8; REFUSAL_BYTES];
+    let length = writer::put_refusal(&mut text, 0, r);
+    files::print(files::front(&text, length));
 }
 
 fn lend_all(records: [Record; 6], count: usize)

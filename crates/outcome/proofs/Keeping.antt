@@ -27,7 +27,7 @@ use Rattle.report.specs.Report.{reportBytes}
 use Rattle.report.proofs.Laws.{report-same}
 use Rattle.outcome.specs.declared.Summary.{Summary}
 use Rattle.outcome.specs.Outcome.{Given, Lent, Accepted, summary, reportOf, entry, outcome, reading, answer, left, leftFrom, leftLater, filled, zeroed}
-use Rattle.outcome.specs.Demands.{Reported, standing, standingReport, PairRead, Acceptance, Calculated, Printed, Promised}
+use Rattle.outcome.specs.Demands.{Reported, standing, standingReport, PairRead, Acceptance, Calculated, ReportStands, Promised}
 use Rattle.outcome.proofs.Checking.{Checked}
 use Rattle.outcome.proofs.Accepting.{concluded, Accepts, accepts}
 use Rattle.outcome.proofs.Fitting.{report-short, pair-sound, accepts-fitting, entry-number, later-number, refused-where, long-refused}
@@ -155,7 +155,7 @@ module _ (g : Given) (checked : Checked g) (before after : Lent) (said : Read Su
     unfolding summary
     length-is = ap (λ (y : Summary). y .length) (z .says)
 
-    prints : Printed g before after said ss s
+    prints : ReportStands g before after said ss s
     prints =
         let r = reportOf ss (analysed cells ss) in
         record {
@@ -200,5 +200,5 @@ module _ (g : Given) (checked : Checked g) (before after : Lent) (said : Read Su
         demand2 = λ pair s r. calculates (pair .cells) (pair .statements) (sound pair) s (agreed pair s r);
         demand3 = λ pair s r. exact-at (pair .cells) (pair .statements) (sound pair) s (agreed pair s r);
         acceptance = accepting a;
-        printing = λ pair s r. prints (pair .cells) (pair .statements) (sound pair) s (agreed pair s r);
+        reporting = λ pair s r. prints (pair .cells) (pair .statements) (sound pair) s (agreed pair s r);
       }

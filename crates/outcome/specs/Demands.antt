@@ -98,7 +98,7 @@ module _ (g : Given) (before after : Lent) (said : Read Summary) where
 
   -- "The numbers reported are the entries that an accepted analysis leaves in the numbers table, for lines 1 to 1,000, and the
   -- costs in its report." The report is that of the entries in the table, so that demand 3 holds of what its bytes say.
-  pub record Printed (ss : List Statement) (s : Summary) : Type 0 where
+  pub record ReportStands (ss : List Statement) (s : Summary) : Type 0 where
     pub size : s .length ≡ length (standingReport ss after s)
     pub bytes : take (s .length) (after .report) ≡ standingReport ss after s
     -- "Report bytes past its end keep their values."
@@ -106,8 +106,8 @@ module _ (g : Given) (before after : Lent) (said : Read Summary) where
     -- Below the 1,000,000 from which on a C caller has a refusal.
     pub short : s .length ≤ longestReport
 
-  abbrev pub Printing : Type 0
-  Printing = (pair : PairRead g) (s : Summary) → said ≡ read s → Printed (pair .statements) s
+  abbrev pub Reporting : Type 0
+  Reporting = (pair : PairRead g) (s : Summary) → said ≡ read s → ReportStands (pair .statements) s
 
   -- What a call promises: by equation its answer, the refusal and its line, and every entry of every lent slice afterwards;
   -- the three demands; which calls are accepted, and what their reports say.
@@ -118,4 +118,4 @@ module _ (g : Given) (before after : Lent) (said : Read Summary) where
     pub demand2 : Demand2
     pub demand3 : Demand3
     pub acceptance : Acceptance
-    pub printing : Printing
+    pub reporting : Reporting

@@ -15,7 +15,7 @@ use Rattle.text.specs.Bytes.{bytes}
 use Rattle.reading.specs.Choice.{pick}
 use Rattle.reading.proofs.Laws.{by-test}
 use Rattle.writer.specs.Decimal.{decimalBytes, decimal-open}
-use Rattle.writer.proofs.Decimal.{decimal-below}
+use Rattle.writer.proofs.Decimal.{decimal-below, decimal-length}
 use Rattle.calculation.specs.declared.Counts.{Counts}
 use Rattle.calculation.specs.Settled.{FewSweeps}
 use Rattle.report.specs.Report.{costBytes, costsFrom, lineBytes, linesBytes, sweepsBytes, header, reportBytes, longestReport}
@@ -95,17 +95,22 @@ lines-digits : numbersLength Size.lines 1 ≡ 2893
 unfolding numbersLength decimal-open
 lines-digits = refl
 
+-- 27 bytes of header, 63,893 for the lines, and 11 for the sweeps beside the digits of each count.
+report-digits : (m : ℕ → Bool) (ns : List ℕ) (k : Counts) (digits : ℕ) → length (decimalBytes (k .cc)) ≤ digits → length (decimalBytes (k .sc)) ≤ digits
+    → length (decimalBytes (k .co)) ≤ digits → length (decimalBytes (k .so)) ≤ digits → length (reportBytes m ns k) ≤ 63931 + 4 * digits
+unfolding reportBytes header sweepsBytes bytes
+report-digits m ns k digits cc sc co so = simp length-append (omega (arith, lines-length m ns Size.lines 1, lines-digits))
+
 -- "With G gates, CC and SC take at most 2G + 1 sweeps each, CO and SO at most G + 1": four digits for each count.
 pub report-length : (m : ℕ → Bool) (ns : List ℕ) (k : Counts) (gates : ℕ) → gates ≤ Size.gates → FewSweeps gates k → length (reportBytes m ns k) ≤ longestReport
-unfolding reportBytes header sweepsBytes bytes
 report-length m ns k gates h few =
-    simp length-append
-    (omega (
-      arith,
-      lines-length m ns Size.lines 1,
-      lines-digits,
-      decimal-below 3 (k .cc) (omega arith),
-      decimal-below 3 (k .sc) (omega arith),
-      decimal-below 3 (k .co) (omega arith),
-      decimal-below 3 (k .so) (omega arith),
-    ))
+    report-digits m ns k 4
+    (decimal-below 3 (k .cc) (omega arith))
+    (decimal-below 3 (k .sc) (omega arith))
+    (decimal-below 3 (k .co) (omega arith))
+    (decimal-below 3 (k .so) (omega arith))
+
+-- Whatever the counts are, they have at most twenty digits each, so that "a report buffer of 65,536 bytes" has room.
+pub report-fits : (m : ℕ → Bool) (ns : List ℕ) (k : Counts) → length (reportBytes m ns k) ≤ Size.reportBytes
+report-fits m ns k =
+    omega (arith, report-digits m ns k 20 (decimal-length (k .cc) .1) (decimal-length (k .sc) .1) (decimal-length (k .co) .1) (decimal-length (k .so) .1))

@@ -20,7 +20,8 @@ use Rattle.outcome.specs.Outcome as O
 use Rattle.outcome.proofs.Bounds.{refusal-told}
 use Rattle.outcome.proofs.Checking.{texts-checked}
 use Rattle.outcome.proofs.Fitting.{short-refused}
-use Rattle.scoap_c.specs.Coded.{ownTables, codeLines, numberOf, Decoded, Seen, Coded}
+use Rattle.analysis.specs.Own.{ownTables}
+use Rattle.scoap_c.specs.Coded.{codeLines, numberOf, Decoded, Seen, Coded}
 
 decoded : (number line : ℕ) → 1 ≤ number → line < codeLines → Decoded (number * codeLines + line) number line
 decoded number line h k = record { above = omega arith; numberIs = omega arith; lineIs = omega arith }
@@ -42,7 +43,7 @@ module _ (lib net before : List ℕ) (after : Lent) (r : Answer) (p : Promised (
       rw e (decoded number line (h .0) (h .1))
 
   length-short : (s : Summary) → answerRead r ≡ read s → s .length ≤ longestReport
-  length-short s e = p .printing (p .acceptance .wasRead s e) s e .short
+  length-short s e = p .reporting (p .acceptance .wasRead s e) s e .short
 
   length-below : (s : Summary) → answerRead r ≡ read s → numberOf (answerRead r) < codeLines
   unfolding numberOf
@@ -57,8 +58,8 @@ module _ (lib net before : List ℕ) (after : Lent) (r : Answer) (p : Promised (
         pair = pair;
         numbers = after .numbers;
         counts = s .counts;
-        size = p .printing pair s e .size;
-        bytes = p .printing pair s e .bytes;
+        size = p .reporting pair s e .size;
+        bytes = p .reporting pair s e .bytes;
         settled = p .demand2 pair s e .settled;
         exact = p .demand3 pair s e;
         short = length-short s e;

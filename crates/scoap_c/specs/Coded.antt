@@ -17,16 +17,7 @@ use Rattle.report.specs.Report.{reportBytes, longestReport}
 use Rattle.outcome.specs.declared.Summary.{Summary}
 use Rattle.outcome.specs.Demands.{Reported, PairRead, Promised}
 use Rattle.outcome.specs.Outcome as O
-
--- What the C entry lends `analyse`: tables of its own, of the published sizes.
-unfoldable pub ownTables : List ℕ → O.Lent
-ownTables report =
-    record {
-      library = replicate Size.library 0;
-      netlist = replicate Size.netlist 0;
-      numbers = replicate Size.numbers 0;
-      report = report;
-    }
+use Rattle.analysis.specs.Own.{ownTables}
 
 -- "the refusal number times 1,000,000 plus the line"
 abbrev pub codeLines : ℕ

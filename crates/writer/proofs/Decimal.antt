@@ -34,11 +34,11 @@ pub decimal-one : (n : ℕ) → n < 10 → decimalBytes n ≡ (48 + n % 10) ∷ 
 unfolding decimalBytes digits pick
 decimal-one n h = rw (lt-ltb n 10 h) (ap (λ (d : ℕ). (48 + d) ∷ []) (sym (mod-eq-of-lt h)))
 
-pub decimal-more : (n : ℕ) → 10 ≤ n → n < 10 ^ 10 → decimalBytes n ≡ decimalBytes (n / 10) ++ ((48 + n % 10) ∷ [])
+pub decimal-more : (n : ℕ) → 10 ≤ n → n < 10 ^ 20 → decimalBytes n ≡ decimalBytes (n / 10) ++ ((48 + n % 10) ∷ [])
 unfolding decimalBytes digits pick
 decimal-more n h q =
     rw (le-ltb n 10 h)
-    (ap (λ (f : List ℕ). f ++ ((48 + n % 10) ∷ [])) (sym (digits-more 8 (n / 10) (tenth-below 8 n q))))
+    (ap (λ (f : List ℕ). f ++ ((48 + n % 10) ∷ [])) (sym (digits-more 18 (n / 10) (tenth-below 18 n q))))
 
 -- the value of digits with one more behind them
 value-last : (acc b : ℕ) (f : List ℕ) → value 10 acc (f ++ (b ∷ [])) ≡ value 10 acc f * 10 + (b - 48)
@@ -56,9 +56,9 @@ digits-value (suc k) n h =
     rw (above, value-last 0 (48 + n % 10) (digits k (n / 10)), digits-value k (n / 10) (tenth-below k n h)) (omega arith))
 
 -- Read back, a number's digits are the number.
-decimal-value : (n : ℕ) → n < 10 ^ 10 → value 10 0 (decimalBytes n) ≡ n
+decimal-value : (n : ℕ) → n < 10 ^ 20 → value 10 0 (decimalBytes n) ≡ n
 unfolding decimalBytes
-decimal-value n h = digits-value 9 n h
+decimal-value n h = digits-value 19 n h
 
 digit-in : (d : ℕ) → d < 10 → digitBelow 10 (48 + d) ≡ true
 unfolding digitBelow
@@ -81,7 +81,7 @@ digits-all (suc k) n =
 
 decimal-digits : (n : ℕ) → allDigits 10 (decimalBytes n) ≡ true
 unfolding decimalBytes
-decimal-digits n = digits-all 9 n
+decimal-digits n = digits-all 19 n
 
 -- the first byte is there, and no zero
 leads : List ℕ → Bool
@@ -110,11 +110,11 @@ digits-leads (suc k) n p h =
     rw above
     (leads-append (digits k (n / 10)) ((48 + n % 10) ∷ []) (digits-leads k (n / 10) (omega arith) (tenth-below k n h))))
 
-decimal-no-leading-zero : (n : ℕ) → n < 10 ^ 10 → noLeadingZero (decimalBytes n) ≡ true
+decimal-no-leading-zero : (n : ℕ) → n < 10 ^ 20 → noLeadingZero (decimalBytes n) ≡ true
 unfolding decimalBytes digits pick noLeadingZero
 decimal-no-leading-zero n h =
     by-test (ltb 0 n)
-    (λ above. leads-no-zero (digits 9 n) (digits-leads 9 n (ltb-true 0 n above) h))
+    (λ above. leads-no-zero (digits 19 n) (digits-leads 19 n (ltb-true 0 n above) h))
     (λ below. let least : n ≡ 0 = omega (arith, ltb-false 0 n below) in rw least refl)
 
 digits-some : (k n : ℕ) → 1 ≤ length (digits k n)
@@ -148,23 +148,23 @@ digits-below (suc k) (suc d) n h =
 
 pub decimal-below : (d n : ℕ) → n < 10 ^ suc d → length (decimalBytes n) ≤ suc d
 unfolding decimalBytes
-decimal-below d n h = digits-below 9 d n h
+decimal-below d n h = digits-below 19 d n h
 
-pub decimal-length : (n : ℕ) → (1 ≤ length (decimalBytes n)) × (length (decimalBytes n) ≤ 10)
+pub decimal-length : (n : ℕ) → (1 ≤ length (decimalBytes n)) × (length (decimalBytes n) ≤ 20)
 unfolding decimalBytes
-decimal-length n = (digits-some 9 n, digits-most 9 n)
+decimal-length n = (digits-some 19 n, digits-most 19 n)
 
--- For a reader, no proof cites it: a number as it is printed is well formed as a field of at most ten digits, and read as the
+-- For a reader, no proof cites it: a number as it is printed is well formed as a field of at most twenty digits, and read as the
 -- number.
-pub decimal-read : (n : ℕ) → n < 10 ^ 10 → numeral 10 10 (decimalBytes n) ≡ some n
+pub decimal-read : (n : ℕ) → n < 10 ^ 20 → numeral 10 20 (decimalBytes n) ≡ some n
 unfolding wellFormed
 decimal-read n h =
     let f = decimalBytes n in
-    let good : wellFormed 10 10 f ≡ true =
+    let good : wellFormed 10 20 f ≡ true =
     rw (
       le-leb 1 (length f) (decimal-length n .0),
-      le-leb (length f) 10 (decimal-length n .1),
+      le-leb (length f) 20 (decimal-length n .1),
       decimal-no-leading-zero n h,
       decimal-digits n,
     ) refl in
-    numeral-good 10 10 f good ∙ ap (λ (v : ℕ). some v) (decimal-value n h)
+    numeral-good 10 20 f good ∙ ap (λ (v : ℕ). some v) (decimal-value n h)

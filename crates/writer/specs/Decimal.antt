@@ -10,9 +10,9 @@ unfoldable pub digits : ℕ → ℕ → List ℕ
 digits zero n = (48 + n % 10) ∷ []
 digits (suc more) n = pick (ltb n 10) ((48 + n) ∷ []) (digits more (n / 10) ++ ((48 + n % 10) ∷ []))
 
--- Every number of a report is below 10,000,000,000, and has ten digits at the most.
+-- A number of 64 bits has twenty digits at the most.
 unfoldable pub decimalBytes : ℕ → List ℕ
-decimalBytes n = digits 9 n
+decimalBytes n = digits 19 n
 
 -- Opens the page's definitions, where a figure computes with them.
 unfoldable pub decimal-open : ℕ

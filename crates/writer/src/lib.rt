@@ -1,16 +1,22 @@
-// Writing bytes into a lent buffer: a byte, several, a number in decimal.
+// Writing bytes into a lent buffer: a byte, several, a number in decimal, a refusal.
 //
 // A cursor is a place of the buffer. Bytes past the buffer's end are not stored, and the cursor then
 // stands past the end, at the length and 1, so that a caller asks once, at the end, whether all was
 // stored. No call has a condition. specs/Put.antt says what a call leaves, specs/Decimal.antt what the
-// digits of a number are.
+// digits of a number are, specs/Refused.antt what is printed of a refusal.
 //
-// For the crates above: `put_byte`, `put_bytes`, `put_decimal`.
+// For the crates above: `put_byte`, `put_bytes`, `put_decimal`, `put_refusal`.
+use reading::Refusal;
 ghost use mathlib.Core.List.{[], _∷_};
 ghost use Rattle.writer.specs.Decimal.{decimalBytes};
 ghost use Rattle.writer.specs.Put.{Put};
+ghost use Rattle.writer.specs.Refused.{refusalBytes};
 
 const ZERO: u8 = 48;
+
+const COMMA: u8 = 44;
+
+const LINE_END: u8 = 10;
 
 pub fn put_byte(buffer: &mut [u8], at: usize, b: u8) -> usize
     ensures { λ r. ⌜ Put at (b ∷ []) (now (buffer .entry)) (now (buffer .exit)) r ⌝ }
@@ -36,14 +42,31 @@ pub fn put_bytes(buffer: &mut [u8], at: usize, word: &[u8]) -> usize
 }
 
 // A number in decimal: the digits above the last, the routine calling itself, and the last.
-pub fn put_decimal(buffer: &mut [u8], at: usize, n: u32) -> usize
+fn put_digits(buffer: &mut [u8], at: usize, n: u64) -> usize
     ensures { λ r. ⌜ Put at (decimalBytes n) (now (buffer .entry)) (now (buffer .exit)) r ⌝ }
 {
     let last = ZERO + (n % 10) as u8;
     if n < 10 {
         put_byte(buffer, at, last)
     } else {
-        let next = put_decimal(buffer, at, n / 10);
+        let next = put_digits(buffer, at, n / 10);
         put_byte(buffer, next, last)
     }
+}
+
+pub fn put_decimal(buffer: &mut [u8], at: usize, n: u32) -> usize
+    ensures { λ r. ⌜ Put at (decimalBytes n) (now (buffer .entry)) (now (buffer .exit)) r ⌝ }
+{
+    put_digits(buffer, at, n as u64)
+}
+
+// A refusal as a program prints it; its line may be any (`Refusal`).
+pub fn put_refusal(buffer: &mut [u8], at: usize, r: Refusal) -> usize
+    ensures { λ n. ⌜ Put at (refusalBytes (r .number) (r .line)) (now (buffer .entry)) (now (buffer .exit)) n ⌝ }
+{
+    let number = put_bytes(buffer, at, b"refused,");
+    let comma = put_digits(buffer, number, r.number as u64);
+    let line = put_byte(buffer, comma, COMMA);
+    let end = put_digits(buffer, line, r.line as u64);
+    put_byte(buffer, end, LINE_END)
 }

@@ -1,7 +1,7 @@
 -- `scoap_report` tells the answer of the analysis by one number. Assumes nothing.
 use native.Mathlib.Omega.{arith}
 use denote.Ref.{now}
-use Rattle.scoap_c.specs.Coded.{ownTables}
+use Rattle.analysis.specs.Own.{ownTables}
 use Rattle.scoap_c.proofs.Coding.{line-below, coded-accepted, coded-refused}
 use borrow.Author.Needs.{needs}
 use Rattle.scoap_c.proofs.scoap_report.Statement.{statement}

@@ -1,0 +1,44 @@
+-- `put_analysis` leaves the report where it stands, or puts the refusal there. Assumes nothing.
+use native.Mathlib.Omega.{arith}
+use denote.Ref.{now}
+use Rattle.analysis.specs.Own.{ownTables}
+use Rattle.printing.proofs.Printing.{accepted, refused-printed}
+use borrow.Author.Needs.{needs}
+use Rattle.printing.proofs.put_analysis.Statement.{statement}
+use Rattle.printing.proofs.put_analysis.Tie as tie
+
+-- ---- the places of the code that the answers speak of
+
+abbrev begins : tie.After-analyse → tie.Start
+begins c = c .before .before .before .before .before .before .before
+
+abbrev analysed : tie.After-numbers2 → tie.After-analyse
+analysed c = c .before .before .before
+
+returns : tie.Need-returns
+unfolding ownTables
+returns c =
+    let k = analysed (c .before .before .before) in
+    let a = begins k .args in
+    accepted (now (a .lib)) (now (a .net)) (now (a .report)) (search needs) _ (search needs) (k .analyse .result) (k .analyse .ensures) (c .before .answer .given .0 .0) (search needs)
+
+returns-2 : tie.Need-returns-2
+unfolding ownTables
+returns-2 c =
+    let k = analysed (c .before .before .before .before .before) in
+    let a = begins k .args in
+    refused-printed (now (a .lib)) (now (a .net)) (now (a .report)) (search needs) _ (search needs) (k .analyse .result) (k .analyse .ensures) (c .before .before .before .answer2 .given .0 .0) _ (c .put-refusal .result) (c .put-refusal .ensures) (search needs)
+
+pub put-analysis-spec : {M : Type 1} → statement M
+put-analysis-spec =
+    tie.close
+    (tie.spec
+    (λ c. search needs)
+    (λ c. search needs)
+    (λ c. search needs)
+    (λ c κs. search needs)
+    (λ c. search needs)
+    (λ c. search needs)
+    (λ c κs. search needs)
+    returns
+    returns-2)
