@@ -1,23 +1,23 @@
--- What reading the netlist text asks and does, from the progress that the entry and the library led to.
+-- What reading the netlist text does, from the progress that the entry and the library led to.
 -- Assumes nothing.
 use mathlib.Core.List.{List}
 use mathlib.Core.Path.{_≡_}
-use Prim.Native.Nat.{ℕ, _≤_}
+use Prim.Native.Nat.{ℕ}
 use lib.ListN.{length}
-use Rattle.sizes.specs.Sizes as Size
+use Rattle.reading.specs.Refusal.{read}
 use Rattle.cell_library.specs.Cells.{Cell}
 use Rattle.cell_library.specs.Layout.{LibraryHolds}
+use Rattle.netlist.specs.Admitting.{netlistEntry}
 use Rattle.netlist.specs.Layout.{netlistAfter}
 use Rattle.netlist.specs.Netlist.{netlist}
 use Rattle.outcome.specs.declared.Progress.{Progress}
 use Rattle.outcome.specs.declared.Progress.the-variants.{Unrefused}
 use Rattle.outcome.specs.Progress.{progressOf}
 
--- Behind the entry the text is not too long, and its table has the published size.
-abbrev pub Fitting : Progress → List ℕ → List ℕ → Type 0
-Fitting begun text table = begun ≡ Unrefused → (length text ≤ Size.textBytes) × (Size.netlist ≤ length table)
-
+-- Nothing happens once a refusal stands; else the text is read against the cells that the library table holds. Behind the entry of
+-- the call the reader's own entry refuses nothing.
 pub record TextRead (text lib before : List ℕ) (begun : Progress) (after : List ℕ) (said : Progress) : Type 0 where
   pub stays : (begun ≡ Unrefused → ⊥) → (said ≡ begun) × (after ≡ before)
-  pub reads : begun ≡ Unrefused → (cells : List Cell) → LibraryHolds lib cells
+  pub reads : begun ≡ Unrefused → netlistEntry (length text) (length lib) (length before) ≡ read tt
+      → (cells : List Cell) → LibraryHolds lib cells
       → (said ≡ progressOf (netlist cells text)) × (after ≡ netlistAfter (netlist cells text) before)

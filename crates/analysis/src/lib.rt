@@ -9,14 +9,13 @@ use outcome::Progress;
 use outcome::begin;
 use outcome::finish;
 use reading::Verdict;
-ghost use Rattle.analysis.specs.Netlist.{Fitting, TextRead};
+ghost use Rattle.analysis.specs.Netlist.{TextRead};
 ghost use Rattle.outcome.specs.Answer.{answerRead, lentOf};
 ghost use Rattle.outcome.specs.Demands.{Promised};
 ghost use Rattle.outcome.specs.Outcome.{givenTexts};
 
 // Reads the netlist text against the cells of the library table. Nothing happens once a refusal stands.
 fn read_netlist(net: &[u8], library: &[u32], netlist: &mut [u32], begun: Progress) -> Progress
-    requires { ⌜ Fitting begun (now net) (now netlist) ⌝ }
     ensures { λ r. ⌜ TextRead (now (net .entry)) (now (library .entry)) (now (netlist .entry)) begun
         (now (netlist .exit)) r ⌝ }
 {

@@ -26,7 +26,7 @@ use Rattle.netlist.specs.Netlist.{Statement, member, mentionedLines, mar
 use Rattle.netlist.specs.Netlist.{isMarked, driven, causes, admit, admitted, statementOf, lineForm, lineForms, netlist}
 use Rattle.netlist.specs.Layout.{gateWords, driverWord, outputWord, mentionWord, lineParts, lineWords}
 use Rattle.netlist.specs.Layout.{netlistWords, NetlistHolds, netlistAfter}
-use Rattle.netlist.specs.Admitting.{refusalOf, extended, Decided, wordsAfter, ReadsNetlist}
+use Rattle.netlist.specs.Admitting.{refusalOf, extended, Decided, wordsAfter, ReadsLines}
 use Rattle.netlist.proofs.Weighing.{weigh-lowest}
 use Rattle.netlist.proofs.Causes.{causes-counted}
 use Rattle.netlist.proofs.Places.{length-netlistWords}
@@ -166,11 +166,11 @@ module _ {cells : List Cell} {text : List ℕ} {at number : ℕ} {table past : L
 
 module _ (cells : List Cell) (text before : List ℕ) (answer : Verdict) (after : List ℕ) where
   pub left-refused : {number line n : ℕ} → netlist cells text ≡ refused number line → verdictRead answer ≡ refused number line
-      → after ≡ replicate n 0 → n ≡ length before → ReadsNetlist cells text before answer after
+      → after ≡ replicate n 0 → n ≡ length before → ReadsLines cells text before answer after
   unfolding doneRead netlistAfter
   left-refused e said z same = record { answers = rw e said; leaves = rw (e, ← same) z }
 
   pub left-read : {ss : List Statement} → netlist cells text ≡ read ss → verdictRead answer ≡ read tt
-      → after ≡ netlistWords ss ++ drop Size.netlist before → ReadsNetlist cells text before answer after
+      → after ≡ netlistWords ss ++ drop Size.netlist before → ReadsLines cells text before answer after
   unfolding doneRead netlistAfter
   left-read e said words = record { answers = rw e said; leaves = rw e words }

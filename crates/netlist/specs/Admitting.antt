@@ -1,12 +1,12 @@
 -- One statement over plain numbers, as `admit` takes it from texts and from records, and what admitting it comes to.
 -- Assumes nothing.
-use mathlib.Core.Bool.{true, false}
+use mathlib.Core.Bool.{true, false, _||_}
 use mathlib.Core.List.{List, [], _∷_, _++_}
 use mathlib.Core.Logic.{_⊎_}
 use mathlib.Core.Option.{Option, none, some}
 use mathlib.Core.Path.{_≡_}
 use Prim.Native.Nat.{ℕ, _+_, _≤_, _<_, min}
-use lib.Dec.{eqb}
+use lib.Dec.{eqb, ltb}
 use lib.ListN.{length, set, take}
 use lib.Seq.{sets}
 use Rattle.sizes.specs.Places.{driverPlace, outputPlace, mentionPlace, gatePlace}
@@ -14,9 +14,11 @@ use Rattle.sizes.specs.Sizes as Size
 use Rattle.table.specs.Blocks.{fitted}
 use Rattle.reading.specs.Choice.{pick}
 use Rattle.reading.specs.Numbers as No
+use Rattle.reading.specs.Refusal.{Read, refused, read, weigh}
 use Rattle.reading.specs.Verdict.{verdictRead, doneRead}
 use Rattle.reading.specs.declared.Verdict.{Verdict}
 use Rattle.cell_library.specs.Cells.{Cell}
+use Rattle.cell_library.specs.Layout.{LibraryHolds}
 use Rattle.netlist.specs.declared.Pins.{Pins}
 use Rattle.netlist.specs.declared.RawStatement.{RawStatement}
 use Rattle.netlist.specs.Lowest.{lowest}
@@ -124,7 +126,29 @@ gateAdded g s table =
 
 -- ---- the text
 
--- What reading a netlist text answers, and leaves in the lent table.
-pub record ReadsNetlist (cells : List Cell) (text before : List ℕ) (verdict : Verdict) (after : List ℕ) : Type 0 where
+-- "entry (line 0)": "1 a lent table below its published size; 2 a text above 65,535 bytes". By the lengths of the text, of the
+-- library table and of the netlist table.
+unfoldable pub netlistEntry : ℕ → ℕ → ℕ → Read (Unit {0})
+netlistEntry text library table =
+    weigh 0
+    ((No.tableShort, ltb library Size.library || ltb table Size.netlist)
+    ∷ (No.textLong, ltb Size.textBytes text)
+    ∷ [])
+
+-- What reading the lines of a text answers, and leaves in the lent table.
+pub record ReadsLines (cells : List Cell) (text before : List ℕ) (verdict : Verdict) (after : List ℕ) : Type 0 where
   pub answers : verdictRead verdict ≡ doneRead (netlist cells text)
   pub leaves : after ≡ netlistAfter (netlist cells text) before
+
+-- "Entry refusals leave lent memory untouched", whatever the library table has in it; behind the entry the text is read against
+-- the cells that the library table holds.
+unfoldable pub ReadsFrom : Read (Unit {0}) → List ℕ → List ℕ → List ℕ → Verdict → List ℕ → Type 0
+ReadsFrom (refused number line) text library before verdict after =
+    (verdictRead verdict ≡ refused number line) × (after ≡ before)
+ReadsFrom (read u) text library before verdict after =
+    (cells : List Cell) → LibraryHolds library cells → ReadsLines cells text before verdict after
+
+-- What reading a netlist text answers, and leaves in the lent table.
+unfoldable pub ReadsNetlist : List ℕ → List ℕ → List ℕ → Verdict → List ℕ → Type 0
+ReadsNetlist text library before verdict after =
+    ReadsFrom (netlistEntry (length text) (length library) (length before)) text library before verdict after

@@ -1,12 +1,12 @@
 // The netlist: the netlist text read into the netlist table, refusals 10 to 16.
 //
-// For the crates above: `read_netlist`; and for a caller that has statements as plain numbers, as records
-// are, `admit` over a `RawStatement`, and `line_bad`.
+// Open to others: `read_netlist`, which has no condition on its input, and `line_bad`. For the crates above,
+// which have statements as plain numbers, as records are: `admit` over a `RawStatement`.
 ghost use mathlib.Core.Path.{_≡_};
-ghost use mathlib.Core.Bool.{Bool, true, false};
-ghost use mathlib.Core.List.{List, [], _∷_, _++_};
+ghost use mathlib.Core.Bool.{true, false};
+ghost use mathlib.Core.List.{List, [], _∷_};
 ghost use mathlib.Core.Option.{Option, some};
-ghost use Prim.Native.Nat.{ℕ, _+_, _^_, _≤_, _<_, min};
+ghost use Prim.Native.Nat.{_+_, _≤_, _<_, min};
 ghost use lib.ListN.{length, set, take, replicate};
 ghost use Rattle.sizes.specs.Places.{mentionPlace};
 ghost use Rattle.sizes.specs.Sizes as Size;
@@ -18,7 +18,7 @@ ghost use Rattle.cell_library.specs.Cells.{Cell};
 ghost use Rattle.cell_library.specs.Layout.{LibraryHolds};
 ghost use Rattle.netlist.specs.Lowest.{lowest};
 ghost use Rattle.netlist.specs.Netlist.{Gate, Mark, Statement, mark, gate, kindOf, lone, markOf, gateOf, statementOf, decimals, lineBad};
-ghost use Rattle.netlist.specs.Admitting.{PinsAre, PinsRead, IsMark, IsGate, StandsFor, gateCause, Admits, markPlace, markNumber, mentionAll, gateStored, gateAdded, ReadsNetlist};
+ghost use Rattle.netlist.specs.Admitting.{PinsRead, IsMark, IsGate, StandsFor, gateCause, Admits, markPlace, markNumber, mentionAll, gateStored, gateAdded, netlistEntry, ReadsLines, ReadsNetlist};
 use cell_library::cells::count;
 use cell_library::cells::find;
 use cell_library::cells::pins_of;
@@ -57,10 +57,10 @@ pub struct RawStatement {
 
 // The pins of a statement, as `RawStatement` has them.
 struct Pins {
-    pub form: bool,
-    pub pins: [u32; sizes::PINS],
-    pub count: usize,
-    pub bad: bool,
+    form: bool,
+    pins: [u32; sizes::PINS],
+    count: usize,
+    bad: bool,
 }
 
 // Whether a line number is out of range.
@@ -275,61 +275,38 @@ fn mark_from(line: &[u8], at: usize, kind: u32) -> RawStatement
     }
 }
 
-// Pins from which none, or one of bad form, is gathered.
-fn pins_of_form(form: bool) -> Pins
-    ensures { λ r. ⌜ (r .form ≡ form) × PinsAre [] r ⌝ }
-{
-    Pins {
-        form: form,
-        pins: [0; sizes::PINS],
-        count: 0,
-        bad: false,
-    }
-}
-
-fn set_pin(pins: [u32; sizes::PINS], at: usize, l: u32) -> [u32; sizes::PINS]
-    ensures { λ r. ⌜ r ≡ set pins at l ⌝ }
-{
-    let mut ps = pins;
-    if at < sizes::PINS {
-        ps[at] = l;
-    }
-    ps
-}
-
-fn with_pin(p: Pins, l: u32) -> Pins
-    requires { ⌜ p .count < 2 ^ 63 ⌝ }
-    ensures { λ r. ⌜ (r .form ≡ p .form) × (r .count ≡ p .count + 1)
-        × ((ls : List ℕ) → PinsAre ls p → PinsAre (ls ++ (l ∷ [])) r) ⌝ }
-{
-    let before = p.pins;
-    let pins = set_pin(before, p.count, l);
-    let beyond = line_bad(l);
-    Pins {
-        form: p.form,
-        pins: pins,
-        count: p.count + 1,
-        bad: p.bad || beyond,
-    }
-}
-
-// The pins from the field at a cursor on.
+// The pins from the field at a cursor on, up to one of bad form. Past the last that a gate may have nothing is stored.
+// They are gathered in place: a struct handed on from pin to pin would be copied for each.
 fn pins_from(line: &[u8], from: usize) -> Pins
     ensures { λ r. ⌜ PinsRead (decimals (fieldsFrom (now (line .entry)) from)) r ⌝ }
 {
     let n = line.len();
-    let mut p = pins_of_form(true);
+    let mut pins = [0; sizes::PINS];
+    let mut count = 0;
+    let mut bad = false;
     let mut at = from;
     while at <= n {
         let f = field(line, at);
         let number = decimal(f);
         let Numeral::Value(l) = number else {
-            return pins_of_form(false);
+            return Pins {
+                form: false,
+                pins: pins,
+                count: count,
+                bad: bad,
+            };
         };
-        p = with_pin(p, l);
+        put(&mut pins, count, l);
+        count += 1;
+        bad = bad | line_bad(l);
         at = after(line, at, f);
     }
-    p
+    Pins {
+        form: true,
+        pins: pins,
+        count: count,
+        bad: bad,
+    }
 }
 
 // A gate, from the field of its name on.
@@ -406,11 +383,11 @@ fn refusal(table: &mut [u32], number: u32, line: usize) -> Verdict
     })
 }
 
-// Reads a netlist text against the cells of a library table, into a table of at least the published size.
-pub fn read_netlist(text: &[u8], library: &[u32], table: &mut [u32]) -> Verdict
+// Reads the lines of a text against the cells of a library table.
+fn read_lines(text: &[u8], library: &[u32], table: &mut [u32]) -> Verdict
     requires { ⌜ (length (now text) ≤ Size.textBytes) × (Size.netlist ≤ length (now table)) ⌝ }
     ensures { λ r. ⌜ ((cells : List Cell) → LibraryHolds (now (library .entry)) cells
-        → ReadsNetlist cells (now (text .entry)) (now (table .entry)) r (now (table .exit))) ⌝ }
+        → ReadsLines cells (now (text .entry)) (now (table .entry)) r (now (table .exit))) ⌝ }
 {
     clear(table, sizes::NETLIST);
     let n = text.len();
@@ -430,4 +407,38 @@ pub fn read_netlist(text: &[u8], library: &[u32], table: &mut [u32]) -> Verdict
         number += 1;
     }
     Verdict::Accepted
+}
+
+// The entry's two checks, by lengths.
+fn entry(text: usize, library: usize, table: usize) -> Verdict
+    ensures { λ r. ⌜ verdictRead r ≡ netlistEntry text library table ⌝ }
+{
+    let table_short = (library < sizes::LIBRARY) | (table < sizes::NETLIST);
+    if table_short {
+        return Verdict::Refused(Refusal {
+            number: reading::TABLE_SHORT,
+            line: 0,
+        });
+    }
+    let text_long = sizes::TEXT_BYTES < text;
+    if text_long {
+        return Verdict::Refused(Refusal {
+            number: reading::TEXT_LONG,
+            line: 0,
+        });
+    }
+    Verdict::Accepted
+}
+
+// Reads a netlist text against the cells of a library table, into a table. A refusal at entry leaves the
+// table as it was, a later one leaves it zero.
+pub fn read_netlist(text: &[u8], library: &[u32], table: &mut [u32]) -> Verdict
+    ensures { λ r. ⌜ ReadsNetlist (now (text .entry)) (now (library .entry)) (now (table .entry)) r
+        (now (table .exit)) ⌝ }
+{
+    let entered = entry(text.len(), library.len(), table.len());
+    match entered {
+        Verdict::Refused(_) => entered,
+        Verdict::Accepted => read_lines(text, library, table),
+    }
 }

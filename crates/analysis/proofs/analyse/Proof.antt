@@ -1,7 +1,11 @@
 -- `analyse`: the entry and the library, the netlist text, and the end, one after the other. Assumes nothing.
-use mathlib.Core.Path.{sym, _∙_}
+use mathlib.Core.Path.{_≡_, sym, _∙_}
+use Prim.Native.Nat.{_≤_}
+use lib.ListN.{length}
 use denote.Ref.{now}
 use Rattle.cell_library.specs.Library.{library}
+use Rattle.sizes.specs.Sizes as Size
+use Rattle.outcome.specs.declared.Progress.the-variants.{Unrefused}
 use Rattle.outcome.specs.Answer.{lentOf}
 use Rattle.outcome.specs.Outcome.{Given, Lent, givenTexts, entry, tableShort, textLong}
 use Rattle.outcome.specs.Progress.{entryBy}
@@ -34,6 +38,15 @@ module _ (s : tie.Start) where
   abbrev lent : Lent
   lent = lentOf (now (s .args .library)) (now (s .args .netlist)) (now (s .args .numbers)) (now (s .args .report))
 
+-- Behind the entry the netlist text is not too long, and its table has the published size.
+fitting : (c : tie.After-begin)
+    → let a = begins c .args in
+    c .begin .result ≡ Unrefused
+    → (length (now (a .net)) ≤ Size.textBytes) × (Size.netlist ≤ length (now (a .netlist)))
+fitting c o =
+    let e = entered _ _ _ _ _ (unrefused-entry _ (library (now (begins c .args .lib))) (sym (c .begin .ensures .answers) ∙ o)) in
+    (e .net-short, e .netlist-long)
+
 -- Where the call stands before its end.
 stands : (c : tie.After-read-netlist)
     → let b = begun (c .before) in
@@ -45,13 +58,7 @@ stands c =
     let h = b .begin .ensures in
     reached (given s) (lent s) _ (b .begin .result)
     (h .answers) (h .leaves) _ (c .read-netlist .result)
-    (netlist-read (now (s .args .lib)) (now (s .args .net)) (lent s) _ (b .begin .result) _ (c .read-netlist .result) (c .read-netlist .ensures))
-
-read-netlist-requires : tie.Need-read-netlist-requires
-read-netlist-requires c κs o =
-    let b = begun c in
-    let e = entered _ _ _ _ _ (unrefused-entry _ (library (now (begins b .args .lib))) (sym (b .begin .ensures .answers) ∙ o)) in
-    (e .net-short, e .netlist-long)
+    (netlist-read (now (s .args .lib)) (now (s .args .net)) (lent s) _ (b .begin .result) _ (c .read-netlist .result) (fitting b) (c .read-netlist .ensures))
 
 finish-requires : tie.Need-finish-requires
 finish-requires c κs =
@@ -73,7 +80,7 @@ analyse-spec =
     tie.close
     (tie.spec
     (λ c κs. search needs)
-    read-netlist-requires
+    (λ c κs. search needs)
     finish-requires
     (λ c. search needs)
     (λ c. search needs)

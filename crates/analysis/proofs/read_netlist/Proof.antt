@@ -18,9 +18,6 @@ unrefused c = c .before .before .before
 abbrev reads : tie.After-slice-known2 → tie.After-read-netlist
 reads c = c .before .before
 
-read-netlist-requires : tie.Need-read-netlist-requires
-read-netlist-requires c κs = begins (unrefused c) .pre (search needs)
-
 returns : tie.Need-returns
 returns c =
     let a = begins (c .before .before) .args in
@@ -50,7 +47,7 @@ read-netlist-spec =
     (λ c. search needs)
     (λ c. search needs)
     (λ c. search needs)
-    read-netlist-requires
+    (λ c κs. search needs)
     (λ c. search needs)
     (λ c. search needs)
     returns

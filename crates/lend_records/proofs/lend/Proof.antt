@@ -49,6 +49,7 @@ use denote.Triple.Table.{entered, cited}
 use denote.Triple.Walked.{says, needs, Stays, gave-slice, stay-none-slice, stay-none, walkOf, goes-gave-slice, goes-none-slice, goes-none, Walks, ends-at, walked, walk-meets}
 use denote.Exit.{yes}
 use denote.Signature.{plain}
+use Rattle.sizes.specs.Sizes as Size
 use Rattle.outcome.specs.Answer.{answerRead, lentOf}
 use Rattle.outcome.specs.Demands.{Promised}
 use Rattle.records.specs.Outcome.{givenRecords}
@@ -78,23 +79,26 @@ abbrev onward : ℕ → ℕ → List ℕ
 onward p zero = []
 onward p (suc k) = p ∷ onward (suc p) k
 
--- the array's type
-abbrev Six : RattleType
-Six = Array R.the-row 6
+-- how many records the array has, and its type
+abbrev most : ℕ
+most = 2 * Size.lines + 1
+
+abbrev List-of : RattleType
+List-of = Array R.the-row most
 
 abbrev spelling : Record → List Val
 spelling d = R′.lowered d ∷ []
 
 abbrev stayed : Stays (lend.ended .signature .params) (lend.ended .kept)
-stayed = (stay-none-slice (0 ∷ []) tt (plain (λ _. u8)) yes, (stay-none (λ _. Six) yes, (stay-none (λ _. usize) yes, (gave-slice (1 ∷ []) tt (plain (λ _. u32)), (gave-slice (2 ∷ []) tt (plain (λ _. u32)), (gave-slice (3 ∷ []) tt (plain (λ _. u32)), (gave-slice (4 ∷ []) tt (plain (λ _. u8)), tt)))))))
+stayed = (stay-none-slice (0 ∷ []) tt (plain (λ _. u8)) yes, (stay-none (λ _. List-of) yes, (stay-none (λ _. usize) yes, (gave-slice (1 ∷ []) tt (plain (λ _. u32)), (gave-slice (2 ∷ []) tt (plain (λ _. u32)), (gave-slice (3 ∷ []) tt (plain (λ _. u32)), (gave-slice (4 ∷ []) tt (plain (λ _. u8)), tt)))))))
 
 -- the contract that the proof cites
 abbrev Callee : {M : Type 1} (𝓤 : URA M) (H : Heap 𝓤) (A : Atoms 𝓤) (mem : Memory → SProp 𝓤) (run : Routine → Fun 𝓤) → Contract 𝓤
 Callee 𝓤 H A mem run = tripleOf 𝓤 H A callee.signature (callee.spec 𝓤 H A mem run)
 
 module _ {M : Type 1} (𝓤 : URA M) (H : Heap 𝓤) (A : Atoms 𝓤) (W : Given 𝓤 H A) (mem : Memory → SProp 𝓤) (run : Routine → Fun 𝓤) (κ₀ κ₁ κ₂ κ₃ κ₄ : Lft) (q₀ q₁ q₂ q₃ q₄ : Share)
-    (text : RefT (List ℕ)) (recs : List Record) (count : ℕ) (library table numbers report : RefT (List ℕ)) (room₀ : Room u8 (length (text .now))) (is : Is Six recs (array-vals spelling recs)) (fits : count < 2 ^ 64)
-    (room₁ : Room u32 (length (library .now))) (room₂ : Room u32 (length (table .now))) (room₃ : Room u32 (length (numbers .now))) (room₄ : Room u8 (length (report .now))) (within : count ≤ 6) where
+    (text : RefT (List ℕ)) (recs : List Record) (count : ℕ) (library table numbers report : RefT (List ℕ)) (room₀ : Room u8 (length (text .now))) (is : Is List-of recs (array-vals spelling recs)) (fits : count < 2 ^ 64)
+    (room₁ : Room u32 (length (library .now))) (room₂ : Room u32 (length (table .now))) (room₃ : Room u32 (length (numbers .now))) (room₄ : Room u8 (length (report .now))) (within : count ≤ most) where
   abbrev v₀ : Val
   v₀ = sliceVal (text .ptr) (length (text .now))
 
@@ -144,11 +148,11 @@ module _ {M : Type 1} (𝓤 : URA M) (H : Heap 𝓤) (A : Atoms 𝓤) (W : Given
   abbrev front : List Record
   front = take count recs
 
-  six : length recs ≡ 6
-  six = is .1 .0 .1
+  as-many : length recs ≡ most
+  as-many = is .1 .0 .1
 
   front-length : length front ≡ count
-  front-length = length-take-le count recs (subst (λ (n : ℕ). count ≤ n) (sym six) within)
+  front-length = length-take-le count recs (subst (λ (n : ℕ). count ≤ n) (sym as-many) within)
 
   room : Room R.the-row (length front)
   room = subst (Room R.the-row) (sym front-length) (omega (arith, within), omega (arith, within))
@@ -179,20 +183,20 @@ module _ {M : Type 1} (𝓤 : URA M) (H : Heap 𝓤) (A : Atoms 𝓤) (W : Given
       suffices ! _ (ends-at 𝓤 H A lend.ended stayed (lend.clauses 𝓤 H A mem run) W bound w r (tt, (tt, (tt, (us₁, (us₂, (us₃, (us₄, tt))))))) (tt, (tt, (tt, (e₁, (e₂, (e₃, (e₄, tt)))))))) $ says ! said $
       move ! (1 ∷ 0 ∷ []) $ join ! $ frame ! $
       -- [text; library; table; numbers; report; the result]
-      nothing ! $ move ! (5 ∷ 0 ∷ []) $ fjoin ! $ move ! (4 ∷ 0 ∷ []) $ fjoin ! $ move ! (3 ∷ 0 ∷ []) $ fjoin ! $ move ! (2 ∷ 0 ∷ []) $ fjoin ! $ owned ! usize (Is usize) (uint-makes 𝓤 H A W w64) count _ (refl, fits) $ fjoin ! $ owned ! Six (Is Six) (array-makes 𝓤 H A W R.the-row (LL.makes R.the-type R′.the-plain 𝓤 H A) 6) recs _ is $ fjoin ! $
+      nothing ! $ move ! (5 ∷ 0 ∷ []) $ fjoin ! $ move ! (4 ∷ 0 ∷ []) $ fjoin ! $ move ! (3 ∷ 0 ∷ []) $ fjoin ! $ move ! (2 ∷ 0 ∷ []) $ fjoin ! $ owned ! usize (Is usize) (uint-makes 𝓤 H A W w64) count _ (refl, fits) $ fjoin ! $ owned ! List-of (Is List-of) (array-makes 𝓤 H A W R.the-row (LL.makes R.the-type R′.the-plain 𝓤 H A) most) recs _ is $ fjoin ! $
       move ! (1 ∷ 0 ∷ []) $ fjoin ! $ frame ! $ done !
 
   -- the array's one machine value
   abbrev v : Val
   v = only (array-vals spelling recs)
 
-  typed : Holds (hasTy (tyArray R′.mir 6) v) × WT v
-  typed = array-lawful 𝓤 H A W R.the-row (LL.lawful R.the-type R′.the-laws 𝓤 H A W) 6 .typed recs _ is .0
+  typed : Holds (hasTy (tyArray R′.mir most) v) × WT v
+  typed = array-lawful 𝓤 H A W R.the-row (LL.lawful R.the-type R′.the-laws 𝓤 H A W) most .typed recs _ is .0
 
   module _ (𝓣 : Tables 𝓤 H) (fm : FmC 𝓤 H (W .laws) (𝓣 .C)) (known : Triple 𝓤 (𝓣 .C #records·analyse_records) (Callee 𝓤 H A mem run)) where
     walks : ent 𝓤 (onEntry 𝓤 H A lend.signature (κ₀, (κ₁, (κ₂, (κ₃, (κ₄, tt))))) (q₀, (q₁, (q₂, (q₃, (q₄, tt))))) a vals) (WpFn 𝓤 H (𝓣 .C) (𝓣 .Λ) code.function (v₀ ∷ v ∷ vint w64 count ∷ v₁ ∷ v₂ ∷ v₃ ∷ v₄ ∷ []) Post)
     walks =
-        qed W ((‵ (flft κ₀ q₀) ⊛ ‵ (flft κ₁ q₁) ⊛ ‵ (flft κ₂ q₂) ⊛ ‵ (flft κ₃ q₃) ⊛ ‵ (flft κ₄ q₄) ⊛ ‵ ftrue) ∷ ‵ (owns (ShrSlice (named 0) κ₀ u8 ∷ Six ∷ usize ∷ MutSlice (named 1) κ₁ u32 ∷ MutSlice (named 2) κ₂ u32 ∷ MutSlice (named 3) κ₃ u32 ∷ MutSlice (named 4) κ₄ u8 ∷ []) a vals) ∷ []) ∵
+        qed W ((‵ (flft κ₀ q₀) ⊛ ‵ (flft κ₁ q₁) ⊛ ‵ (flft κ₂ q₂) ⊛ ‵ (flft κ₃ q₃) ⊛ ‵ (flft κ₄ q₄) ⊛ ‵ ftrue) ∷ ‵ (owns (ShrSlice (named 0) κ₀ u8 ∷ List-of ∷ usize ∷ MutSlice (named 1) κ₁ u32 ∷ MutSlice (named 2) κ₂ u32 ∷ MutSlice (named 3) κ₃ u32 ∷ MutSlice (named 4) κ₄ u8 ∷ []) a vals) ∷ []) ∵
         enter ! (𝓣 .C) (𝓣 .Λ) code.function (v₀ ∷ v ∷ vint w64 count ∷ v₁ ∷ v₂ ∷ v₃ ∷ v₄ ∷ []) _ $
         alloc1 ! (λ l₀. alloc1 ! (λ l₁. alloc1 ! (λ l₂. alloc1 ! (λ l₃. alloc1 ! (λ l₄. alloc1 ! (λ l₅. alloc1 ! (λ l₆. alloc1 ! (λ l₇. alloc1 ! (λ l₈. alloc1 ! (λ l₉. alloc1 ! (λ l₁₀. alloc1 ! (λ l₁₁. alloc1 ! (λ l₁₂. alloc1 ! (λ l₁₃. alloc1 ! (λ l₁₄. alloc1 ! (λ l₁₅. alloc1 ! (λ l₁₆. alloc1 ! (λ l₁₇. alloc1 ! (λ l₁₈. alloc0 ! $ params1 ! $
         pass1 ! (init ! (at 0 1) refl (tt, (tt, (record { fits = room₀ .0 }, tt)))) $ pass1 ! (init ! (at 0 2) refl typed) $ pass1 ! (init ! (at 0 3) refl (tt, record { fits = fits })) $
@@ -214,7 +218,7 @@ module _ {M : Type 1} (𝓤 : URA M) (H : Heap 𝓤) (A : Atoms 𝓤) (W : Given
         assigns ! (agg ! (and-then ! (load ! (from ! (stop !)) (look ! (at 10 17) refl)) (and-then ! (load ! (from ! (fld ! refl (stop !))) (look-in ! (at 10 7) (sub ! 1 refl (whole !)))) (no-more !)))) (from ! (stop !)) (init ! (at 10 18) refl (tt, (tt, (record { fits = room₄ .0 }, tt)))) $
         -- the array's cell is its elements in memory, of which the first are lent for ν. From here on the locals below _8 stand
         -- one place lower
-        lft-new ! tt (λ ν. move ! (at 11 8 ∷ []) $ use1 W (‵ (row R.the-row fullShare recs l₈ 0)) (array-out R.the-row 𝓤 H A W tt (LL.makes R.the-type R′.the-plain 𝓤 H A) 6 recs v l₈ 0 is) $
+        lft-new ! tt (λ ν. move ! (at 11 8 ∷ []) $ use1 W (‵ (row R.the-row fullShare recs l₈ 0)) (array-out R.the-row 𝓤 H A W tt (LL.makes R.the-type R′.the-plain 𝓤 H A) most recs v l₈ 0 is) $
         use1 W (‵ (row R.the-row fullShare front l₈ 0) ⊛ ‵ (beyond R.the-row count recs l₈ 0)) (row-cut R.the-row 𝓤 H A W count recs l₈ 0) $ split ! $ feqI ! ℕ (length front) (length front) refl $ fjoin ! $
         use1 W (later (some (λ (δ : GName). ‵ (Records l₈ (ν ∷ []) δ (length front)) ⊛ ‵ (flent (ν ∷ []) (arr-parts (shares R.the-row) (length front) .part fullShare front l₈ 0))))) (lends-shr-slice 𝓤 H A W R.the-row (named 1) (ν ∷ []) fullShare front l₈ 0 room) $ await ! tt $ pick ! (λ δ. split ! $
         rewrite ! 0 (λ (m : ℕ). ‵ (Records l₈ (ν ∷ []) δ m)) front-length refl $
@@ -232,7 +236,7 @@ module _ {M : Type 1} (𝓤 : URA M) (H : Heap 𝓤) (A : Atoms 𝓤) (W : Given
         -- the elements come back, and are the array's cell again
         move ! (1 ∷ []) $ split ! $ move ! (1 ∷ []) $ split ! $ lft-end ! tt $ move ! (0 ∷ 10 ∷ []) $ lent-back ! tt $ fsplit ! $ drop ! $ move ! (0 ∷ 10 ∷ []) $
         use2 W (‵ (row R.the-row fullShare recs l₈ 0)) (row-join R.the-row 𝓤 H A W count recs l₈ 0) $
-        use1 W (some (λ (u : Val). ‵ (fat fullShare (tyArray R′.mir 6) l₈ 0 u))) (array-in R.the-row 𝓤 H A W 6 recs l₈ 0 six) $ pick ! (λ u.
+        use1 W (some (λ (u : Val). ‵ (fat fullShare (tyArray R′.mir most) l₈ 0 u))) (array-in R.the-row 𝓤 H A W most recs l₈ 0 as-many) $ pick ! (λ u.
         -- [_8; the tokens; lft₀; the result; report's last; …; numbers'; table's; library's; text; _18; …]
         returns ! (look ! (at 9 0) refl) $ forget ! 0 refl $ forget ! (at 9 0) refl $ forget ! (at 9 1) refl $ forget ! (at 9 2) refl $ forget ! (at 9 3) refl $ forget ! (at 9 4) refl $ forget ! (at 9 5) refl $ forget ! (at 9 6) refl $ forget ! (at 9 7) refl $ forget ! (at 10 9) refl $ forget ! (at 10 10) refl $ forget ! (at 10 11) refl $ forget ! (at 10 12) refl $ forget ! (at 10 13) refl $ forget ! (at 10 14) refl $ forget ! (at 10 15) refl $ forget ! (at 10 16) refl $ forget ! (at 10 17) refl $ forget ! (at 10 18) refl $
         move ! (at 9 0 ∷ suc (at 9 0) ∷ []) $ free1 ! $ move ! (at 9 1 ∷ suc (at 9 1) ∷ []) $ free1 ! $ move ! (at 9 2 ∷ suc (at 9 2) ∷ []) $ free1 ! $ move ! (at 9 3 ∷ suc (at 9 3) ∷ []) $ free1 ! $ move ! (at 9 4 ∷ suc (at 9 4) ∷ []) $ free1 ! $ move ! (at 9 5 ∷ suc (at 9 5) ∷ []) $ free1 ! $ move ! (at 9 6 ∷ suc (at 9 6) ∷ []) $ free1 ! $ move ! (at 9 7 ∷ suc (at 9 7) ∷ []) $ free1 ! $ move ! (0 ∷ at 10 8 ∷ []) $ free1 ! $ move ! (at 9 9 ∷ suc (at 9 9) ∷ []) $ free1 ! $ move ! (at 9 10 ∷ suc (at 9 10) ∷ []) $ free1 ! $ move ! (at 9 11 ∷ suc (at 9 11) ∷ []) $ free1 ! $ move ! (at 9 12 ∷ suc (at 9 12) ∷ []) $ free1 ! $ move ! (at 9 13 ∷ suc (at 9 13) ∷ []) $ free1 ! $ move ! (at 9 14 ∷ suc (at 9 14) ∷ []) $ free1 ! $ move ! (at 9 15 ∷ suc (at 9 15) ∷ []) $ free1 ! $ move ! (at 9 16 ∷ suc (at 9 16) ∷ []) $ free1 ! $ move ! (at 9 17 ∷ suc (at 9 17) ∷ []) $ free1 ! $ move ! (at 9 18 ∷ suc (at 9 18) ∷ []) $ free1 ! $ free0 ! $
@@ -241,15 +245,15 @@ module _ {M : Type 1} (𝓤 : URA M) (H : Heap 𝓤) (A : Atoms 𝓤) (W : Given
 module _ {M : Type 1} (𝓤 : URA M) (H : Heap 𝓤) (A : Atoms 𝓤) (W : Given 𝓤 H A) (mem : Memory → SProp 𝓤) (run : Routine → Fun 𝓤) where
   lend-walks : (𝓣 : Tables 𝓤 H) → Triple 𝓤 (𝓣 .C #records·analyse_records) (Callee 𝓤 H A mem run) → Walks 𝓤 H A lend.ended stayed (WpFn 𝓤 H (𝓣 .C) (𝓣 .Λ) code.function) (lend.clauses 𝓤 H A mem run)
   lend-walks 𝓣 known = walked 𝓤 H A lend.ended stayed (lend.clauses 𝓤 H A mem run) (WpFn 𝓤 H (𝓣 .C) (𝓣 .Λ) code.function) (λ κs. (slice-vals, (array-vals spelling, (uint-vals w64, (slice-vals, (slice-vals, (slice-vals, (slice-vals, tt))))))))
-      (λ κs. (shr-slice-tells (named 0) (κs .0) u8, (array-tells R.the-row spelling (R′.lowers .val-is) 6, (uint-tells w64, (mut-slice-tells (named 1) (κs .1 .0) u32, (mut-slice-tells (named 2) (κs .1 .1 .0) u32, (mut-slice-tells (named 3) (κs .1 .1 .1 .0) u32, (mut-slice-tells (named 4) (κs .1 .1 .1 .1 .0) u8, tt))))))))
-      (λ κs qs bounds a g are. needs 𝓤 (a .1 .1 .0 ≤ 6) _ (λ within.
+      (λ κs. (shr-slice-tells (named 0) (κs .0) u8, (array-tells R.the-row spelling (R′.lowers .val-is) most, (uint-tells w64, (mut-slice-tells (named 1) (κs .1 .0) u32, (mut-slice-tells (named 2) (κs .1 .1 .0) u32, (mut-slice-tells (named 3) (κs .1 .1 .1 .0) u32, (mut-slice-tells (named 4) (κs .1 .1 .1 .1 .0) u8, tt))))))))
+      (λ κs qs bounds a g are. needs 𝓤 (a .1 .1 .0 ≤ most) _ (λ within.
       walks 𝓤 H A W mem run (κs .0) (κs .1 .0) (κs .1 .1 .0) (κs .1 .1 .1 .0) (κs .1 .1 .1 .1 .0) (qs .0) (qs .1 .0) (qs .1 .1 .0) (qs .1 .1 .1 .0) (qs .1 .1 .1 .1 .0) (a .0) (a .1 .0) (a .1 .1 .0) (a .1 .1 .1 .0) (a .1 .1 .1 .1 .0) (a .1 .1 .1 .1 .1 .0) (a .1 .1 .1 .1 .1 .1 .0)
       (are .0 .0 .1) (are .1 .0) (are .1 .1 .0 .1) (are .1 .1 .1 .0 .0 .1) (are .1 .1 .1 .1 .0 .0 .1) (are .1 .1 .1 .1 .1 .0 .0 .1) (are .1 .1 .1 .1 .1 .1 .0 .0 .1) within 𝓣 (fmOf 𝓤 H (W .laws) 𝓣) known))
 
 lend-meets : {M : Type 1} (𝓤 : URA M) (H : Heap 𝓤) (A : Atoms 𝓤) → Given 𝓤 H A → (mem : Memory → SProp 𝓤) (run : Routine → Fun 𝓤) (𝓣 : Tables 𝓤 H) → Triple 𝓤 (𝓣 .C #records·analyse_records) (Callee 𝓤 H A mem run)
     → Meets 𝓤 H A lend.signature (WpFn 𝓤 H (𝓣 .C) (𝓣 .Λ) code.function) (lend.spec 𝓤 H A mem run)
 lend-meets 𝓤 H A W mem run 𝓣 known =
-    walk-meets 𝓤 H A lend.ended stayed W (goes-none-slice 𝓤 H A W 5 (0 ∷ []) tt (plain (λ _. u8)) yes, (goes-none 𝓤 H A W 5 (λ _. Six) yes (λ κs x f. refl), (goes-none 𝓤 H A W 5 (λ _. usize) yes (λ κs x f. refl), (goes-gave-slice 𝓤 H A W 5 1 tt (plain (λ _. u32)), (goes-gave-slice 𝓤 H A W 5 2 tt (plain (λ _. u32)), (goes-gave-slice 𝓤 H A W 5 3 tt (plain (λ _. u32)), (goes-gave-slice 𝓤 H A W 5 4 tt (plain (λ _. u8)), tt))))))) (lend.clauses 𝓤 H A mem run)
+    walk-meets 𝓤 H A lend.ended stayed W (goes-none-slice 𝓤 H A W 5 (0 ∷ []) tt (plain (λ _. u8)) yes, (goes-none 𝓤 H A W 5 (λ _. List-of) yes (λ κs x f. refl), (goes-none 𝓤 H A W 5 (λ _. usize) yes (λ κs x f. refl), (goes-gave-slice 𝓤 H A W 5 1 tt (plain (λ _. u32)), (goes-gave-slice 𝓤 H A W 5 2 tt (plain (λ _. u32)), (goes-gave-slice 𝓤 H A W 5 3 tt (plain (λ _. u32)), (goes-gave-slice 𝓤 H A W 5 4 tt (plain (λ _. u8)), tt))))))) (lend.clauses 𝓤 H A mem run)
     (WpFn 𝓤 H (𝓣 .C) (𝓣 .Λ) code.function) (WpFn-mono 𝓤 H (W .laws) 𝓣 code.function) (lend-walks 𝓤 H A W mem run 𝓣 known)
 
 pub lend-spec : {M : Type 1} → stated.statement M

@@ -1,209 +1,46 @@
--- `read_netlist` walks the lines of the text: the table holds the statements passed. Assumes nothing.
-use mathlib.Core.List.{List}
-use mathlib.Core.Path.{_≡_, refl, ap, _∙_}
-use Prim.Native.Nat.{ℕ, _+_, _-_, _≤_, _<_}
-use native.Mathlib.Omega.{arith}
-use lib.ListN.{length, drop}
-use Rattle.sizes.specs.Sizes as Size
-use Rattle.text.specs.Lines.{part, fields, nextAfter}
-use Rattle.text.proofs.Laws.{nextAfter-within, part-within}
-use Rattle.reading.specs.Numbers as No
-use Rattle.reading.specs.Verdict.{verdictRead}
-use Rattle.cell_library.specs.Cells.{Cell}
-use Rattle.netlist.specs.Netlist.{statementOf}
-use Rattle.netlist.specs.Admitting.{Decided}
-use Rattle.cell_library.specs.Layout.{LibraryHolds}
-use Rattle.netlist.proofs.Reading.{
-  cleared-past,
-  Reading,
-  holding,
-  line-ended,
-  reading-start,
-  reading-more,
-  reading-refused,
-  reading-unended,
-  reading-end,
-  left-refused,
-  left-read,
-}
+-- `read_netlist` reads the lines behind the entry. Assumes nothing.
+use denote.Ref.{now}
+use Rattle.netlist.proofs.Entering.{entered, shut, unshut, behind}
 use borrow.Author.Needs.{needs}
 use Rattle.netlist.proofs.read_netlist.Statement.{statement}
 use Rattle.netlist.proofs.read_netlist.Tie as tie
 
-abbrev Inv-loop : tie.InvT-loop
-Inv-loop text library table₀ n at₀ number₀ table at number =
-    (at ≤ length text)
-    × (number ≤ at + 1)
-    × (length table ≡ length table₀)
-    × ((cells : List Cell) → LibraryHolds library cells → Reading cells text at number table (drop Size.netlist table₀))
-
-abbrev μ-loop : tie.MeasureT-loop
-μ-loop text library table₀ n at₀ number₀ table at number = length text - at
-
 -- ---- the places of the code that the answers speak of
 
-abbrev begun : tie.After-clear Inv-loop μ-loop → tie.Start Inv-loop μ-loop
-begun c = c .before .before .before .before .before
+abbrev begins : tie.After-entry → tie.Start
+begins c = c .before .before .before .before
 
-abbrev cleared : tie.At-loop Inv-loop μ-loop → tie.After-clear Inv-loop μ-loop
-cleared c = c .before .before .before
+abbrev accepted : tie.After-read-lines-arg → tie.After-entry
+accepted c = c .before .before .before
 
-abbrev walking : tie.After-after Inv-loop μ-loop → tie.At-loop Inv-loop μ-loop
-walking c = c .before .before .before
+read-lines-requires : tie.Need-read-lines-requires
+read-lines-requires c κs =
+    let e = accepted c in
+    let a = begins e .args in
+    entered _ _ _ (unshut (now (a .text)) (now (a .library)) (now (a .table)) (e .entry .result) (e .entry .ensures) (search needs))
 
-abbrev read : tie.After-slice-known4 Inv-loop μ-loop → tie.After-read-line Inv-loop μ-loop
-read c = c .before .before
+returns : tie.Need-returns
+returns c =
+    let e = c .before .before in
+    let a = begins e .args in
+    shut (now (a .text)) (now (a .library)) (now (a .table)) (e .entry .result) (e .entry .ensures) _ (c .enum-told .given .1)
 
-abbrev ended : tie.After-read-line Inv-loop μ-loop → tie.Else1 Inv-loop μ-loop
-ended c = c .before .before
-
-abbrev refused-at : tie.After-slice-known5 Inv-loop μ-loop → tie.Then2 Inv-loop μ-loop
-refused-at c = c .before .before .before .before
-
-module _ (c : tie.At-loop Inv-loop μ-loop) where
-  abbrev text : List ℕ
-  text = begun (cleared c) .args .text .now
-
-  abbrev before : List ℕ
-  before = begun (cleared c) .args .table .now
-
-  same-size : length (c .loop .table) ≡ length before
-  same-size = c .loop .inv .2 ∙ cleared c .clear .kept .0
-
--- The cursor behind the line.
-behind : (c : tie.After-after Inv-loop μ-loop)
-    → let w = walking c in
-    c .after .result ≡ nextAfter (text w) (w .loop .at) (part 10 (text w) (w .loop .at))
-behind c = let w = walking c in c .after .ensures ∙ ap (nextAfter (text w) (w .loop .at)) (c .before .line .ensures)
-
-whole : (c : tie.Else1 Inv-loop μ-loop)
-    → let w = walking (c .before) in
-    w .loop .at + length (part 10 (text w) (w .loop .at)) < length (text w)
-whole c =
-    let w = walking (c .before) in
-    line-ended (text w) (w .loop .at) (c .before .after .result) (w .loop .inv .0) (behind (c .before)) (c .if1 .left)
-
--- What `read_line` answered and left.
-decided : (c : tie.After-read-line Inv-loop μ-loop) (cells : List Cell)
-    → let w = walking (ended c .before) in
-    (lib : LibraryHolds (begun (cleared w) .args .library .now) cells)
-    → let so-far = w .loop .inv .3 cells lib in
-    Decided cells (so-far .statements) (statementOf cells (fields (part 10 (text w) (w .loop .at))))
-    (drop Size.netlist (cleared w .clear .last .0)) (c .read-line .result) (c .read-line .last .1 .1 .0)
-decided c cells lib =
-    let w = walking (ended c .before) in
-    let so-far = w .loop .inv .3 cells lib in
-    rw (← ended c .before .before .line .ensures)
-    (c .read-line .ensures cells lib (so-far .statements) (holding so-far))
-
-loop-holds : tie.Need-loop-holds Inv-loop μ-loop
-loop-holds c =
-    let k = c .before .before in
-    let a = begun k .args in (
-      omega arith,
-      omega arith,
-      refl,
-      λ cells lib. rw (k .clear .ensures) (reading-start cells (a .text .now) (a .table .now) (begun k .pre .1)),
-    )
-
-same-length : tie.Need-same-length Inv-loop μ-loop
-same-length c = c .before .before .refusal .kept .0 ∙ same-size (walking (c .before .before .before .before .before))
-
-returns : tie.Need-returns Inv-loop μ-loop
-returns c cells lib =
-    let left = c .before .before in
-    let t = left .before .before in
-    let w = walking (t .before) in
-    let s = text w in
-    let l = w .loop in
-    let within : l .at < length s = t .before .before .before .loop-test .taken in
-    let unended : l .at + length (part 10 s (l .at)) ≡ length s =
-    omega (
-      arith,
-      part-within 10 s (l .at) (l .inv .0),
-      nextAfter-within s (l .at) (part 10 s (l .at)) (l .inv .0),
-      behind (t .before),
-      t .if1 .taken,
-    )
-    in
-    left-refused cells s (before w) (left .refusal .result) _
-    (reading-unended (l .inv .3 cells lib) within unended)
-    (left .refusal .ensures .0) (left .refusal .ensures .1) (same-size w)
-
-same-length-2 : tie.Need-same-length-2 Inv-loop μ-loop
-same-length-2 c =
-    let r = read (refused-at c .before) in
-    c .before .before .refusal2 .kept .0 ∙ r .read-line .kept .1 .1 .0 ∙ same-size (walking (ended r .before))
-
-returns-2 : tie.Need-returns-2 Inv-loop μ-loop
-returns-2 c cells lib =
-    let left = c .before .before in
-    let r = read (refused-at c .before) in
-    let w = walking (ended r .before) in
-    left-refused cells (text w) (before w) (left .refusal2 .result) _
-    (reading-refused (w .loop .inv .3 cells lib) (whole (ended r)) (decided r cells lib) (refused-at c .if2 .taken))
-    (left .refusal2 .ensures .0) (left .refusal2 .ensures .1) (r .read-line .kept .1 .1 .0 ∙ same-size w)
-
-add-number : tie.Need-add-number Inv-loop μ-loop
-add-number c = omega (arith, begun (cleared (walking (ended (read (c .before)) .before))) .pre .0)
-
-loop-less : tie.Need-loop-less Inv-loop μ-loop
-loop-less c =
-    let f = ended (read (c .before)) .before in
-    let w = walking f in
-    let l = w .loop in
-    omega (
-      arith,
-      nextAfter-within (text w) (l .at) (f .before .line .result .now) (l .inv .0),
-      f .after .ensures,
-      f .before .before .loop-test .taken,
-    )
-
-loop-again : tie.Need-loop-again Inv-loop μ-loop
-loop-again c =
-    let r = read (c .before) in
-    let f = ended r .before in
-    let w = walking f in
-    let l = w .loop in (
-      ended r .if1 .left,
-      omega (arith, nextAfter-within (text w) (l .at) (part 10 (text w) (l .at)) (l .inv .0), behind f, l .inv .1),
-      r .read-line .kept .1 .1 .0 ∙ l .inv .2,
-      λ cells lib. reading-more (l .inv .3 cells lib) (whole (ended r)) (decided r cells lib) (behind f) (c .if2 .left),
-    )
-
-same-length-3 : tie.Need-same-length-3 Inv-loop μ-loop
-same-length-3 c = same-size (c .before)
-
-returns-3 : tie.Need-returns-3 Inv-loop μ-loop
-unfolding verdictRead
-returns-3 c cells lib =
-    let w = c .before in
-    let so-far = w .loop .inv .3 cells lib in
-    let past : drop Size.netlist (cleared w .clear .last .0) ≡ drop Size.netlist (before w) =
-    ap (drop Size.netlist) (cleared w .clear .ensures) ∙ cleared-past (before w) (begun (cleared w) .pre .1)
-    in
-    left-read cells (text w) (before w) _ (w .loop .table) (reading-end so-far (c .loop-test .left)) refl
-    (rw (← past) (so-far .held))
+returns-2 : tie.Need-returns-2
+returns-2 c =
+    let r = c .before .before in
+    let e = accepted (r .before) in
+    let a = begins e .args in
+    behind (now (a .text)) (now (a .library)) (now (a .table)) (e .entry .result) (e .entry .ensures) (search needs)
+    (r .read-lines .result) _ (r .read-lines .ensures)
 
 pub read-netlist-spec : {M : Type 1} → statement M
 read-netlist-spec =
     tie.close
     (tie.spec
-    Inv-loop
-    μ-loop
     (λ c κs. search needs)
-    loop-holds
-    (λ c κs. search needs)
-    (λ c κs. search needs)
-    (λ c κs. search needs)
-    same-length
+    (λ c. search needs)
+    (λ c. search needs)
+    read-lines-requires
     returns
-    (λ c κs. search needs)
-    (λ c κs. search needs)
-    same-length-2
-    returns-2
-    add-number
-    loop-less
-    loop-again
-    same-length-3
-    returns-3)
+    (λ c. search needs)
+    returns-2)
