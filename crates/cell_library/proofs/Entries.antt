@@ -2,30 +2,29 @@
 -- Assumes nothing.
 use mathlib.Core.Bool.{Bool, true, false}
 use mathlib.Core.List.{List, [], _∷_, _++_}
+use mathlib.Core.Option.{none, some}
 use mathlib.Core.Path.{_≡_, refl, sym, ap, _∙_}
 use Prim.Native.Nat.{ℕ, _+_, _≤_, _<_}
 use native.Mathlib.Omega.{arith}
 use lib.ListN.{length, getD, set, drop, length-append}
 use borrow.Author.Tests.{eq-eqb, ne-eqb, le-ltb}
-use Rattle.sizes.specs.Places.{groupPlace}
 use Rattle.sizes.specs.Sizes as Size
 use Rattle.reading.specs.Choice.{pick}
 use Rattle.reading.specs.Each.{Each}
 use Rattle.reading.specs.Numbers as No
 use Rattle.reading.specs.Refusal.{Read, refused, read, _>>=_, _>>_, form}
-use Rattle.reading.proofs.Laws.{by-test}
+use Rattle.reading.proofs.Laws.{by-test, and-right}
 use Rattle.text.specs.Lines.{sameBytes}
-use Rattle.text.specs.Numeral.{decimal}
 use Rattle.text.proofs.Laws.{nameForm-length}
 use Rattle.cell_library.specs.Cells.{Group, Cell}
-use Rattle.cell_library.specs.Library.{Fields, word, rowsForm, anyOf, aboveRows, groupsOf, Word, CC, CO, SC, SO, wordBytes, groupCount, wordLine, endLine, lineAfter, Place, outside, inside, Reading, begun, wordGroups, withGroups, rowLine, libraryLine}
-use Rattle.cell_library.specs.Layout.{libraryWords, firstGroup, LibraryHolds}
-use Rattle.cell_library.specs.Passes.{orZero, headerPut, rowsPut, wordAt, rowNumber, headerIn, nameNumber, endFormed}
+use Rattle.cell_library.specs.Library.{Fields, holds, rowsAfter, nameLine, word, rowsForm, anyOf, aboveRows, groupsOf, Word, CC, CO, SC, SO, wordBytes, groupCount, wordLine, endLine, lineAfter, Place, outside, inside, Reading, begun, wordGroups, withGroups, rowLine, libraryLine}
+use Rattle.cell_library.specs.Layout.{libraryWords, LibraryHolds}
+use Rattle.cell_library.specs.Passes.{headerPut, askedOf, nonePassed, stored, wordAt, rowNumber, headerNumber, endFormed}
 use Rattle.cell_library.specs.Sound.{SoundGroup, wordNumber, endNumber, wantedNumber, SoundEntry, SoundPlace, SoundReading}
 use Rattle.cell_library.specs.Walk.{placeCells, countedWords, readingWords, placeNumber, placePins, StateFits, Shows, Leaves}
 use Rattle.cell_library.specs.declared.lines.State.{State}
 use Rattle.cell_library.proofs.Laws.{rowLine-sound, libraryLine-sound, sound-fits}
-use Rattle.cell_library.proofs.Passes.{gather, gather-groups, rowLine-number, nameLine-number, endAfter-formed, rowNumber-passes}
+use Rattle.cell_library.proofs.Passes.{rowLine-number, pinsOf, nameAfter-none, nameLine-number, endAfter-formed, row-formed}
 use Rattle.cell_library.proofs.Places.{space, within-space}
 use Rattle.cell_library.proofs.Stores.{partTable, line-stored, same-pins, header-stored, count-stored}
 
@@ -118,53 +117,50 @@ module _ (fs : Fields) (r : Reading) (past : List ℕ) (n : ℕ) (s : State) (ta
   pub outside-holds : LibraryHolds table (r .cells)
   outside-holds = record { past = past; words = outside-words; fits = sound-fits (r .cells) (shows .sound .cells) }
 
-  pub name-refused : (t : State) (after : List ℕ) → t .number ≡ nameNumber (r .cells) fs → (t .number ≡ 0 → ⊥)
-      → Leaves n (libraryLine n (r .cells) (r .place) fs) t after past
-  unfolding libraryLine _>>=_ pick
-  name-refused t after e h =
+  pub name-bad : (t : State) (after : List ℕ) → pinsOf fs ≡ none → t .number ≡ No.libraryForm → Leaves n (libraryLine n (r .cells) (r .place) fs) t after past
+  unfolding libraryLine nameLine form _>>=_
+  name-bad t after p e =
       rw is-outside
-      (leaves-refused n t after past (libraryLine n (r .cells) outside fs)
-      (rw (nameLine-number n (r .cells) fs, ← e, ne-eqb (t .number) 0 h)) h)
+      (leaves-refused n t after past (libraryLine n (r .cells) outside fs) (rw (nameAfter-none fs p, e)) (λ z. omega arith))
 
-  pub name-read : (pins : ℕ) (after : List ℕ) → nameNumber (r .cells) fs ≡ 0 → pins ≡ orZero (decimal (getD fs 2 []))
-      → after ≡ headerPut (s .cells) (getD fs 1 []) pins table
-      → Leaves n (libraryLine n (r .cells) (r .place) fs) (record { place = 1; cells = s .cells; pins = pins; number = 0 }) after past
-  unfolding readingWords placeCells placeNumber placePins SoundPlace headerIn begun libraryLine _>>=_ pick
-  name-read pins after zeroed pins-are stored-as =
-      let c : Cell = begun (headerIn fs) in
-      let next : Reading = record { cells = r .cells; place = inside (wordLine CC) c } in
-      let reads : libraryLine n (r .cells) outside fs ≡ read next = rw (nameLine-number n (r .cells) fs, eq-eqb (nameNumber (r .cells) fs) 0 zeroed) in
-      let known : SoundReading next = libraryLine-sound n (r .cells) outside fs next (shows .sound .cells) tt reads in
-      let short : length (getD fs 1 []) ≤ Size.nameBytes = nameForm-length (getD fs 1 []) (known .entry .header .form) .1 in
-      let words : after ≡ countedWords (length (r .cells)) (r .cells ++ (c ∷ [])) ++ past =
-      stored-as ∙ rw (outside-words, pins-are, shows .cells) (header-stored (r .cells) past (getD fs 1 []) (orZero (decimal (getD fs 2 []))) (known .entry .space) short) in
-      rw is-outside
-      (leaves-read n _ after past (libraryLine n (r .cells) outside fs) next reads
-      (record { place = refl; cells = shows .cells; pins = pins-are; accepted = refl; words = words; sound = known }))
+  module _ (pins : ℕ) (p : pinsOf fs ≡ some pins) where
+    pub name-refused : (t : State) (after : List ℕ) → t .number ≡ headerNumber (getD fs 1 []) pins table → (t .number ≡ 0 → ⊥)
+        → Leaves n (libraryLine n (r .cells) (r .place) fs) t after past
+    unfolding libraryLine _>>=_ pick
+    name-refused t after e h =
+        rw is-outside
+        (leaves-refused n t after past (libraryLine n (r .cells) outside fs)
+        (rw (nameLine-number n (r .cells) table outside-holds fs pins p, ← e, ne-eqb (t .number) 0 h)) h)
+
+    pub name-read : (after : List ℕ) → headerNumber (getD fs 1 []) pins table ≡ 0 → after ≡ headerPut (s .cells) (getD fs 1 []) pins table
+        → Leaves n (libraryLine n (r .cells) (r .place) fs) (record { place = 1; cells = s .cells; pins = pins; number = 0 }) after past
+    unfolding readingWords placeCells placeNumber placePins SoundPlace begun libraryLine _>>=_ pick
+    name-read after zeroed stored-as =
+        let c : Cell = begun (record { name = getD fs 1 []; pins = pins }) in
+        let next : Reading = record { cells = r .cells; place = inside (wordLine CC) c } in
+        let reads : libraryLine n (r .cells) outside fs ≡ read next = rw (nameLine-number n (r .cells) table outside-holds fs pins p, eq-eqb (headerNumber (getD fs 1 []) pins table) 0 zeroed) in
+        let known : SoundReading next = libraryLine-sound n (r .cells) outside fs next (shows .sound .cells) tt reads in
+        let short : length (getD fs 1 []) ≤ Size.nameBytes = nameForm-length (getD fs 1 []) (known .entry .header .form) .1 in
+        let words : after ≡ countedWords (length (r .cells)) (r .cells ++ (c ∷ [])) ++ past =
+        stored-as ∙ rw (outside-words, shows .cells) (header-stored (r .cells) past (getD fs 1 []) pins (known .entry .space) short) in
+        rw is-outside
+        (leaves-read n _ after past (libraryLine n (r .cells) outside fs) next reads
+        (record { place = refl; cells = shows .cells; pins = refl; accepted = refl; words = words; sound = known }))
 
 -- ---- the row lines
 
 number-formed : (w : Word) (n : ℕ) (fs : Fields) → 0 < length fs → rowNumber w n fs ≡ 0 → rowsForm word (drop 1 fs) ≡ true
-unfolding pick
+unfolding rowNumber pick
 number-formed w n fs h e =
-    by-test (rowsForm word (drop 1 fs)) (λ t. t)
-    (λ t. absurd (bad (sameBytes (getD fs 0 []) (wordBytes w)) (rw t at (sym (rowNumber-passes w n fs h) ∙ e))))
-  where
-    bad : (b : Bool) → pick {A = ℕ} b No.libraryForm No.libraryForm ≡ 0 → ⊥
-    bad true q = omega arith
-    bad false q = omega arith
+    let s = sameBytes (getD fs 0 []) (wordBytes w) in
+    by-test (holds (rowsAfter w fs))
+    (λ t. and-right s (rowsForm word (drop 1 fs)) (sym (row-formed w fs h) ∙ t))
+    (λ t. let three : No.libraryForm ≡ 0 = rw t at e in absurd (omega arith))
 
 no-long : (w : Word) (n : ℕ) (gs : List Group) → Each (SoundGroup w n) gs → anyOf aboveRows gs ≡ false
 unfolding Each anyOf aboveRows
 no-long w n [] e = refl
 no-long w n (g ∷ gs) e = rw (le-ltb Size.rows (length g) (e .0 .most-rows)) (no-long w n gs (e .1))
-
-some-group : (w : Word) (n : ℕ) → 1 ≤ n → 1 ≤ groupCount w n
-unfolding groupCount
-some-group CC n h = omega arith
-some-group CO n h = h
-some-group SC n h = omega arith
-some-group SO n h = h
 
 -- The groups of the word that an entry wants are still to come.
 without : (n : ℕ) (w : Word) (c : Cell) → SoundEntry n (wordLine w) c → withGroups w [] c ≡ c
@@ -174,11 +170,6 @@ without n CO c e = rw (← e .co)
 without n SC c e = rw (← e .sc)
 without n SO c e = rw (← e .so)
 
-some-row-field : (fs : Fields) → 1 ≤ length (groupsOf fs) → 0 < length fs
-unfolding groupsOf
-some-row-field [] h = absurd (omega arith)
-some-row-field (f ∷ fs) h = omega arith
-
 -- A row line of word `w` behind so many cells, of cell `c`.
 module _ (n : ℕ) (cells : List Cell) (w : Word) (c : Cell) (fs : Fields) where
   entry-line : rowNumber w (c .pins) fs ≡ 0 → rowLine n w (c .pins) fs ≡ read (groupsOf (drop 1 fs))
@@ -186,19 +177,15 @@ module _ (n : ℕ) (cells : List Cell) (w : Word) (c : Cell) (fs : Fields) where
   entry-line e = rowLine-number n w (c .pins) fs ∙ rw (eq-eqb (rowNumber w (c .pins) fs) 0 e)
 
   entry-stored : (past : List ℕ) → 0 < length fs → rowNumber w (c .pins) fs ≡ 0 → SoundEntry (length cells) (wordLine w) c
-      → rowsPut (record { place = groupPlace (length cells) (firstGroup w); rows = 0; joined = true }) (drop 1 fs) (countedWords (length cells) (cells ++ (c ∷ [])) ++ past)
+      → stored (askedOf (length cells) w (c .pins)) nonePassed (drop 1 fs) (countedWords (length cells) (cells ++ (c ∷ [])) ++ past)
       ≡ countedWords (length cells) (cells ++ (withGroups w (groupsOf (drop 1 fs)) c ∷ [])) ++ past
   unfolding partTable
   entry-stored past some-field e known =
       let rows = drop 1 fs in
       let groups = rowLine-sound w (c .pins) n fs (groupsOf rows) (entry-line e) in
-      let some-rows : 0 < length rows = some-row-field rows (omega (arith, groups .count, some-group w (c .pins) (known .header .some-pin))) in
-      let all : gather [] [] true rows ≡ groupsOf rows = gather-groups rows some-rows (number-formed w (c .pins) fs some-field e) in
-      let fits : length (gather [] [] true rows) ≤ space w = rw all (omega (arith, groups .count, within-space w (c .pins) (known .header .most-pins))) in
-      let short : anyOf aboveRows (gather [] [] true rows) ≡ false = rw all (no-long w (c .pins) (groupsOf rows) (groups .groups)) in
-      ap (λ (x : Cell). rowsPut (record { place = groupPlace (length cells) (firstGroup w); rows = 0; joined = true }) rows (countedWords (length cells) (cells ++ (x ∷ [])) ++ past)) (sym (without (length cells) w c known))
-      ∙ line-stored (length cells) cells w c past (known .space) rows fits short
-      ∙ ap (λ (gs : List Group). countedWords (length cells) (cells ++ (withGroups w gs c ∷ [])) ++ past) all
+      let fits : length (groupsOf rows) ≤ space w = omega (arith, groups .count, within-space w (c .pins) (known .header .most-pins)) in
+      ap (λ (x : Cell). stored (askedOf (length cells) w (c .pins)) nonePassed rows (countedWords (length cells) (cells ++ (x ∷ [])) ++ past)) (sym (without (length cells) w c known))
+      ∙ line-stored (length cells) cells w c past (known .space) rows (number-formed w (c .pins) fs some-field e) fits (no-long w (c .pins) (groupsOf rows) (groups .groups))
 
 module _ (fs : Fields) (some-field : 0 < length fs) (r : Reading) (past : List ℕ) (n : ℕ) (s : State) (table : List ℕ) (shows : Shows r s table past) (at : AtWord (r .place)) where
   abbrev w : Word
@@ -232,7 +219,7 @@ module _ (fs : Fields) (some-field : 0 < length fs) (r : Reading) (past : List �
       (rw (rowLine-number n w (c .pins) fs, ← number, ne-eqb (t .number) 0 h)) h)
 
   pub row-read : (after : List ℕ) → rowNumber (wordAt (s .place)) (s .pins) fs ≡ 0
-      → after ≡ rowsPut (record { place = groupPlace (s .cells) (firstGroup (wordAt (s .place))); rows = 0; joined = true }) (drop 1 fs) table
+      → after ≡ stored (askedOf (s .cells) (wordAt (s .place)) (s .pins)) nonePassed (drop 1 fs) table
       → Leaves n (libraryLine n (r .cells) (r .place) fs) (record { place = s .place + 1; cells = s .cells; pins = s .pins; number = 0 }) after past
   unfolding readingWords placeCells placeNumber placePins SoundPlace libraryLine _>>=_
   row-read after e now =
@@ -248,7 +235,7 @@ module _ (fs : Fields) (some-field : 0 < length fs) (r : Reading) (past : List �
         cells = shows .cells;
         pins = these-pins ∙ sym (same-pins w (groupsOf (drop 1 fs)) c);
         accepted = refl;
-        words = now ∙ rw (this-word, shows .cells, held) (entry-stored n (r .cells) w c fs past some-field number known);
+        words = now ∙ rw (this-word, these-pins, shows .cells, held) (entry-stored n (r .cells) w c fs past some-field number known);
         sound = libraryLine-sound n (r .cells) (inside (wordLine w) c) fs next (shows .sound .cells) known reads;
       }))
 

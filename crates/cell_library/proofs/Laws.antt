@@ -9,22 +9,22 @@ use native.Mathlib.Nat.{mod-lt}
 use native.Mathlib.Omega.{arith}
 use lib.Dec.{leb, eqb}
 use lib.ListN.{length, length-append}
-use borrow.Author.Tests.{ltb-false, leb-true, leb-false, eqb-true, not-false}
+use borrow.Author.Tests.{lt-ltb, le-ltb, ltb-false, leb-true, leb-false, eqb-true, not-false}
 use Rattle.sizes.specs.Sizes as Size
 use Rattle.reading.specs.Choice.{pick}
 use Rattle.reading.specs.Each.{Each}
 use Rattle.reading.specs.Numbers as No
-use Rattle.reading.specs.Refusal.{read, weigh, form}
+use Rattle.reading.specs.Refusal.{refused, read, weigh, form}
 use Rattle.reading.proofs.Laws.{and-left, and-right, or-left, or-right, each-append, each-map, refused-read, bind-read, then-read, form-read, weigh-one}
 use Rattle.text.specs.Lines.{sameBytes, lines}
 use Rattle.text.specs.Numeral.{value, nameForm}
 use Rattle.text.proofs.Laws.{nameForm-length}
 use Rattle.cell_library.specs.Cells.{Row, rowOf, Group, Cell, bit}
+use Rattle.cell_library.specs.Entry.{libraryEntry}
 use Rattle.cell_library.specs.Library.{Fields, isJoin, word, rowsForm, joinFirst, withRow, groupsOf, anyOf, aboveRows, above, observesNot, Word, CC, CO, SC, SO, wordBytes, groupCount, columnCount, idle, rowsAfter, rowLine, Header, nameAfter, endAfter, nameUsed, pinsBad, nameLine, wordLine, endLine, lineAfter, Place, outside, inside, Reading, begun, wordGroups, withGroups, libraryLine, libraryEnd, libraryFrom, library}
 use Rattle.cell_library.specs.Layout.{ShortName, FewPins, Fits}
-use Rattle.cell_library.specs.Passes.{nameFormed, headerIn}
 use Rattle.cell_library.specs.Sound.{SoundRow, SoundGroup, SoundGroups, SoundHeader, SoundCell, Sound, SoundEntry, SoundPlace, SoundReading}
-use Rattle.cell_library.proofs.Passes.{nameAfter-formed, formed-name}
+use Rattle.cell_library.proofs.Passes.{nameAfter-form}
 
 weigh-three : (line i j k : ℕ) (x y z : Bool) (u : Unit {0}) → weigh line ((i, x) ∷ (j, y) ∷ (k, z) ∷ []) ≡ read u → (x ≡ false) × (y ≡ false) × (z ≡ false)
 weigh-three line i j k x y z u e =
@@ -114,12 +114,6 @@ module _ (w : Word) (n : ℕ) where
 
 -- ---- the name line
 
-nameAfter-form : (fs : Fields) (h : Header) → nameAfter fs ≡ some h → nameForm (h .name) ≡ true
-unfolding headerIn
-nameAfter-form fs h e =
-    let formed = pick-some (nameFormed fs) (headerIn fs) h (sym (nameAfter-formed fs) ∙ e) in
-    ap (λ (x : Header). nameForm (x .name)) (sym (formed .1)) ∙ formed-name fs (formed .0)
-
 -- What a name line that is read shows: a good header, and space for one cell more.
 nameLine-sound : (line : ℕ) (cells : List Cell) (fs : Fields) (h : Header) → nameLine line cells fs ≡ read h → SoundHeader (h .name) (h .pins) × (length cells < Size.cells)
 unfolding nameLine pinsBad
@@ -192,6 +186,22 @@ start-sound = record { cells = record { few = omega arith; each = tt }; entry = 
 pub library-sound : (t : List ℕ) (cells : List Cell) → library t ≡ read cells → Sound cells
 unfolding library
 library-sound t cells e = libraryFrom-sound 1 (record { cells = []; place = outside }) (lines t) cells start-sound e
+
+-- ---- the entry
+
+module _ (text table : ℕ) where
+  pub entry-short : table < Size.library → libraryEntry text table ≡ refused No.tableShort 0
+  unfolding libraryEntry weigh pick
+  entry-short h = rw (lt-ltb table Size.library h)
+
+  pub entry-long : Size.library ≤ table → Size.textBytes < text → libraryEntry text table ≡ refused No.textLong 0
+  unfolding libraryEntry weigh pick
+  entry-long h q = rw (le-ltb table Size.library h, lt-ltb Size.textBytes text q)
+
+  -- A table of the published size and a text that is not too long pass the entry.
+  pub entry-passed : Size.library ≤ table → text ≤ Size.textBytes → libraryEntry text table ≡ read tt
+  unfolding libraryEntry weigh pick
+  entry-passed h q = rw (le-ltb table Size.library h, le-ltb Size.textBytes text q)
 
 -- ---- the table
 

@@ -1,10 +1,10 @@
--- Names in the library table: what the tests of a cell's name come to.
+-- What a library table tells of its cells, where it holds them: their count, their pins, and their places by name.
 -- Assumes nothing.
 use mathlib.Core.Bool.{true, false}
 use mathlib.Core.List.{List, [], _∷_}
 use mathlib.Core.Path.{_≡_, refl, sym, ap, _∙_}
-use Prim.Native.Nat.{ℕ, suc, _+_, _≤_, _<_}
-use native.Mathlib.Nat.{add-suc, suc-add, add-zero, add-assoc}
+use Prim.Native.Nat.{ℕ, zero, suc, _+_, _-_, _≤_, _<_}
+use native.Mathlib.Nat.{add-suc, suc-add, add-zero, zero-add, add-assoc}
 use native.Mathlib.Numerals.{add-one, one-add}
 use native.Mathlib.Omega.{arith}
 use lib.Dec.{eqb}
@@ -22,7 +22,7 @@ use Rattle.text.proofs.Laws.{sameBytes-other}
 use Rattle.cell_library.specs.Cells.{Cell}
 use Rattle.cell_library.specs.Library.{cellNamed}
 use Rattle.reading.proofs.Laws.{each-at}
-use Rattle.cell_library.specs.Layout.{cellGroups, groupWords, cellWords, ShortName, LibraryHolds, bytesAt, nameAt}
+use Rattle.cell_library.specs.Layout.{cellGroups, groupWords, cellWords, ShortName, LibraryHolds, bytesAt, nameAt, foundFrom, foundAt}
 use Rattle.cell_library.proofs.Places.{library-count, cell-word, cell-pins}
 
 -- ---- bytes from a place on
@@ -84,24 +84,45 @@ module _ (table : List ℕ) (cells : List Cell) (holds : LibraryHolds table cell
       ∙ List·getD-append (fitted 0 Size.nameBytes (here .name)) behind 0 j (rw (length-fitted 0 Size.nameBytes (here .name)) (omega arith))
       ∙ getD-fitted 0 Size.nameBytes (here .name) j (omega arith)
 
-  module _ (name : List ℕ) where
-    same-name : nameAt name table k ≡ sameBytes name (here .name)
-    unfolding nameAt
-    same-name =
-        rw name-length
-        (by-test (eqb (length (here .name)) (length name))
-        (λ e. rw e (bytesAt-same name (here .name) table (cellPlace k + 1) (sym (eqb-true (length (here .name)) (length name) e)) name-byte))
-        (λ e. rw e (sym (sameBytes-other name (here .name) (λ q. eqb-false (length (here .name)) (length name) e (sym q))))))
+  same-name : (name : List ℕ) → nameAt name table k ≡ sameBytes name (here .name)
+  unfolding nameAt
+  same-name name =
+      rw name-length
+      (by-test (eqb (length (here .name)) (length name))
+      (λ e. rw e (bytesAt-same name (here .name) table (cellPlace k + 1) (sym (eqb-true (length (here .name)) (length name) e)) name-byte))
+      (λ e. rw e (sym (sameBytes-other name (here .name) (λ q. eqb-false (length (here .name)) (length name) e (sym q))))))
 
-    -- One turn of the search for a name.
-    pub find-here : nameAt name table k ≡ true → cellNamed name (drop k cells) ≡ 0
-    unfolding cellNamed pick
-    find-here e = rw (drop-cons cells k blank h, sym same-name ∙ e)
+module _ (name table : List ℕ) (cells : List Cell) (holds : LibraryHolds table cells) where
+  found-named : (left k : ℕ) → k + left ≡ length cells → foundFrom name table k left ≡ k + cellNamed name (drop k cells)
+  unfolding foundFrom cellNamed pick
+  found-named zero k e = let past : length cells ≤ k = omega arith in rw (drop-of-length-le cells past) (sym (add-zero k))
+  found-named (suc left) k e =
+      let h : k < length cells = omega arith in
+      rw (drop-cons cells k blank h, ← same-name table cells holds k h name)
+      (by-test (nameAt name table k)
+      (λ t. rw t (sym (add-zero k)))
+      (λ t. rw t (found-named left (suc k) (omega arith) ∙ omega arith)))
 
-    pub find-on : nameAt name table k ≡ false → cellNamed name (drop k cells) ≡ suc (cellNamed name (drop (k + 1) cells))
-    unfolding cellNamed pick
-    find-on e = rw (add-one k, drop-cons cells k blank h, sym same-name ∙ e)
+  -- The place of a name in a table that holds the cells is its place among them.
+  pub holds-find : foundAt name table ≡ cellNamed name cells
+  unfolding foundAt
+  holds-find = rw (holds-count table cells holds) (found-named (length cells) 0 (zero-add (length cells)) ∙ zero-add (cellNamed name cells))
 
-pub find-end : (name : List ℕ) (cells : List Cell) (k : ℕ) → length cells ≤ k → cellNamed name (drop k cells) ≡ 0
-unfolding cellNamed
-find-end name cells k h = rw (drop-of-length-le cells h)
+-- ---- one turn of the search for a name among n cells
+
+pub found-start : (name table : List ℕ) (n : ℕ) → n ≡ getD table 0 0 → foundFrom name table 0 (n - 0) ≡ foundAt name table
+unfolding foundAt
+found-start name table n e = let all : n - 0 ≡ getD table 0 0 = omega arith in rw all
+
+module _ (name table : List ℕ) (n k : ℕ) where
+  pub found-here : k < n → nameAt name table k ≡ true → foundFrom name table k (n - k) ≡ k
+  unfolding foundFrom pick
+  found-here h e = let more : n - k ≡ suc (n - (k + 1)) = omega arith in rw (more, e)
+
+  pub found-on : k < n → nameAt name table k ≡ false → foundFrom name table k (n - k) ≡ foundFrom name table (k + 1) (n - (k + 1))
+  unfolding foundFrom pick
+  found-on h e = let more : n - k ≡ suc (n - (k + 1)) = omega arith in rw (more, e, add-one k)
+
+  pub found-end : n ≤ k → foundFrom name table k (n - k) ≡ k
+  unfolding foundFrom
+  found-end h = let none : n - k ≡ 0 = omega arith in rw none

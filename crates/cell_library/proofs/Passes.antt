@@ -1,27 +1,35 @@
 -- The passes over a line tied to the definitions of the library text.
 -- Assumes nothing.
-use mathlib.Core.Bool.{Bool, true, false, not, _&&_, _||_, or-false, or-assoc}
+use mathlib.Core.Bool.{Bool, true, false, not, _&&_, _||_, or-false, or-true, or-assoc}
 use mathlib.Core.List.{List, [], _∷_, _++_, append-assoc}
 use mathlib.Core.Option.{Option, none, some}
 use mathlib.Core.Path.{_≡_, refl, sym, ap, _∙_}
-use Prim.Native.Nat.{ℕ, zero, suc, _+_, _*_, _≤_, _<_}
+use Prim.Native.Nat.{ℕ, zero, suc, _+_, _*_, _/_, _%_, _^_, _≤_, _<_}
+use native.Mathlib.Nat.{pow-zero, pow-suc, pow-le-pow-right, div-lt-iff-lt-mul}
+use native.Mathlib.Numerals.{add-one}
 use native.Mathlib.Omega.{arith}
 use lib.Dec.{leb, ltb, eqb}
 use lib.ListN.{length, getD, drop, length-append}
-use borrow.Author.Tests.{eq-eqb, ne-eqb, lt-ltb, ltb-true, eqb-true}
+use borrow.Author.Tests.{eq-eqb, ne-eqb, lt-ltb, le-ltb, ltb-true, ltb-false, leb-false, eqb-true}
 use Rattle.sizes.specs.Sizes as Size
 use Rattle.reading.specs.Numbers as No
 use Rattle.text.specs.Bytes.{bytes}
 use Rattle.reading.specs.Choice.{pick}
 use Rattle.text.specs.Lines.{sameBytes, part, fieldsFrom, nextAfter}
-use Rattle.text.specs.Numeral.{numeral, decimal, nameForm, value, wellFormed}
+use Rattle.text.specs.Numeral.{numeral, decimal, nameForm, value, wellFormed, numeralRead}
+use Rattle.text.specs.declared.Numeral.{Numeral}
+use Rattle.text.specs.declared.Numeral.the-variants.{Value, Bad}
 use Rattle.reading.specs.Refusal.{Read, refused, read, _>>=_, _>>_, weigh, form}
-use Rattle.reading.proofs.Laws.{by-test, clash, and-left, and-right}
+use Rattle.reading.proofs.Laws.{by-test, clash, and-left, and-right, or-left, or-right}
 use Rattle.text.proofs.Laws.{numeral-good, numeral-bad, fieldsFrom-step, fieldsFrom-end}
-use Rattle.cell_library.specs.Cells.{Row, rowOf, Group, Cell}
-use Rattle.cell_library.specs.Library.{Fields, holds, isRow, isJoin, Before, word, row, join, mayJoin, mayEnd, rowsForm, joinFirst, withRow, groupsOf, anyOf, aboveRows, above, namesNone, observesNot, Word, CC, CO, SC, SO, wordBytes, groupCount, columnCount, idle, rowsAfter, rowLine, Header, headerOf, nameAfter, endAfter, nameUsed, pinsBad, nameLine}
-use Rattle.cell_library.specs.Passes.{orZero, rowValue, beforeOf, placed, fieldBad, anyField, groupsWrong, noGroups, wordAt, setting, rowNumber, nameFormed, headerIn, nameNumber, endFormed}
-use Rattle.cell_library.specs.declared.rows.Tally.{Tally}
+use Rattle.cell_library.specs.Cells.{Row, rowOf, Group, Cell, bit}
+use Rattle.cell_library.specs.Library.{Fields, holds, isRow, isJoin, Before, word, row, join, mayJoin, mayEnd, rowsForm, joinFirst, withRow, groupsOf, anyOf, aboveRows, above, namesNone, observesNot, Word, CC, CO, SC, SO, wordBytes, groupCount, columnCount, idle, rowsAfter, rowLine, Header, headerOf, nameAfter, endAfter, cellNamed, nameUsed, pinsBad, nameLine}
+use Rattle.cell_library.specs.Layout.{LibraryHolds}
+use Rattle.cell_library.specs.Passes.{orZero, rowValue, leastColumns, askedOf, nonePassed, marked, opened, groupFor, rowAdded, fieldPassed, passed, fieldStored, stored, numberOf, Small, RowsRead, wordAt, setting, rowNumber, pinsIn, headerNumber, endFormed}
+use Rattle.cell_library.specs.declared.rows.Asked.{Asked}
+use Rattle.cell_library.specs.declared.rows.Passed.{Passed}
+use Rattle.cell_library.proofs.Names.{holds-count, holds-find}
+use Rattle.cell_library.proofs.Places.{first-most}
 
 -- ---- a field
 
@@ -35,77 +43,31 @@ row-value f e = by-test (wellFormed 8 Size.rowDigits f) good bad
     bad : wellFormed 8 Size.rowDigits f ≡ false → orZero (numeral 8 Size.rowDigits f) ≡ value 8 0 f
     bad h = clash (holds (numeral 8 Size.rowDigits f)) e (ap holds (numeral-bad 8 Size.rowDigits f h))
 
--- ---- form
+-- A field that `octal` reads is a row, and one that it does not read is none.
+pub value-row : (v : Numeral) (x : ℕ) (f : List ℕ) → numeralRead v ≡ numeral 8 Size.rowDigits f → v ≡ Value x → (isRow f ≡ true) × (rowValue f ≡ x)
+unfolding isRow rowValue holds orZero numeralRead
+value-row v x f e q =
+    let told : some x ≡ numeral 8 Size.rowDigits f = rw q at e in
+    (ap holds (sym told), ap orZero (sym told))
 
--- What a field leaves of the rest, by the number of what stands before it.
-form-on : (b : ℕ) (f : List ℕ) (fs : Fields) (j i : Bool) → b ≤ 2 → pick j (mayJoin (beforeOf b) && rowsForm join fs) (i && rowsForm row fs) ≡ pick (eqb (pick j (pick (eqb b 1) 2 3) (pick i 1 3)) 3) false (rowsForm (beforeOf (pick j (pick (eqb b 1) 2 3) (pick i 1 3))) fs)
-unfolding pick mayJoin beforeOf
-form-on zero f fs true i h = refl
-form-on (suc zero) f fs true i h = refl
-form-on (suc (suc n)) f fs true i h = rw (ne-eqb (suc (suc n)) 1 (λ e. omega arith))
-form-on b f fs false true h = refl
-form-on b f fs false false h = refl
-
-pub rowsForm-step : (b : ℕ) (f : List ℕ) (fs : Fields) → b ≤ 2 → rowsForm (beforeOf b) (f ∷ fs) ≡ pick (eqb (placed b f) 3) false (rowsForm (beforeOf (placed b f)) fs)
-unfolding rowsForm placed
-rowsForm-step b f fs h = form-on b f fs (isJoin f) (isRow f) h
-
-pub placed-most : (b : ℕ) (f : List ℕ) → placed b f ≤ 3
-unfolding placed pick
-placed-most b f = go (isJoin f) (eqb b 1) (isRow f)
-  where
-    go : (x y z : Bool) → pick x (pick y 2 3) (pick z 1 3) ≤ 3
-    go true true z = omega arith
-    go true false z = omega arith
-    go false y true = omega arith
-    go false y false = omega arith
-
-pub rowsForm-end : (b : ℕ) → b ≤ 2 → rowsForm (beforeOf b) [] ≡ not (eqb b 2)
-unfolding rowsForm mayEnd beforeOf
-rowsForm-end zero h = refl
-rowsForm-end (suc zero) h = refl
-rowsForm-end (suc (suc zero)) h = refl
-rowsForm-end (suc (suc (suc n))) h = absurd (omega arith)
+pub bad-row : (v : Numeral) (f : List ℕ) → numeralRead v ≡ numeral 8 Size.rowDigits f → v ≡ Bad → isRow f ≡ false
+unfolding isRow holds numeralRead
+bad-row v f e q = let told : none ≡ numeral 8 Size.rowDigits f = rw q at e in ap holds (sym told)
 
 -- ---- a line that has the form, field by field
 
 module _ (b : Before) (f : List ℕ) (fs : Fields) where
-  form-join : isJoin f ≡ true → rowsForm b (f ∷ fs) ≡ true → (mayJoin b ≡ true) × (rowsForm join fs ≡ true)
+  pub form-join : isJoin f ≡ true → rowsForm b (f ∷ fs) ≡ true → (mayJoin b ≡ true) × (rowsForm join fs ≡ true)
   unfolding rowsForm pick
   form-join e h =
       let both : (mayJoin b && rowsForm join fs) ≡ true = rw e at h in
       (and-left (mayJoin b) (rowsForm join fs) both, and-right (mayJoin b) (rowsForm join fs) both)
 
-  form-row : isJoin f ≡ false → rowsForm b (f ∷ fs) ≡ true → (isRow f ≡ true) × (rowsForm row fs ≡ true)
+  pub form-row : isJoin f ≡ false → rowsForm b (f ∷ fs) ≡ true → (isRow f ≡ true) × (rowsForm row fs ≡ true)
   unfolding rowsForm pick
   form-row e h =
       let both : (isRow f && rowsForm row fs) ≡ true = rw e at h in
       (and-left (isRow f) (rowsForm row fs) both, and-right (isRow f) (rowsForm row fs) both)
-
--- ---- a test of every row
-
-withRow-any : (p : Row → Bool) (j : Bool) (r : Row) (gs : List Group) → anyOf (anyOf p) (withRow j r gs) ≡ (p r || anyOf (anyOf p) gs)
-unfolding withRow anyOf
-withRow-any p false r gs = ap (λ (t : Bool). t || anyOf (anyOf p) gs) (or-false (p r))
-withRow-any p true r [] = ap (λ (t : Bool). t || false) (or-false (p r))
-withRow-any p true r (g ∷ gs) = or-assoc (p r) (anyOf p g) (anyOf (anyOf p) gs)
-
-any-step : (p : Row → Bool) (b : Before) (f : List ℕ) (fs : Fields) → rowsForm b (f ∷ fs) ≡ true → ((b : Before) → rowsForm b fs ≡ true → anyOf (anyOf p) (groupsOf fs) ≡ anyField p fs) → anyOf (anyOf p) (groupsOf (f ∷ fs)) ≡ anyField p (f ∷ fs)
-unfolding groupsOf anyField fieldBad pick
-any-step p b f fs h rest = by-test (isJoin f) joined single
-  where
-    joined : isJoin f ≡ true → anyOf (anyOf p) (pick (isJoin f) (groupsOf fs) (withRow (joinFirst fs) (rowOf (value 8 0 f)) (groupsOf fs))) ≡ (pick (isJoin f) false (p (rowOf (rowValue f))) || anyField p fs)
-    joined e = rw e (rest join (form-join b f fs e h .1))
-
-    single : isJoin f ≡ false → anyOf (anyOf p) (pick (isJoin f) (groupsOf fs) (withRow (joinFirst fs) (rowOf (value 8 0 f)) (groupsOf fs))) ≡ (pick (isJoin f) false (p (rowOf (rowValue f))) || anyField p fs)
-    single e =
-        rw (e, row-value f (form-row b f fs e h .0), withRow-any p (joinFirst fs) (rowOf (value 8 0 f)) (groupsOf fs), rest row (form-row b f fs e h .1))
-
--- A test of every row of the groups is the test of every field.
-pub any-fields : (p : Row → Bool) (b : Before) (fs : Fields) → rowsForm b fs ≡ true → anyOf (anyOf p) (groupsOf fs) ≡ anyField p fs
-unfolding groupsOf anyField anyOf
-any-fields p b [] h = refl
-any-fields p b (f ∷ fs) h = any-step p b f fs h (λ b′ h′. any-fields p b′ fs h′)
 
 -- ---- the groups, from the left
 
@@ -136,7 +98,7 @@ single-row r true [] = refl
 single-row r true (g ∷ gs) = refl
 
 -- What stands before a field, where it is known whether an M does.
-lastOf : Bool → Before
+unfoldable pub lastOf : Bool → Before
 lastOf true = join
 lastOf false = row
 
@@ -173,37 +135,41 @@ gather-ahead done part j (f ∷ fs) h =
     (gather-row f fs (λ d p i g. gather-ahead d p i fs g) done part j h)
 
 -- The groups of a line that has the form, from its first row.
-gather-first : (f : List ℕ) (fs : Fields) → isJoin f ≡ false → rowsForm word (f ∷ fs) ≡ true → gather [] (rowOf (rowValue f) ∷ []) false fs ≡ groupsOf (f ∷ fs)
+pub gather-first : (f : List ℕ) (fs : Fields) → isJoin f ≡ false → rowsForm word (f ∷ fs) ≡ true → gather [] (rowOf (rowValue f) ∷ []) false fs ≡ groupsOf (f ∷ fs)
 unfolding groupsOf ahead pick lastOf
 gather-first f fs e h =
     let good = form-row word f fs e h in
     rw (e, row-value f (good .0))
     (gather-ahead [] (rowOf (value 8 0 f) ∷ []) false fs (good .1) ∙ single-row (rowOf (value 8 0 f)) (joinFirst fs) (groupsOf fs))
 
-word-first : (f : List ℕ) (fs : Fields) → rowsForm word (f ∷ fs) ≡ true → isJoin f ≡ false
+pub word-first : (f : List ℕ) (fs : Fields) → rowsForm word (f ∷ fs) ≡ true → isJoin f ≡ false
 unfolding mayJoin
 word-first f fs h = by-test (isJoin f) (λ e. clash false (form-join word f fs e h .0) refl) (λ e. e)
 
-pub gather-groups : (fs : Fields) → 0 < length fs → rowsForm word fs ≡ true → gather [] [] true fs ≡ groupsOf fs
-unfolding gather pick
-gather-groups [] some-field h = absurd (omega arith)
-gather-groups (f ∷ fs) some-field h =
-    let e : isJoin f ≡ false = word-first f fs h in
-    rw e (gather-first f fs e h)
-
--- ---- refusal 6
-
-wrong : ℕ → List Group → Bool
-wrong want gs = not (eqb (length gs) want) || anyOf aboveRows gs
+-- ---- tests of groups
 
 pub any-append : {A : Type 0} (p : A → Bool) (xs ys : List A) → anyOf p (xs ++ ys) ≡ (anyOf p xs || anyOf p ys)
 unfolding anyOf
 any-append p [] ys = refl
 any-append p (x ∷ xs) ys = ap (λ (t : Bool). p x || t) (any-append p xs ys) ∙ sym (or-assoc (p x) (anyOf p xs) (anyOf p ys))
 
-any-last : (gs : List Group) (g : Group) → anyOf aboveRows (gs ++ (g ∷ [])) ≡ (anyOf aboveRows gs || aboveRows g)
+any-last : {A : Type 0} (p : A → Bool) (xs : List A) (x : A) → anyOf p (xs ++ (x ∷ [])) ≡ (anyOf p xs || p x)
 unfolding anyOf
-any-last gs g = any-append aboveRows gs (g ∷ []) ∙ ap (λ (t : Bool). anyOf aboveRows gs || t) (or-false (aboveRows g))
+any-last p xs x = any-append p xs (x ∷ []) ∙ ap (λ (t : Bool). anyOf p xs || t) (or-false (p x))
+
+-- A row more in the last group.
+any-row : (p : Row → Bool) (done : List Group) (part : Group) (r : Row)
+    → anyOf (anyOf p) (done ++ ((part ++ (r ∷ [])) ∷ [])) ≡ (anyOf (anyOf p) (done ++ (part ∷ [])) || p r)
+any-row p done part r =
+    any-last (anyOf p) done (part ++ (r ∷ []))
+    ∙ ap (λ (t : Bool). anyOf (anyOf p) done || t) (any-last p part r)
+    ∙ sym (or-assoc (anyOf (anyOf p) done) (anyOf p part) (p r))
+    ∙ ap (λ (t : Bool). t || p r) (sym (any-last (anyOf p) done part))
+
+-- A group of one row behind the others.
+any-new : (p : Row → Bool) (gs : List Group) (r : Row) → anyOf (anyOf p) (gs ++ ((r ∷ []) ∷ [])) ≡ (anyOf (anyOf p) gs || p r)
+unfolding anyOf
+any-new p gs r = any-last (anyOf p) gs (r ∷ []) ∙ ap (λ (t : Bool). anyOf (anyOf p) gs || t) (or-false (p r))
 
 longer : (a : Bool) (n : ℕ) → ((a || ltb Size.rows n) || ltb Size.rows (n + 1)) ≡ (a || ltb Size.rows (n + 1))
 longer true n = refl
@@ -212,52 +178,197 @@ longer false n =
     (λ e. rw (e, lt-ltb Size.rows (n + 1) (omega (arith, ltb-true Size.rows n e))))
     (λ e. rw e)
 
--- The tally of groups that are whole, and of one more.
-abbrev tally : List Group → Group → Bool → Tally
-tally done part j =
-    record { groups = length done + 1; rows = length part; joined = j; long = anyOf aboveRows done || ltb Size.rows (length part) }
+long-row : (done : List Group) (part : Group) (r : Row)
+    → anyOf aboveRows (done ++ ((part ++ (r ∷ [])) ∷ [])) ≡ (anyOf aboveRows (done ++ (part ∷ [])) || ltb Size.rows (length part + 1))
+unfolding aboveRows
+long-row done part r =
+    any-last aboveRows done (part ++ (r ∷ []))
+    ∙ rw (length-append part (r ∷ []), any-last aboveRows done part) (sym (longer (anyOf aboveRows done) (length part)))
 
--- The groups that a field leads to, by whether it is an M and whether it follows one.
-abbrev pub onward : List ℕ → Fields → List Group → Group → Bool → Bool → List Group
-onward f fs done part t j =
-    pick t (gather done part true fs)
-    (pick j (gather done (part ++ (rowOf (rowValue f) ∷ [])) false fs)
-    (gather (done ++ (part ∷ [])) (rowOf (rowValue f) ∷ []) false fs))
+-- Two tests that agree on the rows of which a third does not hold.
+any-agree : (h p q : Row → Bool) → ((r : Row) → h r ≡ false → p r ≡ q r) → (g : Group) → anyOf h g ≡ false → anyOf p g ≡ anyOf q g
+unfolding anyOf
+any-agree h p q same [] e = refl
+any-agree h p q same (r ∷ g) e =
+    rw (same r (or-left (h r) (anyOf h g) e), any-agree h p q same g (or-right (h r) (anyOf h g) e))
 
-module _ (want : ℕ) (f : List ℕ) (fs : Fields) (done : List Group) (part : Group)
-    (rest : (done : List Group) (part : Group) (j : Bool) → groupsWrong want (tally done part j) fs ≡ wrong want (gather done part j fs)) where
-  abbrev more : Tally
-  more = record { groups = length done + 1; rows = length part + 1; joined = false; long = tally done part false .long || ltb Size.rows (length part + 1) }
+any-groups : (h p q : Row → Bool) → ((r : Row) → h r ≡ false → p r ≡ q r) → (gs : List Group)
+    → anyOf (anyOf h) gs ≡ false → anyOf (anyOf p) gs ≡ anyOf (anyOf q) gs
+unfolding anyOf
+any-groups h p q same [] e = refl
+any-groups h p q same (g ∷ gs) e =
+    rw
+    (any-agree h p q same g (or-left (anyOf h g) (anyOf (anyOf h) gs) e), any-groups h p q same gs (or-right (anyOf h g) (anyOf (anyOf h) gs) e))
 
-  abbrev new : Tally
-  new = record { groups = length done + 1 + 1; rows = 1; joined = false; long = tally done part false .long }
+-- ---- the walk: form
 
-  wrong-step : (j t : Bool)
-      → pick t (groupsWrong want (tally done part true) fs) (pick j (groupsWrong want more fs) (groupsWrong want new fs))
-      ≡ wrong want (onward f fs done part t j)
-  unfolding pick aboveRows
-  wrong-step j true = rest done part true
-  wrong-step true false =
-      let r = rowOf (rowValue f) in
-      rw (longer (anyOf aboveRows done) (length part)) (rw (length-append part (r ∷ [])) at (rest done (part ++ (r ∷ [])) false))
-  wrong-step false false =
-      let r = rowOf (rowValue f) in
-      rw (length-append done (part ∷ []), any-last done part, or-false (anyOf aboveRows done || ltb Size.rows (length part)))
-      at (rest (done ++ (part ∷ [])) (r ∷ []) false)
+beforeOf : ℕ → Before
+beforeOf b = pick (eqb b 2) join (pick (eqb b 1) row word)
 
-wrong-gather : (want : ℕ) (fs : Fields) (done : List Group) (part : Group) (j : Bool)
-    → groupsWrong want (tally done part j) fs ≡ wrong want (gather done part j fs)
-unfolding groupsWrong gather wrong aboveRows
-wrong-gather want [] done part j = rw (length-append done (part ∷ []), any-last done part)
-wrong-gather want (f ∷ fs) done part j = wrong-step want f fs done part (λ d p i. wrong-gather want fs d p i) j (isJoin f)
+may-end : (b : ℕ) → mayEnd (beforeOf b) ≡ not (eqb b 2)
+unfolding beforeOf mayEnd pick
+may-end b = go (eqb b 2) (eqb b 1)
+  where
+    go : (x y : Bool) → mayEnd (pick x join (pick y row word)) ≡ not x
+    go true y = refl
+    go false true = refl
+    go false false = refl
 
-wrong-fields : (want : ℕ) (fs : Fields) → rowsForm word fs ≡ true
-    → groupsWrong want noGroups fs ≡ (not (eqb (length (groupsOf fs)) want) || anyOf aboveRows (groupsOf fs))
-unfolding groupsWrong wrong groupsOf anyOf pick
-wrong-fields want [] h = refl
-wrong-fields want (f ∷ fs) h =
-    let e : isJoin f ≡ false = word-first f fs h in
-    rw e (wrong-gather want fs [] (rowOf (rowValue f) ∷ []) false ∙ ap (wrong want) (rw e at (gather-first f fs e h)))
+may-join : (b : ℕ) → mayJoin (beforeOf b) ≡ eqb b 1
+unfolding beforeOf mayJoin pick
+may-join b = by-test (eqb b 2) two other
+  where
+    go : (y : Bool) → mayJoin (pick y row word) ≡ y
+    go true = refl
+    go false = refl
+
+    two : eqb b 2 ≡ true → mayJoin (pick (eqb b 2) join (pick (eqb b 1) row word)) ≡ eqb b 1
+    two e = rw (eqb-true b 2 e)
+
+    other : eqb b 2 ≡ false → mayJoin (pick (eqb b 2) join (pick (eqb b 1) row word)) ≡ eqb b 1
+    other e = rw e (go (eqb b 1))
+
+either-bad : (x m r : Bool) → ((x || not m) || not r) ≡ (x || not (m && r))
+either-bad true m r = refl
+either-bad false true r = refl
+either-bad false false r = refl
+
+group-bad : (a : Asked) (p : Passed) → (groupFor a p) .bad ≡ p .bad
+unfolding groupFor opened pick
+group-bad a p = go (eqb (p .before) 2)
+  where
+    go : (t : Bool) → (pick t p (opened a p)) .bad ≡ p .bad
+    go true = refl
+    go false = refl
+
+module _ (a : Asked) where
+  abbrev ends : Passed → Bool
+  ends p = p .bad || eqb (p .before) 2
+
+  -- A field is out of place, or the last one is an M, just where the line does not have the form.
+  form-passed : (fs : Fields) (p : Passed) → ends (passed a p fs) ≡ (p .bad || not (rowsForm (beforeOf (p .before)) fs))
+  unfolding passed fieldPassed rowsForm pick marked rowAdded beforeOf
+  form-passed [] p = rw (may-end (p .before)) (ap (λ (t : Bool). p .bad || t) (twice-not (eqb (p .before) 2)))
+    where
+      twice-not : (t : Bool) → t ≡ not (not t)
+      twice-not true = refl
+      twice-not false = refl
+  form-passed (f ∷ fs) p = form-passed fs (fieldPassed a p f) ∙ step (isJoin f) (isRow f)
+    where
+      step : (j i : Bool)
+          → let q = pick j (marked p 2 (p .bad || not (eqb (p .before) 1))) (pick i (rowAdded a (groupFor a p) (rowValue f)) (marked p (p .before) true)) in
+          (q .bad || not (rowsForm (beforeOf (q .before)) fs))
+          ≡ (p .bad || not (pick j (mayJoin (beforeOf (p .before)) && rowsForm join fs) (i && rowsForm row fs)))
+      step true i = rw (may-join (p .before)) (either-bad (p .bad) (eqb (p .before) 1) (rowsForm join fs))
+      step false true = rw (group-bad a p)
+      step false false = sym (or-true (p .bad))
+
+-- ---- the walk: groups
+
+module _ (a : Asked) where
+  abbrev tooHigh : Row → Bool
+  tooHigh r = leb (a .limit) (r .columns)
+
+  abbrev tooLow : Row → Bool
+  tooLow r = ltb (r .columns) (a .least)
+
+  -- What is passed where `done` are whole, `part` is open, and an M was just passed or not.
+  abbrev pub shown : List Group → Group → Bool → Passed
+  shown done part j =
+      record {
+        before = pick j 2 1;
+        groups = length done + 1;
+        rows = length part;
+        place = a .place + length done * Size.groupWords;
+        bad = false;
+        long = anyOf aboveRows (done ++ (part ∷ []));
+        high = anyOf (anyOf tooHigh) (done ++ (part ∷ []));
+        low = anyOf (anyOf tooLow) (done ++ (part ∷ []));
+      }
+
+  module _ (x : ℕ) where
+    shown-first : rowAdded a (opened a nonePassed) x ≡ shown [] (rowOf x ∷ []) false
+    unfolding rowAdded opened rowOf pick anyOf aboveRows
+    shown-first = rw (or-false (leb (a .limit) (x / 2)), or-false (leb (a .limit) (x / 2)), or-false (ltb (x / 2) (a .least)), or-false (ltb (x / 2) (a .least)))
+
+    shown-more : (done : List Group) (part : Group) → rowAdded a (shown done part true) x ≡ shown done (part ++ (rowOf x ∷ [])) false
+    unfolding rowAdded rowOf pick
+    shown-more done part =
+        rw (length-append part (rowOf x ∷ []), long-row done part (rowOf x), any-row tooHigh done part (rowOf x), any-row tooLow done part (rowOf x))
+
+    shown-new : (done : List Group) (part : Group) → rowAdded a (opened a (shown done part false)) x ≡ shown (done ++ (part ∷ [])) (rowOf x ∷ []) false
+    unfolding rowAdded opened rowOf pick aboveRows
+    shown-new done part =
+        rw (length-append done (part ∷ []), any-last aboveRows (done ++ (part ∷ [])) (rowOf x ∷ []), any-new tooHigh (done ++ (part ∷ [])) (rowOf x), any-new tooLow (done ++ (part ∷ [])) (rowOf x))
+
+  -- What each field makes of it.
+  module _ (f : List ℕ) (done : List Group) (part : Group) where
+    pub join-passed : isJoin f ≡ true → fieldPassed a (shown done part false) f ≡ shown done part true
+    unfolding fieldPassed marked pick
+    join-passed e = rw e
+
+    pub more-passed : isJoin f ≡ false → isRow f ≡ true → fieldPassed a (shown done part true) f ≡ shown done (part ++ (rowOf (rowValue f) ∷ [])) false
+    unfolding fieldPassed groupFor pick
+    more-passed e g = rw (e, g) (shown-more (rowValue f) done part)
+
+    pub new-passed : isJoin f ≡ false → isRow f ≡ true → fieldPassed a (shown done part false) f ≡ shown (done ++ (part ∷ [])) (rowOf (rowValue f) ∷ []) false
+    unfolding fieldPassed groupFor pick
+    new-passed e g = rw (e, g) (shown-new (rowValue f) done part)
+
+  pub first-passed : (f : List ℕ) → isJoin f ≡ false → isRow f ≡ true → fieldPassed a nonePassed f ≡ shown [] (rowOf (rowValue f) ∷ []) false
+  unfolding fieldPassed groupFor pick
+  first-passed f e g = rw (e, g) (shown-first (rowValue f))
+
+  -- The numbers behind 3, of what is passed, and of groups.
+  abbrev lower : Passed → ℕ
+  lower p = pick (not (eqb (p .groups) (a .groups)) || p .long) No.groupsBad (pick (p .high) No.bitAbove (pick (p .low) No.rowIdle 0))
+
+  abbrev weights : List Group → ℕ
+  weights gs =
+      pick (not (eqb (length gs) (a .groups)) || anyOf aboveRows gs) No.groupsBad
+      (pick (anyOf (anyOf tooHigh) gs) No.bitAbove
+      (pick (anyOf (anyOf tooLow) gs) No.rowIdle 0))
+
+  module _ (f : List ℕ) (fs : Fields) (rest : (done : List Group) (part : Group) (j : Bool) → rowsForm (lastOf j) fs ≡ true → lower (passed a (shown done part j) fs) ≡ weights (gather done part j fs))
+      (done : List Group) (part : Group) where
+    walked : {p q : Passed} → p ≡ q → lower (passed a p fs) ≡ lower (passed a q fs)
+    walked e = ap (λ (q : Passed). lower (passed a q fs)) e
+
+    lower-join : (j : Bool) → rowsForm (lastOf j) (f ∷ fs) ≡ true → isJoin f ≡ true → lower (passed a (shown done part j) (f ∷ fs)) ≡ weights (gather done part j (f ∷ fs))
+    unfolding passed gather pick lastOf mayJoin
+    lower-join true h e = clash false (form-join join f fs e h .0) refl
+    lower-join false h e = rw e (walked (join-passed f done part e) ∙ rest done part true (form-join row f fs e h .1))
+
+    lower-row : (j : Bool) → rowsForm (lastOf j) (f ∷ fs) ≡ true → isJoin f ≡ false → lower (passed a (shown done part j) (f ∷ fs)) ≡ weights (gather done part j (f ∷ fs))
+    unfolding passed gather pick lastOf
+    lower-row true h e =
+        let good = form-row join f fs e h in
+        rw e (walked (more-passed f done part e (good .0)) ∙ rest done (part ++ (rowOf (rowValue f) ∷ [])) false (good .1))
+    lower-row false h e =
+        let good = form-row row f fs e h in
+        rw e (walked (new-passed f done part e (good .0)) ∙ rest (done ++ (part ∷ [])) (rowOf (rowValue f) ∷ []) false (good .1))
+
+  lower-gather : (fs : Fields) (done : List Group) (part : Group) (j : Bool) → rowsForm (lastOf j) fs ≡ true
+      → lower (passed a (shown done part j) fs) ≡ weights (gather done part j fs)
+  unfolding passed gather
+  lower-gather [] done part j h = rw (length-append done (part ∷ []))
+  lower-gather (f ∷ fs) done part j h =
+      by-test (isJoin f)
+      (lower-join f fs (λ d p i g. lower-gather fs d p i g) done part j h)
+      (lower-row f fs (λ d p i g. lower-gather fs d p i g) done part j h)
+
+  lower-groups : (fs : Fields) → rowsForm word fs ≡ true → lower (passed a nonePassed fs) ≡ weights (groupsOf fs)
+  unfolding passed groupsOf anyOf lastOf
+  lower-groups [] h = refl
+  lower-groups (f ∷ fs) h =
+      let e : isJoin f ≡ false = word-first f fs h in
+      let good = form-row word f fs e h in
+      (ap (λ (q : Passed). lower (passed a q fs)) (first-passed f e (good .0)) ∙ lower-gather fs [] (rowOf (rowValue f) ∷ []) false (good .1) ∙ ap weights (gather-first f fs e h))
+
+  -- The number of the walk, from the form of the fields and their groups.
+  number-walk : (fs : Fields) → numberOf a (passed a nonePassed fs) ≡ pick (rowsForm word fs) (weights (groupsOf fs)) No.libraryForm
+  unfolding numberOf beforeOf pick
+  number-walk fs = rw (form-passed a fs nonePassed) (by-test (rowsForm word fs) (λ t. rw t (lower-groups fs t)) (λ t. rw t))
 
 -- ---- the lines by their refusal numbers
 
@@ -282,45 +393,69 @@ rowLine-number line w n (f ∷ fs) = by-test (sameBytes f (wordBytes w) && rowsF
     bad : (sameBytes f (wordBytes w) && rowsForm word fs) ≡ false → rowLine line w n (f ∷ fs) ≡ pick (eqb (rowNumber w n (f ∷ fs)) 0) (read (groupsOf fs)) (refused (rowNumber w n (f ∷ fs)) line)
     bad e = rw e refl
 
-header-in : (s : Bool) (name : List ℕ) (t : Bool) (o : Option ℕ) → nameForm name ≡ t → pick s (headerOf name o) none ≡ pick (s && (t && holds o)) (some (record { name = name; pins = orZero o })) none
-unfolding pick headerOf holds orZero
+none-some : {A : Type 0} {a : A} → _≡_ {A = Option A} none (some a) → ⊥
+none-some e = let z : _≡_ {A = ℕ} 0 1 = cc in omega arith
+
+some-same : {A : Type 0} {a b : A} → _≡_ {A = Option A} (some a) (some b) → a ≡ b
+some-same e = cc
+
+-- A name line by its three fields.
+headerFrom : List ℕ → Option ℕ → Option Header
+headerFrom name none = none
+headerFrom name (some n) = some (record { name = name; pins = n })
+
+header-in : (s : Bool) (name : List ℕ) (t : Bool) (o : Option ℕ) → nameForm name ≡ t → pick s (headerOf name o) none ≡ headerFrom name (pick (s && t) o none)
+unfolding pick headerOf headerFrom
 header-in false name t o e = refl
 header-in true name true none e = refl
 header-in true name true (some n) e = rw e
 header-in true name false none e = refl
 header-in true name false (some n) e = rw e
 
-pub nameAfter-formed : (fs : Fields) → nameAfter fs ≡ pick (nameFormed fs) (some (headerIn fs)) none
-unfolding nameAfter nameFormed headerIn pick
-nameAfter-formed [] = refl
-nameAfter-formed (f ∷ []) = refl
-nameAfter-formed (f ∷ (name ∷ [])) = refl
-nameAfter-formed (f ∷ (name ∷ (n ∷ []))) = header-in (sameBytes f (bytes "Name")) name (nameForm name) (decimal n) refl
-nameAfter-formed (f ∷ (name ∷ (n ∷ (x ∷ xs)))) = rw (ne-eqb (suc (suc (suc (suc (length xs))))) 3 (λ e. omega arith))
+abbrev pub pinsOf : Fields → Option ℕ
+pinsOf fs = pinsIn (eqb (length fs) 3) (getD fs 0 []) (getD fs 1 []) (getD fs 2 [])
+
+nameAfter-pins : (fs : Fields) → nameAfter fs ≡ headerFrom (getD fs 1 []) (pinsOf fs)
+unfolding nameAfter pinsIn headerFrom pick
+nameAfter-pins [] = refl
+nameAfter-pins (f ∷ []) = refl
+nameAfter-pins (f ∷ (name ∷ [])) = refl
+nameAfter-pins (f ∷ (name ∷ (n ∷ []))) = header-in (sameBytes f (bytes "Name")) name (nameForm name) (decimal n) refl
+nameAfter-pins (f ∷ (name ∷ (n ∷ (x ∷ xs)))) = rw (ne-eqb (suc (suc (suc (suc (length xs))))) 3 (λ e. omega arith))
+
+pub nameAfter-some : (fs : Fields) (n : ℕ) → pinsOf fs ≡ some n → nameAfter fs ≡ some (record { name = getD fs 1 []; pins = n })
+unfolding headerFrom
+nameAfter-some fs n e = nameAfter-pins fs ∙ rw e
+
+pub nameAfter-none : (fs : Fields) → pinsOf fs ≡ none → nameAfter fs ≡ none
+unfolding headerFrom
+nameAfter-none fs e = nameAfter-pins fs ∙ rw e
 
 -- A name line of good form has a name of good form.
-pub formed-name : (fs : Fields) → nameFormed fs ≡ true → nameForm (getD fs 1 []) ≡ true
-unfolding nameFormed
-formed-name fs e =
-    let named = nameForm (getD fs 1 []) in
-    let counted = holds (decimal (getD fs 2 [])) in
-    let first = sameBytes (getD fs 0 []) (bytes "Name") in
-    and-left named counted (and-right first (named && counted) (and-right (eqb (length fs) 3) (first && (named && counted)) e))
+pub pins-form : (three : Bool) (first name digits : List ℕ) (n : ℕ) → pinsIn three first name digits ≡ some n → nameForm name ≡ true
+unfolding pinsIn pick
+pins-form three first name digits n e =
+    by-test (three && (sameBytes first (bytes "Name") && nameForm name))
+    (λ t. and-right (sameBytes first (bytes "Name")) (nameForm name) (and-right three (sameBytes first (bytes "Name") && nameForm name) t))
+    (λ t. let z : none ≡ some n = rw t at e in absurd (none-some z))
 
-pub nameLine-number : (line : ℕ) (cells : List Cell) (fs : Fields) → nameLine line cells fs ≡ pick (eqb (nameNumber cells fs) 0) (read (headerIn fs)) (refused (nameNumber cells fs) line)
-unfolding nameLine nameNumber form _>>=_ pick
-nameLine-number line cells fs = rw (nameAfter-formed fs) (by-test (nameFormed fs) good bad)
+pub nameAfter-form : (fs : Fields) (h : Header) → nameAfter fs ≡ some h → nameForm (h .name) ≡ true
+unfolding headerFrom
+nameAfter-form fs h e = go (pinsOf fs) refl
   where
-    formed : Read Header
-    formed = form No.libraryForm line (pick (nameFormed fs) (some (headerIn fs)) none) >>= (λ (h : Header). weigh line ((No.nameUsed, nameUsed (h .name) cells) ∷ (No.pinsBad, pinsBad (h .pins)) ∷ (No.cellsMany, leb Size.cells (length cells)) ∷ []) >> read h)
+    go : (o : Option ℕ) → pinsOf fs ≡ o → nameForm (h .name) ≡ true
+    go none p = let z : none ≡ some h = sym (nameAfter-none fs p) ∙ e in absurd (none-some z)
+    go (some n) p =
+        let same : record { name = getD fs 1 []; pins = n } ≡ h = some-same (sym (nameAfter-some fs n p) ∙ e) in
+        ap (λ (x : Header). nameForm (x .name)) (sym same) ∙ pins-form (eqb (length fs) 3) (getD fs 0 []) (getD fs 1 []) (getD fs 2 []) n p
 
-    good : nameFormed fs ≡ true → formed ≡ pick (eqb (nameNumber cells fs) 0) (read (headerIn fs)) (refused (nameNumber cells fs) line)
-    good e =
-        rw e
-        (weighed line No.nameUsed No.pinsBad No.cellsMany (nameUsed ((headerIn fs) .name) cells) (pinsBad ((headerIn fs) .pins)) (leb Size.cells (length cells)) (headerIn fs) (omega arith) (omega arith) (omega arith))
-
-    bad : nameFormed fs ≡ false → formed ≡ pick (eqb (nameNumber cells fs) 0) (read (headerIn fs)) (refused (nameNumber cells fs) line)
-    bad e = rw e refl
+pub nameLine-number : (line : ℕ) (cells : List Cell) (table : List ℕ) → LibraryHolds table cells → (fs : Fields) (n : ℕ) → pinsOf fs ≡ some n
+    → nameLine line cells fs ≡ pick (eqb (headerNumber (getD fs 1 []) n table) 0) (read (record { name = getD fs 1 []; pins = n })) (refused (headerNumber (getD fs 1 []) n table) line)
+unfolding nameLine headerNumber nameUsed form _>>=_
+nameLine-number line cells table held fs n e =
+    let name = getD fs 1 [] in
+    rw (nameAfter-some fs n e, holds-find name table cells held, holds-count table cells held)
+    (weighed line No.nameUsed No.pinsBad No.cellsMany (ltb (cellNamed name cells) (length cells)) (pinsBad n) (leb Size.cells (length cells)) (record { name = name; pins = n }) (omega arith) (omega arith) (omega arith))
 
 pub endAfter-formed : (fs : Fields) → endAfter fs ≡ pick (endFormed fs) (some tt) none
 unfolding endAfter endFormed pick
@@ -328,48 +463,48 @@ endAfter-formed [] = refl
 endAfter-formed (f ∷ []) = refl
 endAfter-formed (f ∷ (x ∷ xs)) = rw (ne-eqb (suc (suc (length xs))) 1 (λ e. omega arith))
 
--- ---- one turn of the walk that looks at the form
+-- ---- one turn of the walk over a line
 
-module _ (s : List ℕ) (at b : ℕ) where
-  form-turn : at ≤ length s → b ≤ 2 → rowsForm (beforeOf b) (fieldsFrom s at) ≡ pick (eqb (placed b (part 44 s at)) 3) false (rowsForm (beforeOf (placed b (part 44 s at))) (fieldsFrom s (nextAfter s at (part 44 s at))))
-  form-turn h q = rw (fieldsFrom-step s at h) (rowsForm-step b (part 44 s at) (fieldsFrom s (nextAfter s at (part 44 s at))) q)
+module _ (a : Asked) (p : Passed) (s : List ℕ) (at : ℕ) where
+  pub passed-turn : at ≤ length s → passed a p (fieldsFrom s at) ≡ passed a (fieldPassed a p (part 44 s at)) (fieldsFrom s (nextAfter s at (part 44 s at)))
+  unfolding passed
+  passed-turn h = rw (fieldsFrom-step s at h)
 
-  pub form-out : at ≤ length s → b ≤ 2 → placed b (part 44 s at) ≡ 3 → rowsForm (beforeOf b) (fieldsFrom s at) ≡ false
-  unfolding pick
-  form-out h q e = form-turn h q ∙ rw (eq-eqb (placed b (part 44 s at)) 3 e)
+  pub passed-ended : length s < at → passed a p (fieldsFrom s at) ≡ p
+  unfolding passed
+  passed-ended h = rw (fieldsFrom-end s at h)
 
-  pub form-passed : at ≤ length s → b ≤ 2 → (placed b (part 44 s at) ≡ 3 → ⊥) → (placed b (part 44 s at) ≤ 2) × (rowsForm (beforeOf b) (fieldsFrom s at) ≡ rowsForm (beforeOf (placed b (part 44 s at))) (fieldsFrom s (nextAfter s at (part 44 s at))))
-  unfolding pick
-  form-passed h q n =
-      (small (placed b (part 44 s at)) (placed-most b (part 44 s at)) n, form-turn h q ∙ rw (ne-eqb (placed b (part 44 s at)) 3 n))
-    where
-      small : (p : ℕ) → p ≤ 3 → (p ≡ 3 → ⊥) → p ≤ 2
-      small p h n = by-test (eqb p 3) (λ e. absurd (n (eqb-true p 3 e))) (λ e. below p h n)
-        where
-          below : (p : ℕ) → p ≤ 3 → (p ≡ 3 → ⊥) → p ≤ 2
-          below p h n = omega arith
+  pub stored-turn : (table : List ℕ) → at ≤ length s
+      → stored a p (fieldsFrom s at) table ≡ stored a (fieldPassed a p (part 44 s at)) (fieldsFrom s (nextAfter s at (part 44 s at))) (fieldStored a p (part 44 s at) table)
+  unfolding stored
+  stored-turn table h = rw (fieldsFrom-step s at h)
 
-  pub form-ended : length s < at → b ≤ 2 → rowsForm (beforeOf b) (fieldsFrom s at) ≡ not (eqb b 2)
-  form-ended h q = rw (fieldsFrom-end s at h) (rowsForm-end b q)
+  pub stored-ended : (table : List ℕ) → length s < at → stored a p (fieldsFrom s at) table ≡ table
+  unfolding stored
+  stored-ended table h = rw (fieldsFrom-end s at h)
 
--- ---- one turn of the walks that test the rows and tally the groups
+pub small-on : (a : Asked) (p : Passed) (m k : ℕ) → Small a p m → m ≤ k → Small a p k
+small-on a p m k s h = record { groups = omega arith; rows = omega arith; place = omega arith }
 
-module _ (p : Row → Bool) (s : List ℕ) (at : ℕ) where
-  pub any-turn : at ≤ length s → anyField p (fieldsFrom s at) ≡ (fieldBad p (part 44 s at) || anyField p (fieldsFrom s (nextAfter s at (part 44 s at))))
-  unfolding anyField
-  any-turn h = rw (fieldsFrom-step s at h)
+-- The group that a row goes into is small too.
+pub group-small : (a : Asked) (p : Passed) (m : ℕ) → Small a p m → ((groupFor a p) .rows ≤ m) × ((groupFor a p) .place ≤ a .place + Size.groupWords * m)
+unfolding groupFor pick opened
+group-small a p m s = go (eqb (p .before) 2)
+  where
+    go : (t : Bool) → ((pick t p (opened a p)) .rows ≤ m) × ((pick t p (opened a p)) .place ≤ a .place + Size.groupWords * m)
+    go true = (s .rows, s .place)
+    go false = (omega arith, omega arith)
 
-  pub any-ended : length s < at → anyField p (fieldsFrom s at) ≡ false
-  unfolding anyField
-  any-ended h = rw (fieldsFrom-end s at h)
-
-module _ (s : List ℕ) (at want : ℕ) (t : Tally) where
-  pub wrong-turn : at ≤ length s → groupsWrong want t (fieldsFrom s at) ≡ groupsWrong want t (part 44 s at ∷ fieldsFrom s (nextAfter s at (part 44 s at)))
-  wrong-turn h = rw (fieldsFrom-step s at h) refl
-
-  pub wrong-ended : length s < at → groupsWrong want t (fieldsFrom s at) ≡ (not (eqb (t .groups) want) || t .long)
-  unfolding groupsWrong
-  wrong-ended h = rw (fieldsFrom-end s at h)
+-- Counts and places grow by little.
+pub field-small : (a : Asked) (p : Passed) (f : List ℕ) (m k : ℕ) → Small a p m → m < k → Small a (fieldPassed a p f) k
+unfolding fieldPassed groupFor pick marked rowAdded opened
+field-small a p f m k s h = go (isJoin f) (isRow f) (eqb (p .before) 2)
+  where
+    go : (j i t : Bool) → Small a (pick j (marked p 2 (p .bad || not (eqb (p .before) 1))) (pick i (rowAdded a (pick t p (opened a p)) (rowValue f)) (marked p (p .before) true))) k
+    go true i t = record { groups = omega arith; rows = omega arith; place = omega arith }
+    go false true true = record { groups = omega arith; rows = omega arith; place = omega arith }
+    go false true false = record { groups = omega arith; rows = omega arith; place = omega arith }
+    go false false t = record { groups = omega arith; rows = omega arith; place = omega arith }
 
 -- ---- places and their words
 
@@ -416,14 +551,49 @@ idle-by CO n r = refl
 idle-by SC n r = refl
 idle-by SO n r = refl
 
--- ---- the number of a row line, from its passes
+pub leastColumns-by : (w : Word) (n : ℕ) → leastColumns w n ≡ pick (setting w) 1 (2 ^ (2 * n + 2))
+unfolding leastColumns setting pick
+leastColumns-by CC n = refl
+leastColumns-by CO n = refl
+leastColumns-by SC n = refl
+leastColumns-by SO n = refl
 
-pub any-same : (p q : Row → Bool) (fs : Fields) → ((r : Row) → p r ≡ q r) → anyField p fs ≡ anyField q fs
-unfolding anyField fieldBad
-any-same p q [] e = refl
-any-same p q (f ∷ fs) e = rw (e (rowOf (rowValue f)), any-same p q fs e)
+-- ---- the number of a row line, from its walk
 
-row-formed : (w : Word) (fs : Fields) → 0 < length fs → holds (rowsAfter w fs) ≡ (sameBytes (getD fs 0 []) (wordBytes w) && rowsForm word (drop 1 fs))
+-- Of a row without a bit above its columns, the lowest columns tell whether it is idle.
+top-bit : (x k : ℕ) → x < 2 ^ (k + 1) → not (eqb (x / 2 ^ k % 2) 1) ≡ ltb x (2 ^ k)
+top-bit x k h =
+    let m = 2 ^ k in
+    let two : 0 < 2 = omega arith in
+    let none : 0 ≤ k = omega arith in
+    let some-power : 0 < m = omega (arith, pow-le-pow-right two none, pow-zero 2) in
+    let below : x < 2 * m = omega (arith, rw (add-one k, pow-suc 2 k) at h) in
+    by-test (ltb x m)
+    (λ t.
+    let less : x / m < 1 = div-lt-iff-lt-mul {y = 1} some-power .1 (omega (arith, ltb-true x m t)) in
+    let none : x / m ≡ 0 = omega arith in
+    rw (t, none))
+    (λ t.
+    let more : x / m < 1 → ⊥ = λ q. omega (arith, div-lt-iff-lt-mul {y = 1} some-power .0 q, ltb-false x m t) in
+    let less : x / m < 2 = div-lt-iff-lt-mul {y = 2} some-power .1 below in
+    let one : x / m ≡ 1 = omega arith in
+    rw (t, one))
+
+no-columns : (x : ℕ) → eqb x 0 ≡ ltb x 1
+no-columns zero = refl
+no-columns (suc x) = rw (ne-eqb (suc x) 0 (λ e. omega arith), le-ltb (suc x) 1 (omega arith))
+
+next : (n : ℕ) → 2 * n + 3 ≡ 2 * n + 2 + 1
+next n = omega arith
+
+idle-low : (w : Word) (n : ℕ) (r : Row) → above (columnCount w n) r ≡ false → ltb (r .columns) (leastColumns w n) ≡ idle w n r
+unfolding above columnCount leastColumns idle namesNone observesNot bit
+idle-low CC n r h = sym (no-columns (r .columns))
+idle-low CO n r h = sym (top-bit (r .columns) (2 * n + 2) (rw (next n) at (leb-false (2 ^ (2 * n + 3)) (r .columns) h)))
+idle-low SC n r h = sym (no-columns (r .columns))
+idle-low SO n r h = sym (top-bit (r .columns) (2 * n + 2) (rw (next n) at (leb-false (2 ^ (2 * n + 3)) (r .columns) h)))
+
+pub row-formed : (w : Word) (fs : Fields) → 0 < length fs → holds (rowsAfter w fs) ≡ (sameBytes (getD fs 0 []) (wordBytes w) && rowsForm word (drop 1 fs))
 unfolding rowsAfter holds pick
 row-formed w [] h = absurd (omega arith)
 row-formed w (f ∷ fs) h = go (sameBytes f (wordBytes w) && rowsForm word fs)
@@ -432,34 +602,44 @@ row-formed w (f ∷ fs) h = go (sameBytes f (wordBytes w) && rowsForm word fs)
     go true = refl
     go false = refl
 
-module _ (w : Word) (n : ℕ) (fs : Fields) (some-field : 0 < length fs) where
-  abbrev pub passes : Bool → Bool → ℕ
-  passes s t =
-      pick s
-      (pick t
-      (pick (groupsWrong (groupCount w n) noGroups (drop 1 fs)) No.groupsBad
-      (pick (anyField (above (columnCount w n)) (drop 1 fs)) No.bitAbove
-      (pick (anyField (idle w n) (drop 1 fs)) No.rowIdle 0)))
-      No.libraryForm)
-      No.libraryForm
+pick-and : {A : Type 0} (s t : Bool) (x y : A) → pick (s && t) x y ≡ pick s (pick t x y) y
+unfolding pick
+pick-and true t x y = refl
+pick-and false t x y = refl
 
-  pub rowNumber-passes : rowNumber w n fs ≡ passes (sameBytes (getD fs 0 []) (wordBytes w)) (rowsForm word (drop 1 fs))
-  unfolding rowNumber pick
-  rowNumber-passes = rw (row-formed w fs some-field) (by-test (rowsForm word (drop 1 fs)) good bad)
-    where
-      weights : Bool → ℕ
-      weights t = pick t (pick (not (eqb (length (groupsOf (drop 1 fs))) (groupCount w n)) || anyOf aboveRows (groupsOf (drop 1 fs))) No.groupsBad (pick (anyOf (anyOf (above (columnCount w n))) (groupsOf (drop 1 fs))) No.bitAbove (pick (anyOf (anyOf (idle w n)) (groupsOf (drop 1 fs))) No.rowIdle 0))) No.libraryForm
+-- Where the groups of a word start in the table.
+pub asked-place : (cell : ℕ) (w : Word) (n : ℕ) → cell ≤ Size.cells → (askedOf cell w n) .place ≤ Size.library + Size.cellWords
+unfolding askedOf
+asked-place cell w n h = omega (arith, first-most w)
 
-      either : (s : Bool) → rowsForm word (drop 1 fs) ≡ true → weights (s && true) ≡ passes s true
-      either true h = rw (wrong-fields (groupCount w n) (drop 1 fs) h, ← any-fields (above (columnCount w n)) word (drop 1 fs) h, ← any-fields (idle w n) word (drop 1 fs) h)
-      either false h = refl
+module _ (cell : ℕ) (w : Word) (n : ℕ) where
+  weights-asked : (gs : List Group) → weights (askedOf cell w n) gs
+      ≡ pick (not (eqb (length gs) (groupCount w n)) || anyOf aboveRows gs) No.groupsBad
+      (pick (anyOf (anyOf (above (columnCount w n))) gs) No.bitAbove
+      (pick (anyOf (anyOf (idle w n)) gs) No.rowIdle 0))
+  unfolding askedOf above pick
+  weights-asked gs =
+      by-test (anyOf (anyOf (above (columnCount w n))) gs)
+      (λ t. rw t)
+      (λ t. rw (t, any-groups (above (columnCount w n)) (λ r. ltb (r .columns) (leastColumns w n)) (idle w n) (idle-low w n) gs t))
 
-      none-formed : (s : Bool) → weights (s && false) ≡ passes s false
-      none-formed true = refl
-      none-formed false = refl
+  -- The number of a row line, from the walk over the fields behind its word.
+  pub rowNumber-walk : (fs : Fields) → 0 < length fs
+      → rowNumber w n fs
+      ≡ pick (sameBytes (getD fs 0 []) (wordBytes w)) (numberOf (askedOf cell w n) (passed (askedOf cell w n) nonePassed (drop 1 fs))) No.libraryForm
+  unfolding rowNumber
+  rowNumber-walk fs h =
+      let gs = groupsOf (drop 1 fs) in
+      rw (row-formed w fs h, number-walk (askedOf cell w n) (drop 1 fs), weights-asked gs)
+      (pick-and (sameBytes (getD fs 0 []) (wordBytes w)) (rowsForm word (drop 1 fs)) _ No.libraryForm)
 
-      good : rowsForm word (drop 1 fs) ≡ true → weights (sameBytes (getD fs 0 []) (wordBytes w) && rowsForm word (drop 1 fs)) ≡ passes (sameBytes (getD fs 0 []) (wordBytes w)) (rowsForm word (drop 1 fs))
-      good h = rw h (either (sameBytes (getD fs 0 []) (wordBytes w)) h)
-
-      bad : rowsForm word (drop 1 fs) ≡ false → weights (sameBytes (getD fs 0 []) (wordBytes w) && rowsForm word (drop 1 fs)) ≡ passes (sameBytes (getD fs 0 []) (wordBytes w)) (rowsForm word (drop 1 fs))
-      bad h = rw h (none-formed (sameBytes (getD fs 0 []) (wordBytes w)))
+  -- A line of the right word is read by the walk behind it.
+  pub walk-read : (fs : Fields) → 0 < length fs → sameBytes (getD fs 0 []) (wordBytes w) ≡ true → (a : Asked) (p : Passed) (rest : Fields) (said : ℕ) (before after : List ℕ)
+      → a ≡ askedOf cell w n → rest ≡ drop 1 fs → p ≡ passed a nonePassed rest → after ≡ stored a nonePassed rest before → said ≡ numberOf a p
+      → RowsRead cell w n fs before after said
+  unfolding pick
+  walk-read fs h same a p rest said before after asks rows walk put number =
+      record {
+        number = number ∙ rw (walk, asks, rows, rowNumber-walk fs h, same);
+        table = λ z. put ∙ rw (asks, rows);
+      }

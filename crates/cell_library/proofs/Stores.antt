@@ -15,18 +15,17 @@ use Rattle.sizes.specs.Places.{cellPlace, groupPlace}
 use Rattle.table.specs.Blocks.{fitted, blocks}
 use Rattle.table.proofs.Places.{length-fitted, fitted-short, length-blocks, blocks-append}
 use Rattle.reading.specs.Choice.{pick}
-use Rattle.reading.proofs.Laws.{or-left, or-right}
-use Rattle.text.specs.Lines.{part, fieldsFrom, nextAfter}
-use Rattle.text.proofs.Laws.{fieldsFrom-step, fieldsFrom-end}
+use Rattle.reading.proofs.Laws.{by-test, clash, or-left, or-right}
 use Rattle.cell_library.specs.Cells.{Row, rowOf, Group, Cell}
-use Rattle.cell_library.specs.Library.{Fields, isJoin, Word, CC, CO, SC, SO, anyOf, aboveRows, wordGroups, withGroups, begun}
+use Rattle.cell_library.specs.Library.{Fields, isRow, isJoin, word, row, join, mayJoin, rowsForm, groupsOf, Word, CC, CO, SC, SO, anyOf, aboveRows, wordGroups, withGroups, begun}
 use Rattle.cell_library.specs.Layout.{rowWords, groupWords, cellGroups, cellWords, firstGroup, libraryWords}
-use Rattle.cell_library.specs.Passes.{rowValue, headerPut, rowPut, rowsPut}
+use Rattle.cell_library.specs.Passes.{rowValue, askedOf, headerPut, rowPut, nonePassed, opened, groupFor, fieldStored, stored}
 use Rattle.cell_library.specs.Walk.{countedWords}
-use Rattle.cell_library.specs.declared.store.OpenGroup.{OpenGroup}
+use Rattle.cell_library.specs.declared.rows.Asked.{Asked}
+use Rattle.cell_library.specs.declared.rows.Passed.{Passed}
 use Rattle.cell_library.proofs.Names.{blank}
 use Rattle.cell_library.proofs.Places.{length-rowWords, length-groupWords, length-cellWords, space, filledGroups, frontGroups, backGroups, groups-open, length-front}
-use Rattle.cell_library.proofs.Passes.{gather, any-append, onward}
+use Rattle.cell_library.proofs.Passes.{gather, gather-first, lastOf, form-join, form-row, word-first, any-append, shown, join-passed, more-passed, new-passed, first-passed}
 
 -- ---- stores into lists put together from parts
 
@@ -189,7 +188,10 @@ module _ (done : List Group) (part : Group) where
   ended : (gs others : List Group) → gs ≡ done ++ (part ∷ others) → Gathered done part gs
   ended gs others e = record { more = []; others = others; same = rw (append-nil part) e }
 
-  gather-step : (f : List ℕ) (fs : Fields) (rest : (d : List Group) (p : Group) (j : Bool) → Gathered d p (gather d p j fs)) (t j : Bool) → Gathered done part (onward f fs done part t j)
+  gather-step : (f : List ℕ) (fs : Fields) (rest : (d : List Group) (p : Group) (j : Bool) → Gathered d p (gather d p j fs)) (t j : Bool)
+      → Gathered done part (pick t (gather done part true fs)
+      (pick j (gather done (part ++ (rowOf (rowValue f) ∷ [])) false fs)
+      (gather (done ++ (part ∷ [])) (rowOf (rowValue f) ∷ []) false fs)))
   unfolding pick
   gather-step f fs rest true j = rest done part true
   gather-step f fs rest false true =
@@ -267,55 +269,100 @@ module _ (n : ℕ) (cells : List Cell) (w : Word) (c : Cell) (past : List ℕ) (
       ∙ ap (λ (l : List ℕ). aheadWords n cells ++ (l ++ behindWords cells past)) cell
       ∙ sym (cell-open n cells (withGroups w gs c) past few)
 
-  -- An open group that is behind so many whole ones.
-  abbrev opened : List Group → Group → Bool → OpenGroup
-  opened done part j = record { place = groupPlace (length cells) (firstGroup w + length done); rows = length part; joined = j }
+  abbrev asks : Asked
+  asks = askedOf (length cells) w (c .pins)
+
+  open-place : (done : List Group) → asks .place + length done * Size.groupWords ≡ groupPlace (length cells) (firstGroup w + length done)
+  unfolding askedOf
+  open-place done = omega arith
+
+  -- What a field makes of the table.
+  module _ (f : List ℕ) where
+    abbrev new : Row
+    new = rowOf (rowValue f)
+
+    join-put : (p : Passed) (table : List ℕ) → isJoin f ≡ true → fieldStored asks p f table ≡ table
+    unfolding fieldStored pick
+    join-put p table e = rw e
+
+    module _ (e : isJoin f ≡ false) (g : isRow f ≡ true) where
+      first-put : 0 < space w → fieldStored asks nonePassed f (partTable []) ≡ partTable ((new ∷ []) ∷ [])
+      unfolding fieldStored groupFor opened pick
+      first-put h = rw (e, g, open-place [], ← part-empty []) (row-stored [] [] (rowValue f) h (omega arith))
+
+      module _ (done : List Group) (part : Group) where
+        more-put : length done < space w → length part < Size.rows
+            → fieldStored asks (shown asks done part true) f (partTable (done ++ (part ∷ []))) ≡ partTable (done ++ ((part ++ (new ∷ [])) ∷ []))
+        unfolding fieldStored groupFor pick
+        more-put h q = rw (e, g, open-place done) (row-stored done part (rowValue f) h q)
+
+        new-put : length (done ++ (part ∷ [])) < space w
+            → fieldStored asks (shown asks done part false) f (partTable (done ++ (part ∷ []))) ≡ partTable ((done ++ (part ∷ [])) ++ ((new ∷ []) ∷ []))
+        unfolding fieldStored groupFor opened pick
+        new-put h =
+            let more = done ++ (part ∷ []) in
+            rw (e, g, ← length-append done (part ∷ []), open-place more, ← part-empty more) (row-stored more [] (rowValue f) h (omega arith))
+
+  stored-as : (fs : Fields) {p q : Passed} {t u : List ℕ} → p ≡ q → t ≡ u → stored asks p fs t ≡ stored asks q fs u
+  stored-as fs e d = cc
 
   module _ (f : List ℕ) (fs : Fields)
-      (rest : (done : List Group) (part : Group) (j : Bool) → length (gather done part j fs) ≤ space w → anyOf aboveRows (gather done part j fs) ≡ false
-      → rowsPut (opened done part j) fs (partTable (done ++ (part ∷ []))) ≡ partTable (gather done part j fs))
+      (rest : (done : List Group) (part : Group) (j : Bool) → rowsForm (lastOf j) fs ≡ true → length (gather done part j fs) ≤ space w → anyOf aboveRows (gather done part j fs) ≡ false
+      → stored asks (shown asks done part j) fs (partTable (done ++ (part ∷ []))) ≡ partTable (gather done part j fs))
       (done : List Group) (part : Group) where
-    abbrev here : ℕ
-    here = groupPlace (length cells) (firstGroup w + length done)
+    put-join : (j : Bool) → rowsForm (lastOf j) (f ∷ fs) ≡ true → length (gather done part j (f ∷ fs)) ≤ space w → anyOf aboveRows (gather done part j (f ∷ fs)) ≡ false → isJoin f ≡ true
+        → stored asks (shown asks done part j) (f ∷ fs) (partTable (done ++ (part ∷ []))) ≡ partTable (gather done part j (f ∷ fs))
+    unfolding stored gather pick lastOf mayJoin
+    put-join true h q s e = clash false (form-join join f fs e h .0) refl
+    put-join false h q s e =
+        rw e
+        (stored-as fs (join-passed asks f done part e) (join-put f _ _ e) ∙ rest done part true (form-join row f fs e h .1) (rw e at q) (rw e at s))
 
-    abbrev table : List ℕ
-    table = partTable (done ++ (part ∷ []))
-
-    put-step : (t j : Bool) → length (onward f fs done part t j) ≤ space w → anyOf aboveRows (onward f fs done part t j) ≡ false
-        → pick t (rowsPut (opened done part true) fs table)
-        (pick j (rowsPut (record { place = here; rows = length part + 1; joined = false }) fs (rowPut here (length part) (rowValue f) table))
-        (rowsPut (record { place = here + Size.groupWords; rows = 1; joined = false }) fs (rowPut (here + Size.groupWords) 0 (rowValue f) table)))
-        ≡ partTable (onward f fs done part t j)
-    unfolding pick
-    put-step true j h q = rest done part true h q
-    put-step false true h q =
+    put-one : (j : Bool) → rowsForm (lastOf j) (f ∷ fs) ≡ true → length (gather done part j (f ∷ fs)) ≤ space w → anyOf aboveRows (gather done part j (f ∷ fs)) ≡ false → isJoin f ≡ false
+        → stored asks (shown asks done part j) (f ∷ fs) (partTable (done ++ (part ∷ []))) ≡ partTable (gather done part j (f ∷ fs))
+    unfolding stored gather pick lastOf
+    put-one true h q s e =
+        let good = form-row join f fs e h in
         let grown = part ++ (rowOf (rowValue f) ∷ []) in
+        let fits : length (gather done grown false fs) ≤ space w = rw e at q in
+        let short : anyOf aboveRows (gather done grown false fs) ≡ false = rw e at s in
         let size : length grown ≡ length part + 1 = length-append part (rowOf (rowValue f) ∷ []) in
         let g = gathered done grown false fs in
-        let most : length grown ≤ Size.rows = gather-part done grown _ g q in
+        let most : length grown ≤ Size.rows = gather-part done grown _ g short in
         let below : length done < space w = omega (arith, gather-count done grown _ g) in
-        rw (row-stored done part (rowValue f) below (omega arith), ← size) (rest done grown false h q)
-    put-step false false h q =
+        rw e (stored-as fs (more-passed asks f done part e (good .0)) (more-put f e (good .0) done part below (omega arith)) ∙ rest done grown false (good .1) fits short)
+    put-one false h q s e =
+        let good = form-row row f fs e h in
         let r = rowOf (rowValue f) in
         let more = done ++ (part ∷ []) in
-        let size : length more ≡ length done + 1 = length-append done (part ∷ []) in
+        let fits : length (gather more (r ∷ []) false fs) ≤ space w = rw e at q in
+        let short : anyOf aboveRows (gather more (r ∷ []) false fs) ≡ false = rw e at s in
         let below : length more < space w = omega (arith, gather-count more (r ∷ []) _ (gathered more (r ∷ []) false fs)) in
-        let next : here + Size.groupWords ≡ groupPlace (length cells) (firstGroup w + length more) = omega arith in
-        rw (next, ← part-empty more, row-stored more [] (rowValue f) below (omega arith)) (rest more (r ∷ []) false h q)
+        rw e (stored-as fs (new-passed asks f done part e (good .0)) (new-put f e (good .0) done part below) ∙ rest more (r ∷ []) false (good .1) fits short)
 
-  put-groups : (fs : Fields) (done : List Group) (part : Group) (j : Bool) → length (gather done part j fs) ≤ space w → anyOf aboveRows (gather done part j fs) ≡ false
-      → rowsPut (opened done part j) fs (partTable (done ++ (part ∷ []))) ≡ partTable (gather done part j fs)
-  unfolding rowsPut gather
-  put-groups [] done part j h q = refl
-  put-groups (f ∷ fs) done part j h q = put-step f fs (λ d p i x y. put-groups fs d p i x y) done part (isJoin f) j h q
+  put-groups : (fs : Fields) (done : List Group) (part : Group) (j : Bool) → rowsForm (lastOf j) fs ≡ true → length (gather done part j fs) ≤ space w → anyOf aboveRows (gather done part j fs) ≡ false
+      → stored asks (shown asks done part j) fs (partTable (done ++ (part ∷ []))) ≡ partTable (gather done part j fs)
+  unfolding stored gather
+  put-groups [] done part j h q s = refl
+  put-groups (f ∷ fs) done part j h q s =
+      by-test (isJoin f)
+      (put-join f fs (λ d p i x y z. put-groups fs d p i x y z) done part j h q s)
+      (put-one f fs (λ d p i x y z. put-groups fs d p i x y z) done part j h q s)
 
   -- From a cell without these groups.
-  pub line-stored : (fs : Fields) → length (gather [] [] true fs) ≤ space w → anyOf aboveRows (gather [] [] true fs) ≡ false
-      → rowsPut (record { place = groupPlace (length cells) (firstGroup w); rows = 0; joined = true }) fs (partTable []) ≡ partTable (gather [] [] true fs)
-  line-stored fs h q =
-      ap (λ (g : ℕ). rowsPut (record { place = groupPlace (length cells) g; rows = 0; joined = true }) fs (partTable [])) (sym (add-zero (firstGroup w)))
-      ∙ ap (λ (t : List ℕ). rowsPut (opened [] [] true) fs t) (sym (part-empty []))
-      ∙ put-groups fs [] [] true h q
+  pub line-stored : (fs : Fields) → rowsForm word fs ≡ true → length (groupsOf fs) ≤ space w → anyOf aboveRows (groupsOf fs) ≡ false
+      → stored asks nonePassed fs (partTable []) ≡ partTable (groupsOf fs)
+  unfolding stored groupsOf lastOf
+  line-stored [] h q s = refl
+  line-stored (f ∷ fs) h q s =
+      let e : isJoin f ≡ false = word-first f fs h in
+      let good = form-row word f fs e h in
+      let r = rowOf (rowValue f) in
+      let all : gather [] (r ∷ []) false fs ≡ groupsOf (f ∷ fs) = gather-first f fs e h in
+      let some-space : 0 < space w = omega (arith, gather-count [] (r ∷ []) _ (gathered [] (r ∷ []) false fs), ap (λ (gs : List Group). length gs) all) in
+      stored-as fs (first-passed asks f e (good .0)) (first-put f e (good .0) some-space)
+      ∙ put-groups fs [] (r ∷ []) false (good .1) (rw all q) (rw all s)
+      ∙ ap partTable all
 
 -- ---- the header of a new cell, and the count at its end
 
@@ -359,7 +406,7 @@ unfolding countedWords libraryWords
 count-stored cells c past =
     ap (λ (n : ℕ). n ∷ (fitted 0 (Size.cells * Size.cellWords) (blocks cellWords (cells ++ (c ∷ []))) ++ past)) (sym (length-append cells (c ∷ [])))
 
--- ---- one turn of each of the loops that store
+-- ---- one turn of the loop that stores bytes
 
 module _ (table name : List ℕ) (at : ℕ) where
   pub sets-start : sets table (at + 0) name ≡ sets table at name
@@ -370,11 +417,3 @@ module _ (table name : List ℕ) (at : ℕ) where
 
   pub sets-ended : (i : ℕ) → length name ≤ i → sets table (at + i) (drop i name) ≡ table
   sets-ended i h = rw (drop-of-length-le name h)
-
-module _ (s : List ℕ) (at : ℕ) (g : OpenGroup) (table : List ℕ) where
-  pub put-turn : at ≤ length s → rowsPut g (fieldsFrom s at) table ≡ rowsPut g (part 44 s at ∷ fieldsFrom s (nextAfter s at (part 44 s at))) table
-  put-turn h = rw (fieldsFrom-step s at h) refl
-
-  pub put-ended : length s < at → rowsPut g (fieldsFrom s at) table ≡ table
-  unfolding rowsPut
-  put-ended h = rw (fieldsFrom-end s at h)

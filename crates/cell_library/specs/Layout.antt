@@ -4,12 +4,13 @@
 use mathlib.Core.Bool.{Bool, true, _&&_}
 use mathlib.Core.List.{List, [], _∷_, _++_}
 use mathlib.Core.Path.{_≡_}
-use Prim.Native.Nat.{ℕ, suc, _+_, _*_, _≤_}
+use Prim.Native.Nat.{ℕ, zero, suc, _+_, _*_, _≤_}
 use lib.Dec.{eqb}
 use lib.ListN.{length, getD, replicate, drop}
 use Rattle.sizes.specs.Places.{cellPlace}
 use Rattle.sizes.specs.Sizes as Size
 use Rattle.table.specs.Blocks.{fitted, blocks}
+use Rattle.reading.specs.Choice.{pick}
 use Rattle.reading.specs.Each.{Each}
 use Rattle.reading.specs.Refusal.{Read, refused, read}
 use Rattle.cell_library.specs.Cells.{Row, Group, Cell}
@@ -77,3 +78,12 @@ bytesAt (b ∷ f) table at = eqb b (getD table at 0) && bytesAt f table (suc at)
 -- Whether a cell of the table has this name, byte for byte.
 unfoldable pub nameAt : List ℕ → List ℕ → ℕ → Bool
 nameAt name table k = eqb (getD table (cellPlace k) 0) (length name) && bytesAt name table (cellPlace k + 1)
+
+-- The first of `left` cells from cell k on that has this name; the cell behind them where none has it.
+unfoldable pub foundFrom : List ℕ → List ℕ → (k left : ℕ) → ℕ
+foundFrom name table k zero = k
+foundFrom name table k (suc left) = pick (nameAt name table k) k (foundFrom name table (suc k) left)
+
+-- The place of a name among the cells that a table counts, from 0; their count where it is not among them.
+unfoldable pub foundAt : List ℕ → List ℕ → ℕ
+foundAt name table = foundFrom name table 0 (getD table 0 0)

@@ -1,5 +1,5 @@
 pub mod Cells
-pub mod Faults
+pub mod Entry
 pub mod Layout
 pub mod Library
 pub mod Passes

@@ -1,25 +1,26 @@
--- The passes over a row line, field by field from the left, as the code makes them, and the refusal numbers that they come to.
--- `proofs/Passes.antt` ties each to the definitions of `Library.antt`, which are the ones to read against document 01.
+-- The walk over a row line, field by field from the left, as the code makes it, and the refusal numbers of the lines.
+-- `proofs/Passes.antt` ties them to the definitions of `Library.antt`, which are the ones to read against document 01.
 -- Assumes nothing.
 use mathlib.Core.Bool.{Bool, true, false, not, _&&_, _||_}
 use mathlib.Core.List.{List, [], _∷_}
 use mathlib.Core.Option.{Option, none, some}
 use mathlib.Core.Path.{_≡_}
-use Prim.Native.Nat.{ℕ, zero, suc, _+_, _*_, _/_, _%_, _≤_}
+use Prim.Native.Nat.{ℕ, zero, suc, _+_, _*_, _/_, _%_, _^_, _≤_}
 use lib.Dec.{leb, ltb, eqb}
 use lib.ListN.{length, getD, set, drop}
 use lib.Seq.{sets}
-use Rattle.sizes.specs.Places.{cellPlace, pinsPlace}
+use Rattle.sizes.specs.Places.{cellPlace, pinsPlace, groupPlace}
 use Rattle.sizes.specs.Sizes as Size
 use Rattle.reading.specs.Numbers as No
 use Rattle.text.specs.Bytes.{bytes}
 use Rattle.reading.specs.Choice.{pick}
 use Rattle.text.specs.Lines.{sameBytes}
 use Rattle.text.specs.Numeral.{numeral, decimal, nameForm}
-use Rattle.cell_library.specs.Cells.{Row, rowOf, Cell}
-use Rattle.cell_library.specs.Library.{Fields, holds, isRow, isJoin, Before, word, row, join, above, Word, CC, CO, SC, SO, groupCount, columnCount, idle, rowsAfter, groupsOf, anyOf, aboveRows, Header, nameUsed, pinsBad}
-use Rattle.cell_library.specs.declared.rows.Tally.{Tally}
-use Rattle.cell_library.specs.declared.store.OpenGroup.{OpenGroup}
+use Rattle.cell_library.specs.Cells.{Cell}
+use Rattle.cell_library.specs.Library.{Fields, holds, isRow, isJoin, above, Word, CC, CO, SC, SO, groupCount, columnCount, idle, rowsAfter, groupsOf, anyOf, aboveRows, pinsBad}
+use Rattle.cell_library.specs.Layout.{firstGroup, foundAt}
+use Rattle.cell_library.specs.declared.rows.Asked.{Asked}
+use Rattle.cell_library.specs.declared.rows.Passed.{Passed}
 
 -- ---- a field
 
@@ -31,50 +32,26 @@ orZero (some v) = v
 unfoldable pub rowValue : List ℕ → ℕ
 rowValue f = orZero (numeral 8 Size.rowDigits f)
 
--- What stands before a field, as a number: 0 the line's word, 1 a row, 2 an M; and 3, a field out of place.
-unfoldable pub beforeOf : ℕ → Before
-beforeOf zero = word
-beforeOf (suc zero) = row
-beforeOf (suc (suc n)) = join
+-- ---- what a row line is asked for
 
-unfoldable pub placed : ℕ → List ℕ → ℕ
-placed before f = pick (isJoin f) (pick (eqb before 1) 2 3) (pick (isRow f) 1 3)
+-- The lowest columns of a row that names a pin, or observes the output, where no bit is above its columns: 8 is judged after 7.
+unfoldable pub leastColumns : Word → ℕ → ℕ
+leastColumns CC n = 1
+leastColumns CO n = 2 ^ (2 * n + 2)
+leastColumns SC n = 1
+leastColumns SO n = 2 ^ (2 * n + 2)
 
--- ---- a test of every row
-
-unfoldable pub fieldBad : (Row → Bool) → List ℕ → Bool
-fieldBad p f = pick (isJoin f) false (p (rowOf (rowValue f)))
-
-unfoldable pub anyField : (Row → Bool) → Fields → Bool
-anyField p [] = false
-anyField p (f ∷ fs) = fieldBad p f || anyField p fs
-
--- ---- the groups, from the left
-
--- Refusal 6 from the tally of the fields passed on: a wrong count of groups, or one that was too long.
-unfoldable pub groupsWrong : ℕ → Tally → Fields → Bool
-groupsWrong want t [] = not (eqb (t .groups) want) || t .long
-groupsWrong want t (f ∷ fs) =
-    pick (isJoin f)
-    (groupsWrong want (record { groups = t .groups; rows = t .rows; joined = true; long = t .long }) fs)
-    (pick (t .joined)
-    (groupsWrong want (record { groups = t .groups; rows = t .rows + 1; joined = false; long = t .long || ltb Size.rows (t .rows + 1) }) fs)
-    (groupsWrong want (record { groups = t .groups + 1; rows = 1; joined = false; long = t .long }) fs))
-
-abbrev pub noGroups : Tally
-noGroups = record { groups = 0; rows = 0; joined = false; long = false }
-
--- A tally with one field more.
-pub record Counted (t r : Tally) (f : List ℕ) : Type 0 where
-  pub groups : r .groups ≤ t .groups + 1
-  pub rows : r .rows ≤ t .rows + 1
-  pub rest : (want : ℕ) (fs : Fields) → groupsWrong want r fs ≡ groupsWrong want t (f ∷ fs)
+-- Of a cell, a word and so many pins.
+unfoldable pub askedOf : ℕ → Word → ℕ → Asked
+askedOf cell w n =
+    record {
+      place = groupPlace cell (firstGroup w);
+      groups = groupCount w n;
+      least = leastColumns w n;
+      limit = 2 ^ columnCount w n;
+    }
 
 -- ---- stores
-
--- The farthest place that a group can have: a line has no more fields than a text has bytes, and one.
-abbrev pub farthest : ℕ
-farthest = Size.library + Size.cellWords + Size.groupWords * Size.textBytes
 
 -- The name and the pins of a cell.
 unfoldable pub headerPut : ℕ → List ℕ → ℕ → List ℕ → List ℕ
@@ -84,21 +61,95 @@ headerPut cell name pins table = set (sets (set table (cellPlace cell) (length n
 unfoldable pub rowPut : ℕ → ℕ → ℕ → List ℕ → List ℕ
 rowPut place rows x table = set (set (set table place (rows + 1)) (place + 1 + 2 * rows) (x % 2)) (place + 2 + 2 * rows) (x / 2)
 
--- The rows of a line put into the table, from an open group on.
-unfoldable pub rowsPut : OpenGroup → Fields → List ℕ → List ℕ
-rowsPut g [] table = table
-rowsPut g (f ∷ fs) table =
-    pick (isJoin f)
-    (rowsPut (record { place = g .place; rows = g .rows; joined = true }) fs table)
-    (pick (g .joined)
-    (rowsPut (record { place = g .place; rows = g .rows + 1; joined = false }) fs (rowPut (g .place) (g .rows) (rowValue f) table))
-    (rowsPut (record { place = g .place + Size.groupWords; rows = 1; joined = false }) fs (rowPut (g .place + Size.groupWords) 0 (rowValue f) table)))
+-- The farthest place that a group can have: a line has no more fields than a text has bytes, and one.
+abbrev pub farthest : ℕ
+farthest = Size.library + Size.cellWords + Size.groupWords * Size.textBytes
 
--- One field put into the table, the rest still to come.
-pub record FieldPut (g r : OpenGroup) (f table after : List ℕ) : Type 0 where
-  pub place : r .place ≤ g .place + Size.groupWords
-  pub rows : r .rows ≤ g .rows + 1
-  pub rest : (fs : Fields) → rowsPut r fs after ≡ rowsPut g (f ∷ fs) table
+-- ---- the walk
+
+-- Before the first field behind the line's word.
+abbrev pub nonePassed : Passed
+nonePassed =
+    record { before = 0; groups = 0; rows = 0; place = 0; bad = false; long = false; high = false; low = false }
+
+-- A field that is no row: what stands before the next one, and whether a field so far is out of place.
+unfoldable pub marked : Passed → ℕ → Bool → Passed
+marked p before bad =
+    record {
+      before = before;
+      groups = p .groups;
+      rows = p .rows;
+      place = p .place;
+      bad = bad;
+      long = p .long;
+      high = p .high;
+      low = p .low;
+    }
+
+-- The group that a row goes into: the open one where an M, which is 2, stands before the row, else a new one.
+unfoldable pub opened : Asked → Passed → Passed
+opened a p =
+    record {
+      before = p .before;
+      groups = p .groups + 1;
+      rows = 0;
+      place = a .place + p .groups * Size.groupWords;
+      bad = p .bad;
+      long = p .long;
+      high = p .high;
+      low = p .low;
+    }
+
+unfoldable pub groupFor : Asked → Passed → Passed
+groupFor a p = pick (eqb (p .before) 2) p (opened a p)
+
+-- A row more in the open group.
+unfoldable pub rowAdded : Asked → Passed → ℕ → Passed
+rowAdded a p x =
+    record {
+      before = 1;
+      groups = p .groups;
+      rows = p .rows + 1;
+      place = p .place;
+      bad = p .bad;
+      long = p .long || ltb Size.rows (p .rows + 1);
+      high = p .high || leb (a .limit) (x / 2);
+      low = p .low || ltb (x / 2) (a .least);
+    }
+
+-- An M is out of place unless a row, which is 1, stands before it; what is neither a row nor an M always is.
+unfoldable pub fieldPassed : Asked → Passed → List ℕ → Passed
+fieldPassed a p f =
+    pick (isJoin f) (marked p 2 (p .bad || not (eqb (p .before) 1)))
+    (pick (isRow f) (rowAdded a (groupFor a p) (rowValue f)) (marked p (p .before) true))
+
+unfoldable pub passed : Asked → Passed → Fields → Passed
+passed a p [] = p
+passed a p (f ∷ fs) = passed a (fieldPassed a p f) fs
+
+-- The table behind it.
+unfoldable pub fieldStored : Asked → Passed → List ℕ → List ℕ → List ℕ
+fieldStored a p f table =
+    pick (isJoin f) table
+    (pick (isRow f) (rowPut ((groupFor a p) .place) ((groupFor a p) .rows) (rowValue f) table) table)
+
+unfoldable pub stored : Asked → Passed → Fields → List ℕ → List ℕ
+stored a p [] table = table
+stored a p (f ∷ fs) table = stored a (fieldPassed a p f) fs (fieldStored a p f table)
+
+-- The lowest number that holds, 0 where none does.
+unfoldable pub numberOf : Asked → Passed → ℕ
+numberOf a p =
+    pick (p .bad || eqb (p .before) 2) No.libraryForm
+    (pick (not (eqb (p .groups) (a .groups)) || p .long) No.groupsBad
+    (pick (p .high) No.bitAbove
+    (pick (p .low) No.rowIdle 0)))
+
+-- Counts and places that are small behind so many bytes.
+pub record Small (a : Asked) (p : Passed) (m : ℕ) : Type 0 where
+  pub groups : p .groups ≤ m
+  pub rows : p .rows ≤ m
+  pub place : p .place ≤ a .place + Size.groupWords * m
 
 -- ---- the lines, by the numbers that the code gives to places: 1 wants CC, 2 CO, 3 SC, 4 SO
 
@@ -125,20 +176,21 @@ rowNumber w n fs =
     (pick (anyOf (anyOf (idle w n)) (groupsOf (drop 1 fs))) No.rowIdle 0)))
     No.libraryForm
 
--- A name line's header, by its fields.
-unfoldable pub nameFormed : Fields → Bool
-nameFormed fs = eqb (length fs) 3 && (sameBytes (getD fs 0 []) (bytes "Name") && (nameForm (getD fs 1 []) && holds (decimal (getD fs 2 []))))
+-- A row line that was read: its number, and where it has none, the table with its rows.
+pub record RowsRead (cell : ℕ) (w : Word) (n : ℕ) (fs : Fields) (before after : List ℕ) (said : ℕ) : Type 0 where
+  pub number : said ≡ rowNumber w n fs
+  pub table : said ≡ 0 → after ≡ stored (askedOf cell w n) nonePassed (drop 1 fs) before
 
-unfoldable pub headerIn : Fields → Header
-headerIn fs = record { name = getD fs 1 []; pins = orZero (decimal (getD fs 2 [])) }
+-- The pins of a name line by its fields, where there are three; none is bad form.
+unfoldable pub pinsIn : Bool → List ℕ → List ℕ → List ℕ → Option ℕ
+pinsIn three first name digits = pick (three && (sameBytes first (bytes "Name") && nameForm name)) (decimal digits) none
 
-unfoldable pub nameNumber : List Cell → Fields → ℕ
-nameNumber cells fs =
-    pick (nameFormed fs)
-    (pick (nameUsed ((headerIn fs) .name) cells) No.nameUsed
-    (pick (pinsBad ((headerIn fs) .pins)) No.pinsBad
-    (pick (leb Size.cells (length cells)) No.cellsMany 0)))
-    No.libraryForm
+-- The refusal number of a name and a count of pins behind the cells of a table.
+unfoldable pub headerNumber : List ℕ → ℕ → List ℕ → ℕ
+headerNumber name pins table =
+    pick (ltb (foundAt name table) (getD table 0 0)) No.nameUsed
+    (pick (pinsBad pins) No.pinsBad
+    (pick (leb Size.cells (getD table 0 0)) No.cellsMany 0))
 
 unfoldable pub endFormed : Fields → Bool
 endFormed fs = eqb (length fs) 1 && sameBytes (getD fs 0 []) (bytes "End")

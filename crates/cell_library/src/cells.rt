@@ -1,12 +1,9 @@
-// What a library table that was read tells of its cells.
+// What a library table tells of its cells.
 ghost use mathlib.Core.Path.{_≡_};
-ghost use mathlib.Core.List.{List};
-ghost use Prim.Native.Nat.{_+_, _<_};
-ghost use lib.ListN.{length, getD};
-ghost use Rattle.sizes.specs.Places.{cellPlace};
-ghost use Rattle.cell_library.specs.Cells.{Cell};
-ghost use Rattle.cell_library.specs.Library.{cellNamed};
-ghost use Rattle.cell_library.specs.Layout.{LibraryHolds, bytesAt, nameAt};
+ghost use Prim.Native.Nat.{_+_};
+ghost use lib.ListN.{getD};
+ghost use Rattle.sizes.specs.Places.{cellPlace, pinsPlace};
+ghost use Rattle.cell_library.specs.Layout.{bytesAt, nameAt, foundAt};
 use table::word;
 
 // Where a cell starts in the table.
@@ -42,17 +39,16 @@ fn name_at(table: &[u32], cell: u32, name: &[u8]) -> bool
     bytes_at(table, cell, name)
 }
 
-// How many cells the table holds.
+// How many cells the table counts.
 pub fn count(table: &[u32]) -> u32
-    ensures { λ r. ⌜ ((cells : List Cell) → LibraryHolds (now (table .entry)) cells → r ≡ length cells) ⌝ }
+    ensures { λ r. ⌜ r ≡ getD (now (table .entry)) 0 0 ⌝ }
 {
     word(table, 0)
 }
 
 // The place of a name among the cells, from 0; the count of cells where it is not among them.
 pub fn find(table: &[u32], name: &[u8]) -> u32
-    ensures { λ r.
-        ⌜ ((cells : List Cell) → LibraryHolds (now (table .entry)) cells → r ≡ cellNamed (now (name .entry)) cells) ⌝ }
+    ensures { λ r. ⌜ r ≡ foundAt (now (name .entry)) (now (table .entry)) ⌝ }
 {
     let n = count(table);
     let mut k: u32 = 0;
@@ -65,11 +61,9 @@ pub fn find(table: &[u32], name: &[u8]) -> u32
     k
 }
 
-// The pins of a cell.
+// The pins of a cell; of one past the table's end, 0.
 pub fn pins_of(table: &[u32], cell: u32) -> u32
-    ensures { λ r.
-        ⌜ ((cells : List Cell) (d : Cell) → LibraryHolds (now (table .entry)) cells → cell < length cells
-        → r ≡ (getD cells cell d) .pins) ⌝ }
+    ensures { λ r. ⌜ r ≡ getD (now (table .entry)) (pinsPlace cell) 0 ⌝ }
 {
     word(table, cell_place(cell) + sizes::PINS_AT)
 }

@@ -1,26 +1,29 @@
-// The cell library: the library text read into the library table, and what a table that was read tells of its cells.
+// The cell library: the library text read into the library table, and what a library table tells of its cells.
 //
-// For the crates above: `read_library`, and, of a table that it filled, `cells::count`, `cells::find` and `cells::pins_of`.
+// Open to others, each for every input: `read_library`, `cells::count`, `cells::find` and `cells::pins_of`. What the last three
+// say of a table that holds cells: `holds-count`, `holds-find` and `holds-pins` of proofs/Names.antt.
+// For the crate's own modules: `cells::cell_place`.
 ghost use mathlib.Core.Path.{_≡_};
 ghost use Prim.Native.Nat.{_≤_};
 ghost use lib.ListN.{length};
 ghost use Rattle.sizes.specs.Sizes as Size;
 ghost use Rattle.reading.specs.Verdict.{verdictRead, doneRead};
+ghost use Rattle.cell_library.specs.Entry.{readLibrary, libraryLeft};
 ghost use Rattle.cell_library.specs.Library.{library};
 ghost use Rattle.cell_library.specs.Layout.{libraryAfter};
 
 pub mod cells;
-mod fields;
 mod lines;
 mod rows;
 mod store;
 
 use crate::lines::read_lines;
+use reading::Refusal;
 use reading::Verdict;
 use table::clear;
 
-// Reads a library text into the table. Where the text is refused, the whole table is 0.
-pub fn read_library(text: &[u8], table: &mut [u32]) -> Verdict
+// Reads a library text into a table of the published size. Where the text is refused, the whole table is 0.
+fn fill(text: &[u8], table: &mut [u32]) -> Verdict
     requires { ⌜ (length (now text) ≤ Size.textBytes) × (Size.library ≤ length (now table)) ⌝ }
     ensures answered { λ r. ⌜ verdictRead r ≡ doneRead (library (now (text .entry))) ⌝ }
     ensures leaves { λ _. ⌜ now (table .exit) ≡ libraryAfter (library (now (text .entry))) (now (table .entry)) ⌝ }
@@ -35,4 +38,25 @@ pub fn read_library(text: &[u8], table: &mut [u32]) -> Verdict
             answer
         }
     }
+}
+
+// Reads a library text into a table. Refusals 1 and 2, at line 0, leave the table as it was; any other leaves it all 0.
+pub fn read_library(text: &[u8], table: &mut [u32]) -> Verdict
+    ensures answered { λ r.
+        ⌜ verdictRead r ≡ doneRead (readLibrary (now (text .entry)) (length (now (table .entry)))) ⌝ }
+    ensures leaves { λ _. ⌜ now (table .exit) ≡ libraryLeft (now (text .entry)) (now (table .entry)) ⌝ }
+{
+    if table.len() < sizes::LIBRARY {
+        return Verdict::Refused(Refusal {
+            number: reading::TABLE_SHORT,
+            line: 0,
+        });
+    }
+    if sizes::TEXT_BYTES < text.len() {
+        return Verdict::Refused(Refusal {
+            number: reading::TEXT_LONG,
+            line: 0,
+        });
+    }
+    fill(text, table)
 }

@@ -1,35 +1,31 @@
 // The lines of a library text one after another: what refuses each, and what each leaves in the table.
 ghost use mathlib.Core.Path.{_≡_};
-ghost use mathlib.Core.Bool.{true};
+ghost use mathlib.Core.Bool.{_&&_};
 ghost use mathlib.Core.List.{List, [], _++_};
 ghost use Prim.Native.Nat.{_≤_, _<_};
+ghost use lib.Dec.{leb, ltb};
 ghost use lib.ListN.{length, drop};
 ghost use Rattle.sizes.specs.Sizes as Size;
 ghost use Rattle.reading.specs.Refusal.{read};
 ghost use Rattle.reading.specs.Verdict.{verdictRead, doneRead};
-ghost use Rattle.text.specs.Lines.{fields};
-ghost use Rattle.text.specs.Numeral.{decimal};
+ghost use Rattle.text.specs.Numeral.{numeralRead};
 ghost use Rattle.cell_library.specs.Cells.{Cell};
-ghost use Rattle.cell_library.specs.Library.{holds, library};
-ghost use Rattle.cell_library.specs.Layout.{libraryWords, LibraryHolds};
-ghost use Rattle.cell_library.specs.Passes.{orZero, nameFormed, nameNumber, endFormed};
+ghost use Rattle.cell_library.specs.Library.{library};
+ghost use Rattle.cell_library.specs.Layout.{libraryWords};
+ghost use Rattle.cell_library.specs.Passes.{pinsIn, headerNumber};
 ghost use Rattle.cell_library.specs.Sound.{endNumber};
 ghost use Rattle.cell_library.specs.Walk.{StateFits, LineReads};
 use crate::cells::count;
 use crate::cells::find;
-use crate::fields::cursor;
-use crate::fields::fields_are;
-use crate::fields::nth;
-use crate::rows::row_number;
+use crate::rows::read_rows;
 use crate::store::put_header;
-use crate::store::put_rows;
-use crate::store::word_place;
 use reading::Refusal;
 use reading::Verdict;
 use table::put;
 use text::Numeral;
 use text::after;
 use text::decimal;
+use text::field;
 use text::is_name;
 use text::same;
 
@@ -52,57 +48,43 @@ struct State {
     number: u32,
 }
 
-fn is_decimal(f: &[u8]) -> bool
-    ensures { λ r. ⌜ r ≡ holds (decimal (now (f .entry))) ⌝ }
+// A refused line: of the state behind it the number alone is asked for.
+fn stopped(s: State, number: u32) -> State
+    ensures { λ r. ⌜ r .number ≡ number ⌝ }
 {
-    let v = decimal(f);
-    match v {
-        Numeral::Value(_) => true,
-        Numeral::Bad => false,
-    }
+    let mut t = s;
+    t.number = number;
+    t
 }
 
-// The number that a field is written as; 0 where it is none.
-fn decimal_value(f: &[u8]) -> u32
-    ensures { λ r. ⌜ r ≡ orZero (decimal (now (f .entry))) ⌝ }
+// Whether the field at a cursor is the last of its line; `next` is the cursor behind it.
+fn is_last(line: &[u8], at: usize, next: usize) -> bool
+    ensures { λ r. ⌜ r ≡ (leb at (length (now (line .entry))) && ltb (length (now (line .entry))) next) ⌝ }
 {
-    let v = decimal(f);
-    match v {
-        Numeral::Value(x) => x,
-        Numeral::Bad => 0,
-    }
+    let n = line.len();
+    (at <= n) & (n < next)
 }
 
-// Whether a line is Name, a name and a decimal.
-fn name_form(line: &[u8]) -> bool
-    ensures { λ r. ⌜ r ≡ nameFormed (fields (now (line .entry))) ⌝ }
+// The pins that a Name line of these fields has, where there are three.
+fn header_pins(three: bool, word: &[u8], name: &[u8], digits: &[u8]) -> Numeral
+    ensures { λ r. ⌜ numeralRead r
+        ≡ pinsIn three (now (word .entry)) (now (name .entry)) (now (digits .entry)) ⌝ }
 {
-    if !fields_are(line, 3) {
-        return false;
+    let formed = three & (same(word, b"Name") & is_name(name));
+    if !formed {
+        return Numeral::Bad;
     }
-    if !same(nth(line, 0), b"Name") {
-        return false;
-    }
-    if !is_name(nth(line, 1)) {
-        return false;
-    }
-    is_decimal(nth(line, 2))
+    decimal(digits)
 }
 
-// The number that refuses a name line behind the cells of a table, the lowest that holds, or 0.
-fn name_number(line: &[u8], table: &[u32]) -> u32
-    ensures formed { λ r. ⌜ (r ≡ 0 → nameFormed (fields (now (line .entry))) ≡ true) ⌝ }
-    ensures numbered { λ r. ⌜ ((cells : List Cell) → LibraryHolds (now (table .entry)) cells
-        → r ≡ nameNumber cells (fields (now (line .entry)))) ⌝ }
+// The number that refuses a name and a count of pins behind the cells of a table, the lowest that holds, or 0.
+fn header_number(table: &[u32], name: &[u8], pins: u32) -> u32
+    ensures { λ r. ⌜ r ≡ headerNumber (now (name .entry)) pins (now (table .entry)) ⌝ }
 {
-    if !name_form(line) {
-        return reading::LIBRARY_FORM;
-    }
     let n = count(table);
-    if find(table, nth(line, 1)) < n {
+    if find(table, name) < n {
         return reading::NAME_USED;
     }
-    let pins = decimal_value(nth(line, 2));
     if pins < 1 {
         return reading::PINS_BAD;
     }
@@ -119,18 +101,22 @@ fn name_line(line: &[u8], table: &mut [u32], s: State) -> State
     requires { ⌜ (s .place ≡ 0) × StateFits s ⌝ }
     ensures { λ t. ⌜ LineReads s t (now (line .entry)) (now (table .entry)) (now (table .exit)) ⌝ }
 {
-    let number = name_number(line, table);
+    let word = field(line, 0);
+    let second = after(line, 0, word);
+    let name = field(line, second);
+    let third = after(line, second, name);
+    let digits = field(line, third);
+    let three = is_last(line, third, after(line, third, digits));
+    let header = header_pins(three, word, name, digits);
+    let Numeral::Value(pins) = header else {
+        return stopped(s, reading::LIBRARY_FORM);
+    };
+    let number = header_number(table, name, pins);
     if number != 0 {
-        return State {
-            place: s.place,
-            cells: s.cells,
-            pins: s.pins,
-            number,
-        };
+        return stopped(s, number);
     }
     let cells = s.cells;
-    let pins = decimal_value(nth(line, 2));
-    put_header(table, cells, nth(line, 1), pins);
+    put_header(table, cells, name, pins);
     State {
         place: CC_LINE,
         cells,
@@ -146,17 +132,10 @@ fn row_line(line: &[u8], table: &mut [u32], s: State) -> State
     let place = s.place;
     let cells = s.cells;
     let pins = s.pins;
-    let number = row_number(line, place, pins);
+    let number = read_rows(table, line, cells, place, pins);
     if number != 0 {
-        return State {
-            place,
-            cells,
-            pins,
-            number,
-        };
+        return stopped(s, number);
     }
-    let from = cursor(line, 1);
-    put_rows(table, line, from, word_place(cells, place));
     State {
         place: place + 1,
         cells,
@@ -165,28 +144,16 @@ fn row_line(line: &[u8], table: &mut [u32], s: State) -> State
     }
 }
 
-fn end_form(line: &[u8]) -> bool
-    ensures { λ r. ⌜ r ≡ endFormed (fields (now (line .entry))) ⌝ }
-{
-    if !fields_are(line, 1) {
-        return false;
-    }
-    same(nth(line, 0), b"End")
-}
-
 fn end_line(line: &[u8], table: &mut [u32], s: State) -> State
     requires { ⌜ (endNumber ≤ s .place) × StateFits s ⌝ }
     ensures { λ t. ⌜ LineReads s t (now (line .entry)) (now (table .entry)) (now (table .exit)) ⌝ }
 {
-    let cells = s.cells;
-    if !end_form(line) {
-        return State {
-            place: s.place,
-            cells,
-            pins: s.pins,
-            number: reading::LIBRARY_FORM,
-        };
+    let f = field(line, 0);
+    let formed = is_last(line, 0, after(line, 0, f)) & same(f, b"End");
+    if !formed {
+        return stopped(s, reading::LIBRARY_FORM);
     }
+    let cells = s.cells;
     put(table, 0, cells + 1);
     State {
         place: OUTSIDE,

@@ -1,17 +1,15 @@
-// Row lines: whether they have the form, and what refuses them, one pass over the line for each number.
+// Row lines: one walk over the fields behind a line's word, which stores the rows as it goes and weighs every number that may
+// refuse the line.
 ghost use mathlib.Core.Path.{_≡_};
-ghost use Prim.Native.Nat.{_^_, _≤_, _<_};
+ghost use Prim.Native.Nat.{_+_, _^_, _≤_, _<_};
 ghost use lib.ListN.{length};
 ghost use Rattle.sizes.specs.Sizes as Size;
 ghost use Rattle.text.specs.Lines.{fields, fieldsFrom, sameBytes};
-ghost use Rattle.cell_library.specs.Cells.{Row, rowOf};
-ghost use Rattle.cell_library.specs.Library.{isRow, isJoin, word, rowsForm, wordBytes, groupCount, columnCount};
-ghost use Rattle.cell_library.specs.Library.{above, idle};
-ghost use Rattle.cell_library.specs.Passes.{rowValue, placed, fieldBad, anyField, Counted, noGroups, groupsWrong};
-ghost use Rattle.cell_library.specs.Passes.{wordAt, setting, rowNumber};
-ghost use Rattle.cell_library.specs.Faults.{faulty};
-use crate::fields::cursor;
-use crate::fields::nth;
+ghost use Rattle.cell_library.specs.Library.{isJoin, wordBytes};
+ghost use Rattle.cell_library.specs.Passes.{wordAt, setting, askedOf, nonePassed, marked, groupFor, rowAdded};
+ghost use Rattle.cell_library.specs.Passes.{rowPut, fieldPassed, fieldStored, passed, stored, numberOf, Small, RowsRead};
+use crate::store::put_row;
+use crate::store::word_place;
 use text::Numeral;
 use text::after;
 use text::field;
@@ -19,198 +17,33 @@ use text::octal;
 use text::same;
 
 const MOST_ROWS: u32 = sizes::ROWS as u32;
-// What stands before a field: the line's word, a row, or an M; or a field out of place.
+// What stands before a field: the line's word, a row, or an M.
 const WORD: u32 = 0;
 
 const ROW: u32 = 1;
 
 const JOIN: u32 = 2;
 
-const OUT_OF_PLACE: u32 = 3;
-
-pub fn is_join(f: &[u8]) -> bool
-    ensures { λ r. ⌜ r ≡ isJoin (now (f .entry)) ⌝ }
-{
-    same(f, b"M")
+// What a row line is asked for: where its groups start in the table, how many they are, and what the columns of a row come to,
+// at least `least`, where the row is not idle, and below `limit`.
+struct Asked {
+    place: usize,
+    groups: u32,
+    least: u32,
+    limit: u32,
 }
 
-fn is_row(f: &[u8]) -> bool
-    ensures { λ r. ⌜ r ≡ isRow (now (f .entry)) ⌝ }
-{
-    let v = octal(f, sizes::ROW_DIGITS);
-    match v {
-        Numeral::Value(_) => true,
-        Numeral::Bad => false,
-    }
-}
-
-// The number that a row is written as; 0 where the field is no row.
-pub fn row_value(f: &[u8]) -> u32
-    ensures { λ r. ⌜ r ≡ rowValue (now (f .entry)) ⌝ }
-{
-    let v = octal(f, sizes::ROW_DIGITS);
-    match v {
-        Numeral::Value(x) => x,
-        Numeral::Bad => 0,
-    }
-}
-
-// What stands before the next field, with this one passed.
-fn placed(f: &[u8], before: u32) -> u32
-    ensures { λ r. ⌜ r ≡ placed before (now (f .entry)) ⌝ }
-{
-    if is_join(f) {
-        if before == ROW {
-            return JOIN;
-        }
-        return OUT_OF_PLACE;
-    }
-    if is_row(f) {
-        return ROW;
-    }
-    OUT_OF_PLACE
-}
-
-// Whether the fields from a cursor on are rows, with an M only between two of them.
-fn rows_form(line: &[u8], from: usize) -> bool
-    ensures { λ r. ⌜ r ≡ rowsForm word (fieldsFrom (now (line .entry)) from) ⌝ }
-{
-    let n = line.len();
-    let mut at = from;
-    let mut before = WORD;
-    while at <= n {
-        let f = field(line, at);
-        before = placed(f, before);
-        if before == OUT_OF_PLACE {
-            return false;
-        }
-        at = after(line, at, f);
-    }
-    if before == JOIN {
-        return false;
-    }
-    true
-}
-
-// The groups passed, the rows of the last of them, whether an M was just passed, and whether a group was too long.
-struct Tally {
+// The fields passed so far: what stands before the next one; the groups, the rows of the last of them and its place in the
+// table; whether a field is out of place (3), a group too long (6), a row's columns too high (7) or too low (8).
+struct Passed {
+    before: u32,
     groups: u32,
     rows: u32,
-    joined: bool,
+    place: usize,
+    bad: bool,
     long: bool,
-}
-
-fn counted(t: Tally, f: &[u8]) -> Tally
-    requires { ⌜ (t .groups ≤ Size.textBytes) × (t .rows ≤ Size.textBytes) ⌝ }
-    ensures { λ r. ⌜ Counted t r (now (f .entry)) ⌝ }
-{
-    if is_join(f) {
-        return Tally {
-            groups: t.groups,
-            rows: t.rows,
-            joined: true,
-            long: t.long,
-        };
-    }
-    if t.joined {
-        return Tally {
-            groups: t.groups,
-            rows: t.rows + 1,
-            joined: false,
-            long: t.long | (MOST_ROWS < t.rows + 1),
-        };
-    }
-    Tally {
-        groups: t.groups + 1,
-        rows: 1,
-        joined: false,
-        long: t.long,
-    }
-}
-
-// Whether the groups from a cursor on are not so many, or one has too many rows.
-fn groups_bad(line: &[u8], from: usize, want: u32) -> bool
-    requires { ⌜ length (now line) ≤ Size.textBytes ⌝ }
-    ensures { λ r. ⌜ r ≡ groupsWrong want noGroups (fieldsFrom (now (line .entry)) from) ⌝ }
-{
-    let n = line.len();
-    let mut at = from;
-    let mut t = Tally {
-        groups: 0,
-        rows: 0,
-        joined: false,
-        long: false,
-    };
-    while at <= n {
-        let f = field(line, at);
-        t = counted(t, f);
-        at = after(line, at, f);
-    }
-    if t.groups != want {
-        return true;
-    }
-    t.long
-}
-
-// 2 to a power.
-fn power(k: u32) -> u32
-    requires { ⌜ k < 32 ⌝ }
-    ensures { λ r. ⌜ r ≡ 2 ^ k ⌝ }
-{
-    let mut p: u32 = 1;
-    let mut i: u32 = 0;
-    while i < k {
-        p = p * 2;
-        i += 1;
-    }
-    p
-}
-
-// What a row can have against it: columns from a limit on, no column, or a column not named. `faulty` gives its cases.
-enum Fault {
-    From(u32),
-    Empty,
-    Without(u32),
-}
-
-fn row_fault(fault: Fault, row: u32) -> bool
-    ensures { λ r. ⌜ r ≡ faulty fault (rowOf row) ⌝ }
-{
-    let columns = row / 2;
-    match fault {
-        Fault::From(limit) => limit <= columns,
-        Fault::Empty => columns == 0,
-        Fault::Without(mark) => if mark == 0 {
-            true
-        } else {
-            columns / mark % 2 != 1
-        },
-    }
-}
-
-fn field_fault(f: &[u8], fault: Fault) -> bool
-    ensures { λ r. ⌜ r ≡ fieldBad (faulty fault) (now (f .entry)) ⌝ }
-{
-    if is_join(f) {
-        return false;
-    }
-    row_fault(fault, row_value(f))
-}
-
-// Whether a row from a cursor on has the fault.
-fn any_fault(line: &[u8], from: usize, fault: Fault) -> bool
-    ensures { λ r. ⌜ r ≡ anyField (faulty fault) (fieldsFrom (now (line .entry)) from) ⌝ }
-{
-    let n = line.len();
-    let mut at = from;
-    while at <= n {
-        let f = field(line, at);
-        if field_fault(f, fault) {
-            return true;
-        }
-        at = after(line, at, f);
-    }
-    false
+    high: bool,
+    low: bool,
 }
 
 // Whether a field is the word that a place of an entry wants.
@@ -242,54 +75,170 @@ fn sets_output(place: u32) -> bool
     false
 }
 
-fn group_count(place: u32, pins: u32) -> u32
-    ensures { λ r. ⌜ r ≡ groupCount (wordAt place) pins ⌝ }
+// 2 to a power.
+fn power(k: u32) -> u32
+    requires { ⌜ k < 32 ⌝ }
+    ensures { λ r. ⌜ r ≡ 2 ^ k ⌝ }
 {
-    if sets_output(place) { 2 } else { pins }
-}
-
-// A bit above the columns of a word.
-fn bit_above(place: u32, pins: u32) -> Fault
-    requires { ⌜ pins ≤ Size.pins ⌝ }
-    ensures { λ r. ⌜ ((x : Row) → faulty r x ≡ above (columnCount (wordAt place) pins) x) ⌝ }
-{
-    if sets_output(place) {
-        return Fault::From(power(2 * pins));
+    let mut p: u32 = 1;
+    let mut i: u32 = 0;
+    while i < k {
+        p = p * 2;
+        i += 1;
     }
-    Fault::From(power(2 * pins + 3))
+    p
 }
 
-// No pin named, or the output not observed.
-fn row_idle(place: u32, pins: u32) -> Fault
+// What a place of an entry asks of its line, for a cell of so many pins.
+fn asked_for(cell: u32, place: u32, pins: u32) -> Asked
     requires { ⌜ pins ≤ Size.pins ⌝ }
-    ensures { λ r. ⌜ ((x : Row) → faulty r x ≡ idle (wordAt place) pins x) ⌝ }
+    ensures { λ r. ⌜ r ≡ askedOf cell (wordAt place) pins ⌝ }
 {
+    let at = word_place(cell, place);
     if sets_output(place) {
-        return Fault::Empty;
+        return Asked {
+            place: at,
+            groups: 2,
+            least: 1,
+            limit: power(2 * pins),
+        };
     }
-    Fault::Without(power(2 * pins + 2))
+    Asked {
+        place: at,
+        groups: pins,
+        least: power(2 * pins + 2),
+        limit: power(2 * pins + 3),
+    }
 }
 
-// The number that refuses a row line, the lowest that holds, or 0.
-pub fn row_number(line: &[u8], place: u32, pins: u32) -> u32
-    requires { ⌜ (length (now line) ≤ Size.textBytes) × (pins ≤ Size.pins) ⌝ }
-    ensures { λ r. ⌜ r ≡ rowNumber (wordAt place) pins (fields (now (line .entry))) ⌝ }
+fn is_join(f: &[u8]) -> bool
+    ensures { λ r. ⌜ r ≡ isJoin (now (f .entry)) ⌝ }
 {
-    if !is_word(nth(line, 0), place) {
+    same(f, b"M")
+}
+
+fn marked(p: Passed, before: u32, bad: bool) -> Passed
+    ensures { λ r. ⌜ r ≡ marked p before bad ⌝ }
+{
+    let mut q = p;
+    q.before = before;
+    q.bad = bad;
+    q
+}
+
+// The group that a row goes into: the open one where an M stands before the row, else a new one.
+fn group_for(a: Asked, p: Passed) -> Passed
+    requires { ⌜ (a .place ≤ Size.library + Size.cellWords) × Small a p Size.textBytes ⌝ }
+    ensures { λ r. ⌜ r ≡ groupFor a p ⌝ }
+{
+    if p.before == JOIN {
+        return p;
+    }
+    let mut q = p;
+    q.groups = p.groups + 1;
+    q.rows = 0;
+    q.place = a.place + p.groups as usize * sizes::GROUP_WORDS;
+    q
+}
+
+// One row more in the open group.
+fn row_added(a: Asked, p: Passed, x: u32) -> Passed
+    requires { ⌜ p .rows ≤ Size.textBytes ⌝ }
+    ensures { λ r. ⌜ r ≡ rowAdded a p x ⌝ }
+{
+    let columns = x / 2;
+    Passed {
+        before: ROW,
+        groups: p.groups,
+        rows: p.rows + 1,
+        place: p.place,
+        bad: p.bad,
+        long: p.long | (MOST_ROWS < p.rows + 1),
+        high: p.high | (a.limit <= columns),
+        low: p.low | (columns < a.least),
+    }
+}
+
+// A field judged, and stored where it is a row.
+fn pass_field(table: &mut [u32], a: Asked, p: Passed, f: &[u8]) -> Passed
+    requires { ⌜ (a .place ≤ Size.library + Size.cellWords) × Small a p Size.textBytes ⌝ }
+    ensures judged { λ r. ⌜ r ≡ fieldPassed a p (now (f .entry)) ⌝ }
+    ensures stores { λ _. ⌜ now (table .exit) ≡ fieldStored a p (now (f .entry)) (now (table .entry)) ⌝ }
+{
+    if is_join(f) {
+        return marked(p, JOIN, p.bad | (p.before != ROW));
+    }
+    let v = octal(f, sizes::ROW_DIGITS);
+    match v {
+        Numeral::Value(x) => {
+            let g = group_for(a, p);
+            put_row(table, g.place, g.rows, x);
+            row_added(a, g, x)
+        }
+        Numeral::Bad => marked(p, p.before, true),
+    }
+}
+
+// The fields of a line from a cursor on.
+fn pass_fields(table: &mut [u32], line: &[u8], from: usize, a: Asked) -> Passed
+    requires { ⌜ (a .place ≤ Size.library + Size.cellWords) × (length (now line) ≤ Size.textBytes) ⌝ }
+    ensures judged { λ r. ⌜ r ≡ passed a nonePassed (fieldsFrom (now (line .entry)) from) ⌝ }
+    ensures stores { λ _. ⌜ now (table .exit)
+        ≡ stored a nonePassed (fieldsFrom (now (line .entry)) from) (now (table .entry)) ⌝ }
+{
+    let n = line.len();
+    let mut at = from;
+    let mut p = Passed {
+        before: WORD,
+        groups: 0,
+        rows: 0,
+        place: 0,
+        bad: false,
+        long: false,
+        high: false,
+        low: false,
+    };
+    while at <= n {
+        let f = field(line, at);
+        p = pass_field(table, a, p, f);
+        at = after(line, at, f);
+    }
+    p
+}
+
+// The lowest number that holds of the fields passed, or 0. An M that is the last field is out of place.
+fn number_of(a: Asked, p: Passed) -> u32
+    ensures { λ r. ⌜ r ≡ numberOf a p ⌝ }
+{
+    let bad = p.bad | (p.before == JOIN);
+    if bad {
         return reading::LIBRARY_FORM;
     }
-    let from = cursor(line, 1);
-    if !rows_form(line, from) {
-        return reading::LIBRARY_FORM;
-    }
-    if groups_bad(line, from, group_count(place, pins)) {
+    let wrong = (p.groups != a.groups) | p.long;
+    if wrong {
         return reading::GROUPS_BAD;
     }
-    if any_fault(line, from, bit_above(place, pins)) {
+    if p.high {
         return reading::BIT_ABOVE;
     }
-    if any_fault(line, from, row_idle(place, pins)) {
+    if p.low {
         return reading::ROW_IDLE;
     }
     0
+}
+
+// Reads a row line into the table, and answers the number that refuses it, the lowest that holds, or 0.
+pub fn read_rows(table: &mut [u32], line: &[u8], cell: u32, place: u32, pins: u32) -> u32
+    requires { ⌜ (cell ≤ Size.cells) × (pins ≤ Size.pins) × (length (now line) ≤ Size.textBytes) ⌝ }
+    ensures { λ r. ⌜ RowsRead cell (wordAt place) pins (fields (now (line .entry)))
+        (now (table .entry)) (now (table .exit)) r ⌝ }
+{
+    let word = field(line, 0);
+    if !is_word(word, place) {
+        return reading::LIBRARY_FORM;
+    }
+    let from = after(line, 0, word);
+    let a = asked_for(cell, place, pins);
+    let p = pass_fields(table, line, from, a);
+    number_of(a, p)
 }

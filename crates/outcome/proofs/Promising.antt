@@ -10,6 +10,7 @@ use Rattle.reading.specs.Refusal.{Read, refused, read, _>>=_, _>>_}
 use Rattle.reading.specs.declared.Refusal.{Refusal}
 use Rattle.cell_library.specs.Cells.{Cell}
 use Rattle.cell_library.specs.Library.{library}
+use Rattle.cell_library.specs.Entry.{leftBehind}
 use Rattle.cell_library.specs.Layout.{libraryWords, libraryAfter}
 use Rattle.cell_library.specs.Sound as C
 use Rattle.cell_library.proofs.Laws.{library-sound}
@@ -22,7 +23,7 @@ use Rattle.outcome.specs.declared.Summary.{Summary}
 use Rattle.outcome.specs.Answer.{lentOf}
 use Rattle.outcome.specs.Demands.{Promised}
 use Rattle.outcome.specs.Outcome.{Given, Lent, Accepted, entry, outcome, reading, conclude, answer, left, leftFrom, leftLater, filled, zeroed}
-use Rattle.outcome.specs.Progress.{progressOf, progressFrom, libraryFrom, made, Finished}
+use Rattle.outcome.specs.Progress.{progressOf, progressFrom, made, Finished}
 use Rattle.outcome.proofs.Accepting.{concluded, concludes}
 use Rattle.outcome.proofs.Checking.{Checked}
 use Rattle.outcome.proofs.Keeping.{keeps}
@@ -69,7 +70,7 @@ module _ (g : Given) (m : Lent) where
     both : entry g m ≡ read tt → BothRead library′ netlist′ → Reached library′ netlist′ Unrefused
 
   module _ (library′ : List ℕ) (begun : Progress) (begins : begun ≡ progressFrom (entry g m) (library (g .library)))
-      (leaves : library′ ≡ libraryFrom (entry g m) (library (g .library)) (m .library))
+      (leaves : library′ ≡ leftBehind (entry g m) (library (g .library)) (m .library))
       (netlist′ : List ℕ) (said : Progress) (n : NetlistRead library′ begun netlist′ said) where
     from-statements : entry g m ≡ read tt → begun ≡ Unrefused → (cells : List Cell) → library (g .library) ≡ read cells
         → library′ ≡ libraryWords cells ++ drop Size.library (m .library)
@@ -85,14 +86,14 @@ module _ (g : Given) (m : Lent) where
         rw s (both e (record { cells = cells; statements = ss; cellsRead = p; statementsRead = q; cellsStand = l; statementsStand = h .1 ss q }))
 
     from-library : entry g m ≡ read tt → (o : Read (List Cell)) → library (g .library) ≡ o → Reached library′ netlist′ said
-    unfolding progressFrom progressOf libraryFrom libraryAfter reading _>>=_
+    unfolding progressFrom progressOf leftBehind libraryAfter reading _>>=_
     from-library e (refused number line) p =
         let b : begun ≡ Later (record { number = number; line = line }) = rw (e, p) at begins in
         rw (n .stays (λ x. later-shut _ (sym b ∙ x)) .0, b) (later (record { number = number; line = line }) e (rw p))
     from-library e (read cells) p = from-statements e (rw (e, p) at begins) cells p (rw (e, p) at leaves) (g .statements cells) refl
 
     from-entry : (e : Read (Unit {0})) → entry g m ≡ e → Reached library′ netlist′ said
-    unfolding progressFrom libraryFrom
+    unfolding progressFrom leftBehind
     from-entry (refused number line) e =
         let b : begun ≡ AtEntry (record { number = number; line = line }) = rw e at begins in
         let s = n .stays (λ x. entry-shut _ (sym b ∙ x)) in

@@ -11,7 +11,7 @@ use Rattle.reading.specs.Numbers as No
 use Rattle.reading.specs.Refusal.{Read, refused, read, weigh}
 use Rattle.cell_library.specs.Cells.{Cell}
 use Rattle.cell_library.specs.Library.{library}
-use Rattle.cell_library.specs.Layout.{libraryAfter}
+use Rattle.cell_library.specs.Entry.{leftBehind}
 use Rattle.netlist.specs.Netlist.{Statement}
 use Rattle.calculation.specs.Calculation.{analysed}
 use Rattle.report.specs.Report.{reportAfter}
@@ -41,15 +41,10 @@ unfoldable pub progressFrom : {A : Type 0} → Read (Unit {0}) → Read A → Pr
 progressFrom (refused number line) o = AtEntry (record { number = number; line = line })
 progressFrom (read u) o = progressOf o
 
--- The library table then: a refusal at entry leaves it as it was.
-unfoldable pub libraryFrom : Read (Unit {0}) → Read (List Cell) → List ℕ → List ℕ
-libraryFrom (refused number line) o before = before
-libraryFrom (read u) o before = libraryAfter o before
-
 -- The entry and the library text, over the lengths of the netlist text and of the tables that are not read yet.
 pub record Begun (text : List ℕ) (net : ℕ) (before : List ℕ) (netlist numbers : ℕ) (said : Progress) (after : List ℕ) : Type 0 where
   pub answers : said ≡ progressFrom (entryBy (length text) net (length before) netlist numbers) (library text)
-  pub leaves : after ≡ libraryFrom (entryBy (length text) net (length before) netlist numbers) (library text) before
+  pub leaves : after ≡ leftBehind (entryBy (length text) net (length before) netlist numbers) (library text) before
 
 -- ---- the end
 

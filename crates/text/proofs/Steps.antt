@@ -8,12 +8,11 @@ use native.Mathlib.Nat.{pow-le-pow-right}
 use native.Mathlib.Numerals.{add-one}
 use native.Mathlib.Omega.{arith}
 use lib.Dec.{eqb}
-use lib.ListN.{length, getD, take, drop, drop-of-length-le}
-use lib.Seq.{drop-cons, take-nil}
+use lib.ListN.{length, getD, take, drop, length-drop, drop-of-length-le}
+use lib.Seq.{drop-cons, take-nil, take-all}
 use borrow.Author.Tests.{le-leb, lt-leb, eq-eqb, ne-eqb}
 use Rattle.sizes.specs.Sizes as Size
 use Rattle.text.specs.Lines.{stop, span, part, sameBytes}
-use Rattle.reading.proofs.Laws.{and-left}
 use Rattle.text.proofs.Laws.{digit-step}
 use Rattle.text.specs.Numeral.{digitBelow, allDigits, value, noLeadingZero, wellFormed, nameByte, allName, nameForm}
 
@@ -30,10 +29,17 @@ module _ (mark : ℕ) (s : List ℕ) (i : ℕ) where
   unfolding span
   span-end h = rw (drop-of-length-le s h)
 
--- A part that starts at `from` and whose end the loop found at `i`.
-pub part-found : (mark : ℕ) (s : List ℕ) (from i : ℕ) → i ≡ from + span mark (drop from s) → take (i - from) (drop from s) ≡ part mark s from
+-- A first part whose end the loop found at `i`.
+pub part-found : (mark : ℕ) (s : List ℕ) (i : ℕ) → i ≡ span mark s → take i s ≡ part mark s 0
 unfolding part
-part-found mark s from i e = let n : i - from ≡ span mark (drop from s) = omega arith in rw n
+part-found mark s i e = rw e
+
+-- A part from a cursor on is the first part of the rest.
+pub part-rest : (mark : ℕ) (s : List ℕ) (from : ℕ) → part mark (take (length s - from) (drop from s)) 0 ≡ part mark s from
+unfolding part
+part-rest mark s from =
+    let all : length (drop from s) ≤ length s - from = omega (arith, length-drop from s) in
+    rw (take-all (length s - from) (drop from s) all)
 
 pub part-past : (mark : ℕ) (s : List ℕ) (from : ℕ) → length s ≤ from → part mark s from ≡ []
 unfolding part
@@ -59,10 +65,6 @@ module _ (base : ℕ) (f : List ℕ) (i : ℕ) where
   pub allDigits-bad : i < length f → digitBelow base (getD f i 0) ≡ false → allDigits base (drop i f) ≡ false
   unfolding allDigits
   allDigits-bad h e = rw (drop-cons f i 0 h, e)
-
-  pub allDigits-here : i < length f → allDigits base (drop i f) ≡ true → digitBelow base (getD f i 0) ≡ true
-  unfolding allDigits
-  allDigits-here h d = and-left (digitBelow base (getD f i 0)) (allDigits base (drop (suc i) f)) (rw (drop-cons f i 0 h) at d)
 
   pub allDigits-end : length f ≤ i → allDigits base (drop i f) ≡ true
   unfolding allDigits

@@ -3,12 +3,14 @@
 // Open to other crates, each for every input: `line`, `field`, `after`, `same`, `is_name`, `decimal`, `octal`, and
 // the type `Numeral`. The type `Class` is `pub` for the figures.
 ghost use mathlib.Core.Path.{_≡_};
-ghost use mathlib.Core.Bool.{true};
+ghost use mathlib.Core.Option.{some, none};
 ghost use Prim.Native.Nat.{_+_, _-_, _^_, _≤_, _<_, min};
 ghost use lib.ListN.{length};
 ghost use Rattle.text.specs.Class.{classOf, ends, endOf};
 ghost use Rattle.text.specs.Lines.{part, nextAfter, sameBytes};
-ghost use Rattle.text.specs.Numeral.{digitBelow, allDigits, value, wellFormed, numeral, decimal, nameByte, nameForm, numeralRead};
+ghost use Rattle.reading.specs.Choice.{pick};
+ghost use Rattle.text.specs.Numeral.{digitBelow, allDigits, value, numeral, decimal, nameByte, nameForm};
+ghost use Rattle.text.specs.Numeral.{numeralRead};
 
 const ZERO: u8 = 48;
 
@@ -50,7 +52,22 @@ fn ends(b: u8, line: bool) -> bool
     }
 }
 
-// The line, or the field, from a cursor up to its end or to the text's; empty from a cursor past the end.
+// The first line, or the first field, up to its end or to the text's.
+fn first(text: &[u8], line: bool) -> &[u8]
+    ensures { λ r. ⌜ now r ≡ part (endOf line) (now (text .entry)) 0 ⌝ }
+{
+    let n = text.len();
+    let mut i = 0;
+    while i < n {
+        if ends(text[i], line) {
+            return &text[..i];
+        }
+        i += 1;
+    }
+    text
+}
+
+// The line, or the field, from a cursor on; empty from a cursor past the end.
 fn part(text: &[u8], from: usize, line: bool) -> &[u8]
     ensures { λ r. ⌜ now r ≡ part (endOf line) (now (text .entry)) from ⌝ }
 {
@@ -58,14 +75,7 @@ fn part(text: &[u8], from: usize, line: bool) -> &[u8]
     if n < from {
         return &text[n..];
     }
-    let mut i = from;
-    while i < n {
-        if ends(text[i], line) {
-            return &text[from..i];
-        }
-        i += 1;
-    }
-    &text[from..]
+    first(&text[from..], line)
 }
 
 pub fn line(text: &[u8], from: usize) -> &[u8]
@@ -159,40 +169,6 @@ fn digit_below(b: u8, base: u8) -> bool
     }
 }
 
-fn all_digits(f: &[u8], base: u8) -> bool
-    requires { ⌜ base ≤ 10 ⌝ }
-    ensures { λ r. ⌜ r ≡ allDigits base (now (f .entry)) ⌝ }
-{
-    let n = f.len();
-    let mut i = 0;
-    while i < n {
-        if !digit_below(f[i], base) {
-            return false;
-        }
-        i += 1;
-    }
-    true
-}
-
-fn well_formed(f: &[u8], base: u8, most: usize) -> bool
-    requires { ⌜ base ≤ 10 ⌝ }
-    ensures { λ r. ⌜ r ≡ wellFormed base most (now (f .entry)) ⌝ }
-{
-    let n = f.len();
-    if n < 1 {
-        return false;
-    }
-    if most < n {
-        return false;
-    }
-    if 1 < n {
-        if f[0] == ZERO {
-            return false;
-        }
-    }
-    all_digits(f, base)
-}
-
 // The value of a digit in place.
 fn digit(b: u8) -> u32
     requires { ⌜ 48 ≤ b ⌝ }
@@ -201,19 +177,24 @@ fn digit(b: u8) -> u32
     (b - ZERO) as u32
 }
 
-// The value of digits that are few enough for it to fit.
-fn value(f: &[u8], base: u32) -> u32
-    requires { ⌜ (0 < base) × (allDigits base (now f) ≡ true) × (base ^ length (now f) ≤ 2 ^ 32) ⌝ }
-    ensures { λ r. ⌜ r ≡ value base 0 (now (f .entry)) ⌝ }
+// The value of digits that are few enough for it to fit; bad form where a byte is no digit.
+fn digits(f: &[u8], base: u8) -> Numeral
+    requires { ⌜ (0 < base) × (base ≤ 10) × (base ^ length (now f) ≤ 2 ^ 32) ⌝ }
+    ensures { λ r. ⌜ numeralRead r
+        ≡ pick (allDigits base (now (f .entry))) (some (value base 0 (now (f .entry)))) none ⌝ }
 {
     let n = f.len();
     let mut sum: u32 = 0;
     let mut i = 0;
     while i < n {
-        sum = sum * base + digit(f[i]);
+        let b = f[i];
+        if !digit_below(b, base) {
+            return Numeral::Bad;
+        }
+        sum = sum * base as u32 + digit(b);
         i += 1;
     }
-    sum
+    Numeral::Value(sum)
 }
 
 // A field read in a base, with so few digits that each value fits. `decimal` and `octal` are its two uses.
@@ -221,11 +202,19 @@ fn read(f: &[u8], base: u8, most: usize) -> Numeral
     requires { ⌜ (0 < base) × (base ≤ 10) × (base ^ most ≤ 2 ^ 32) ⌝ }
     ensures { λ r. ⌜ numeralRead r ≡ numeral base most (now (f .entry)) ⌝ }
 {
-    if well_formed(f, base, most) {
-        Numeral::Value(value(f, base as u32))
-    } else {
-        Numeral::Bad
+    let n = f.len();
+    if n < 1 {
+        return Numeral::Bad;
     }
+    if most < n {
+        return Numeral::Bad;
+    }
+    if 1 < n {
+        if f[0] == ZERO {
+            return Numeral::Bad;
+        }
+    }
+    digits(f, base)
 }
 
 // A decimal field.

@@ -1,11 +1,11 @@
 -- The laws of numbers in decimal: what the digits read back as, and how many there are.
 -- Assumes nothing.
 use mathlib.Core.Bool.{Bool, true, false, not}
-use mathlib.Core.List.{List, [], _∷_, _++_}
+use mathlib.Core.List.{List, [], _∷_, _++_, append-assoc}
 use mathlib.Core.Option.{some}
 use mathlib.Core.Path.{_≡_, refl, sym, ap, _∙_}
 use Prim.Native.Nat.{ℕ, zero, suc, _+_, _*_, _-_, _/_, _%_, _^_, _≤_, _<_}
-use native.Mathlib.Nat.{pow-suc, mod-eq-of-lt}
+use native.Mathlib.Nat.{pow-suc, one-le-pow, mod-eq-of-lt}
 use native.Mathlib.Omega.{arith}
 use lib.Dec.{ltb, eqb}
 use lib.ListN.{length, length-append}
@@ -14,7 +14,7 @@ use Rattle.reading.specs.Choice.{pick}
 use Rattle.text.specs.Numeral.{digitBelow, allDigits, value, noLeadingZero, wellFormed, numeral}
 use Rattle.reading.proofs.Laws.{by-test, and-left, and-right}
 use Rattle.text.proofs.Laws.{numeral-good}
-use Rattle.writer.specs.Decimal.{digits, decimalBytes}
+use Rattle.writer.specs.Decimal.{digits, decimalBytes, twoDigits}
 
 -- ---- numbers in decimal
 
@@ -39,6 +39,20 @@ unfolding decimalBytes digits pick
 decimal-more n h q =
     rw (le-ltb n 10 h)
     (ap (λ (f : List ℕ). f ++ ((48 + n % 10) ∷ [])) (sym (digits-more 18 (n / 10) (tenth-below 18 n q))))
+
+-- Two digits at a time.
+pub decimal-two : (n : ℕ) → 10 ≤ n → n < 100 → decimalBytes n ≡ twoDigits n
+decimal-two n h q =
+    let first : n / 10 % 10 ≡ n / 10 = omega arith in
+    rw (decimal-more n h (omega arith), decimal-one (n / 10) (omega arith), first) refl
+
+pub decimal-hundreds : (n : ℕ) → 100 ≤ n → n < 10 ^ 20 → decimalBytes n ≡ decimalBytes (n / 100) ++ twoDigits (n % 100)
+decimal-hundreds n h q =
+    let above : n / 10 / 10 ≡ n / 100 = omega arith in
+    let first : n / 10 % 10 ≡ n % 100 / 10 = omega arith in
+    let last : n % 10 ≡ n % 100 % 10 = omega arith in
+    rw (decimal-more n (omega arith) q, decimal-more (n / 10) (omega arith) (omega arith), above, first, last)
+    (append-assoc (decimalBytes (n / 100)) ((48 + n % 100 / 10) ∷ []) ((48 + n % 100 % 10) ∷ []))
 
 -- the value of digits with one more behind them
 value-last : (acc b : ℕ) (f : List ℕ) → value 10 acc (f ++ (b ∷ [])) ≡ value 10 acc f * 10 + (b - 48)
@@ -149,6 +163,23 @@ digits-below (suc k) (suc d) n h =
 pub decimal-below : (d n : ℕ) → n < 10 ^ suc d → length (decimalBytes n) ≤ suc d
 unfolding decimalBytes
 decimal-below d n h = digits-below 19 d n h
+
+-- a number from a power of ten on has no fewer
+digits-above : (more d n : ℕ) → d ≤ more → 10 ^ d ≤ n → suc d ≤ length (digits more n)
+unfolding digits pick
+digits-above more zero n h p = digits-some more n
+digits-above zero (suc d) n h p = absurd (omega arith)
+digits-above (suc more) (suc d) n h p =
+    let ten : 10 ≤ n = omega (arith, pow-suc 10 d, one-le-pow d 10 (omega arith)) in
+    rw (le-ltb n 10 ten, length-append (digits more (n / 10)) ((48 + n % 10) ∷ []))
+    (omega (arith, digits-above more d (n / 10) (omega arith) (omega (arith, pow-suc 10 d))))
+
+pub decimal-single : (n : ℕ) → n < 10 → 1 ≡ length (decimalBytes n)
+decimal-single n h = rw (decimal-one n h) refl
+
+pub decimal-width : (d n : ℕ) → d ≤ 19 → 10 ^ d ≤ n → n < 10 ^ suc d → suc d ≡ length (decimalBytes n)
+unfolding decimalBytes
+decimal-width d n h p q = omega (arith, digits-above 19 d n h p, digits-below 19 d n q)
 
 pub decimal-length : (n : ℕ) → (1 ≤ length (decimalBytes n)) × (length (decimalBytes n) ≤ 20)
 unfolding decimalBytes

@@ -9,7 +9,7 @@ use Rattle.reading.proofs.Laws.{by-test}
 use native.Mathlib.Nat.{zero-add, add-zero, add-suc, suc-add}
 use native.Mathlib.Omega.{arith}
 use lib.ListN.{length, set, drop, length-append}
-use lib.Seq.{sets, length-sets, set-out, sets-eq}
+use lib.Seq.{sets, length-sets, set-out, set-comm, sets-eq}
 use Rattle.writer.specs.Put.{Put}
 
 sets-past : (vs l : List ℕ) (i : ℕ) → length l ≤ i → sets l i vs ≡ l
@@ -30,6 +30,22 @@ sets-same vs l i j h =
     (λ past.
     let out : length l ≤ i = ltb-false i (length l) past in
     sets-past vs l i out ∙ sym (sets-past vs l j (omega arith)))
+
+-- ---- bytes put before those that stand behind them
+
+set-under : (vs l : List ℕ) (i j a : ℕ) → i < j → set (sets l j vs) i a ≡ sets (set l i a) j vs
+set-under [] l i j a h = refl
+set-under (b ∷ vs) l i j a h =
+    set-under vs (set l j b) i (suc j) a (omega arith) ∙ rw (set-comm l j i b a (λ e. omega arith)) refl
+
+sets-under : (us vs l : List ℕ) (i j : ℕ) → i + length us ≤ j → sets (sets l j vs) i us ≡ sets (sets l i us) j vs
+sets-under [] vs l i j h = refl
+sets-under (a ∷ us) vs l i j h = rw (set-under vs l i j a (omega arith)) (sets-under us vs (set l i a) (suc i) j (omega arith))
+
+pub sets-before : (us vs l : List ℕ) (i j : ℕ) → j ≡ i + length us → sets (sets l j vs) i us ≡ sets l i (us ++ vs)
+sets-before us vs l i j e = sets-under us vs l i j (omega arith) ∙ rw e (sym (sets-append us vs l i))
+
+-- ---- bytes put at a cursor
 
 pub put-none : (at : ℕ) (l : List ℕ) → Put at [] l l at
 put-none at l = record { stored = refl; moved = ap (λ (k : ℕ). min k (length l + 1)) (sym (add-zero at)) }

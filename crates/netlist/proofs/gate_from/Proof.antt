@@ -7,6 +7,7 @@ use borrow.Author.Tests.{not-true, not-false}
 use Rattle.text.specs.Lines.{part, nextAfter}
 use Rattle.text.specs.Numeral.{nameForm}
 use Rattle.cell_library.specs.Library.{cellNamed}
+use Rattle.cell_library.proofs.Names.{holds-find}
 use Rattle.netlist.proofs.Forms.{stands-none, number-good, number-bad, gate-none, gate-name-bad, gate-no-line}
 use Rattle.netlist.proofs.Forms.{gate-line-bad, gate-lines, gathered-gate}
 use borrow.Author.Needs.{needs}
@@ -92,7 +93,8 @@ returns-5 c cells lib =
     let l = number .0 .0 in
     let from = p .before .after2 .ensures ∙ ap (nextAfter (line n) (f .after .result)) (d .before .field2 .ensures) in
     let cell =
-    c .find .ensures cells lib
+    c .find .ensures
+    ∙ holds-find _ _ cells lib
     ∙ ap (λ (x : List ℕ). cellNamed x cells) (n .before .field .ensures)
     in
     rw

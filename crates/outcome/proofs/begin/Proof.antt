@@ -1,6 +1,6 @@
 -- `begin` reads the library text behind the entry. Assumes nothing.
 use denote.Ref.{now}
-use Rattle.outcome.proofs.Entering.{entered, passes, begun-entry, begun-later, begun-unrefused}
+use Rattle.outcome.proofs.Entering.{begun-entry, begun-later, begun-unrefused}
 use borrow.Author.Needs.{needs}
 use Rattle.outcome.proofs.begin.Statement.{statement}
 use Rattle.outcome.proofs.begin.Tie as tie
@@ -15,13 +15,6 @@ accepted c = c .before .before
 
 abbrev library-read : tie.After-slice-known2 → tie.After-read-library
 library-read c = c .before .before
-
-read-library-requires : tie.Need-read-library-requires
-read-library-requires c κs =
-    let v = accepted (c .before) in
-    let a = begins v .args in
-    let e = entered _ _ _ _ _ (passes (now (a .lib)) (a .net) (now (a .library)) (a .netlist) (a .numbers) (v .entry .result) (v .entry .ensures) (search needs)) in
-    (e .lib-short, e .library-long)
 
 returns : tie.Need-returns
 returns c =
@@ -52,7 +45,7 @@ begin-spec =
     (λ c κs. search needs)
     (λ c. search needs)
     (λ c. search needs)
-    read-library-requires
+    (λ c κs. search needs)
     (λ c. search needs)
     (λ c. search needs)
     returns

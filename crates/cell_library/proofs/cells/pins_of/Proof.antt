@@ -1,8 +1,6 @@
 -- `pins_of` meets its contract. Assumes nothing.
-use mathlib.Core.Path.{_∙_}
 use native.Mathlib.Omega.{arith}
 use borrow.Author.Needs.{needs}
-use Rattle.cell_library.proofs.Names.{holds-pins}
 use Rattle.cell_library.proofs.cells.pins_of.Statement.{statement}
 use Rattle.cell_library.proofs.cells.pins_of.Tie as tie
 
@@ -10,7 +8,7 @@ add-word : tie.Need-add-word
 add-word c = omega (arith, c .cell-place .ensures)
 
 returns : tie.Need-returns
-returns c cells d holds h = c .word .ensures ∙ rw (c .before .cell-place .ensures) (holds-pins _ cells holds _ h d)
+returns c = rw (← c .before .cell-place .ensures) (c .word .ensures)
 
 pub pins-of-spec : {M : Type 1} → statement M
 pins-of-spec = tie.close (tie.spec (λ c κs. search needs) add-word (λ c κs. search needs) returns)

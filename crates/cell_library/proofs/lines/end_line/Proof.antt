@@ -1,22 +1,42 @@
 -- `end_line` meets its contract. Assumes nothing.
-use mathlib.Core.List.{List}
-use mathlib.Core.Path.{refl, sym, _∙_}
+use mathlib.Core.Bool.{Bool, _&&_}
+use mathlib.Core.List.{List, []}
+use mathlib.Core.Path.{_≡_, sym, ap, _∙_}
 use Prim.Native.Nat.{ℕ}
+use lib.Dec.{eqb}
+use lib.ListN.{length}
 use borrow.Author.Tests.{not-true, not-false}
-use Rattle.text.specs.Lines.{fields}
+use Rattle.text.specs.Bytes.{bytes}
+use Rattle.text.specs.Lines.{fields, sameBytes}
+use Rattle.text.proofs.Laws.{fieldsFrom-start}
 use Rattle.cell_library.specs.Library.{Reading}
+use Rattle.cell_library.specs.Passes.{endFormed}
 use Rattle.cell_library.specs.Walk.{Shows}
+use Rattle.cell_library.proofs.Cursors.{field-nth, field-last}
 use Rattle.cell_library.proofs.Entries.{AtEnd, at-end, end-refused, end-read}
 use native.Mathlib.Omega.{arith}
 use borrow.Author.Needs.{needs}
 use Rattle.cell_library.proofs.lines.end_line.Statement.{statement}
 use Rattle.cell_library.proofs.lines.end_line.Tie as tie
 
-abbrev begun : tie.After-end-form → tie.Start
-begun c = c .before .before .before
+abbrev cut : tie.After-same → tie.After-field
+cut c = c .before .before .before .before
+
+abbrev begun : tie.After-same → tie.Start
+begun c = cut c .before .before .before
 
 abbrev formed : tie.After-put-arg → tie.Else1
 formed c = c .before
+
+-- What the two tests told.
+told : (c : tie.After-same) → (c .before .before .is-last .result && c .same .result) ≡ endFormed (fields (begun c .args .line .now))
+unfolding endFormed bytes
+told c =
+    let s = begun c .args .line .now in
+    let last = c .before .before in
+    let f = cut c .field .ensures in
+    ap (λ (b : Bool). b && c .same .result) (last .is-last .ensures ∙ field-last s _ 0 _ 0 (fieldsFrom-start s) f (last .before .after .ensures))
+    ∙ ap (λ (b : Bool). eqb (length (fields s)) 1 && b) (rw (field-nth s _ 0 0 0 (fieldsFrom-start s) f) at (c .same .ensures))
 
 -- The place wants the End line.
 at : (s : tie.Start) (r : Reading) (past : List ℕ) → Shows r (s .args .s) (s .args .table .now) past → AtEnd (r .place)
@@ -24,22 +44,32 @@ at s r past shows = at-end (r .place) (rw (← shows .place) (s .pre .0))
 
 returns : tie.Need-returns
 returns c r past n shows =
-    let s = begun (c .before) in
-    end-refused (fields (s .args .line .now)) r past n (s .args .s) _ shows (at s r past shows) _ _ refl (sym (c .before .end-form .ensures) ∙ not-true (c .before .end-form .result) (c .if1 .taken))
+    let e = c .before in
+    let s = begun (e .before) in
+    end-refused (fields (s .args .line .now)) r past n (s .args .s) _ shows (at s r past shows) _ _ (c .stopped .ensures) (sym (told (e .before)) ∙ not-true _ (e .if1 .taken))
 
 add-put : tie.Need-add-put
 add-put c = omega (arith, begun (formed c .before) .pre .1 .cells)
-
-add-t10 : tie.Need-add-t10
-add-t10 c = omega (arith, begun (formed (c .before .before .before) .before) .pre .1 .cells)
 
 returns-2 : tie.Need-returns-2
 returns-2 c r past n shows =
     let f = formed (c .before .before .before) in
     let s = begun (f .before) in
-    end-read (fields (s .args .line .now)) r past n (s .args .s) _ shows (at s r past shows) _ (sym (f .before .end-form .ensures) ∙ not-false (f .before .end-form .result) (f .if1 .left)) (c .before .before .put .ensures)
+    end-read (fields (s .args .line .now)) r past n (s .args .s) _ shows (at s r past shows) _ (sym (told (f .before)) ∙ not-false _ (f .if1 .left)) (c .before .before .put .ensures)
 
 pub end-line-spec : {M : Type 1} → statement M
 end-line-spec =
     tie.close
-    (tie.spec (λ c κs. search needs) returns add-put (λ c κs. search needs) add-t10 (λ c. search needs) returns-2)
+    (tie.spec
+    (λ c κs. search needs)
+    (λ c κs. search needs)
+    (λ c κs. search needs)
+    (λ c. search needs)
+    (λ c κs. search needs)
+    (λ c κs. search needs)
+    returns
+    add-put
+    (λ c κs. search needs)
+    (λ c. omega (arith, begun (formed (c .before .before .before) .before) .pre .1 .cells))
+    (λ c. search needs)
+    returns-2)

@@ -4,24 +4,22 @@ use mathlib.Core.Path.{sym, _∙_}
 use Prim.Native.Nat.{ℕ}
 use Rattle.text.specs.Lines.{fields}
 use Rattle.cell_library.specs.Library.{Reading}
-use Rattle.cell_library.specs.Passes.{wordAt}
 use Rattle.cell_library.specs.Walk.{Shows}
 use Rattle.cell_library.proofs.Cursors.{fields-some}
 use Rattle.cell_library.proofs.Entries.{AtWord, at-word, row-refused, row-read}
-use Rattle.cell_library.proofs.Places.{first-most}
 use native.Mathlib.Omega.{arith}
 use borrow.Author.Needs.{needs}
 use Rattle.cell_library.proofs.lines.row_line.Statement.{statement}
 use Rattle.cell_library.proofs.lines.row_line.Tie as tie
 
-abbrev begun : tie.After-row-number → tie.Start
-begun c = c .before .before .before
+abbrev begun : tie.After-read-rows → tie.Start
+begun c = c .before .before .before .before
 
-abbrev numbered : tie.After-word-place → tie.Else1
-numbered c = c .before .before .before
+abbrev numbered : tie.After-slice-known2 → tie.After-read-rows
+numbered c = c .before .before
 
-row-number-requires : tie.Need-row-number-requires
-row-number-requires c κs = let s = c .before .before in (s .pre .3, s .pre .2 .pins)
+read-rows-requires : tie.Need-read-rows-requires
+read-rows-requires c κs = let s = c .before .before .before in (s .pre .2 .cells, s .pre .2 .pins, s .pre .3)
 
 -- The place wants a row line.
 at : (s : tie.Start) (r : Reading) (past : List ℕ) → Shows r (s .args .s) (s .args .table .now) past → AtWord (r .place)
@@ -29,36 +27,29 @@ at s r past shows = at-word (r .place) (rw (← shows .place) (s .pre .0)) (rw (
 
 returns : tie.Need-returns
 returns c r past n shows =
-    let s = begun (c .before) in
+    let e = c .before in
+    let k = numbered (e .before) in
+    let s = begun k in
     let line = s .args .line .now in
-    row-refused (fields line) (fields-some line) r past n (s .args .s) _ shows (at s r past shows) _ _ (c .before .row-number .ensures) (c .if1 .taken)
-
-put-rows-requires : tie.Need-put-rows-requires
-put-rows-requires c κs =
-    let s = begun (numbered c .before) in
-    (s .pre .3, omega (arith, c .word-place .ensures, s .pre .2 .cells, first-most (wordAt (s .args .s .place))))
-
-add-t14 : tie.Need-add-t14
-add-t14 c = omega (arith, begun (numbered (c .before .before .before) .before) .pre .1)
+    row-refused (fields line) (fields-some line) r past n (s .args .s) _ shows (at s r past shows) _ _
+    (c .stopped .ensures ∙ k .read-rows .ensures .number) (λ z. e .if1 .taken (sym (c .stopped .ensures) ∙ z))
 
 returns-2 : tie.Need-returns-2
 returns-2 c r past n shows =
-    let put = c .before .before in
-    let k = numbered (put .before) in
-    let s = begun (k .before) in
+    let k = numbered (c .before) in
+    let s = begun k in
     let line = s .args .line .now in
-    row-read (fields line) (fields-some line) r past n (s .args .s) _ shows (at s r past shows) _ (sym (k .before .row-number .ensures) ∙ k .if1 .left)
-    (rw (put .before .before .before .cursor .ensures, put .before .word-place .ensures) at (put .put-rows .ensures))
+    row-read (fields line) (fields-some line) r past n (s .args .s) _ shows (at s r past shows) _
+    (sym (k .read-rows .ensures .number) ∙ c .if1 .left) (k .read-rows .ensures .table (c .if1 .left))
 
 pub row-line-spec : {M : Type 1} → statement M
 row-line-spec =
     tie.close
     (tie.spec
-    row-number-requires
+    read-rows-requires
+    (λ c κs. search needs)
+    (λ c. search needs)
     returns
-    (λ c κs. search needs)
-    (λ c κs. search needs)
-    put-rows-requires
-    add-t14
+    (λ c. omega (arith, begun (numbered (c .before)) .pre .1))
     (λ c. search needs)
     returns-2)

@@ -1,0 +1,20 @@
+-- `group_for` meets its contract. Assumes nothing.
+use borrow.Author.Tests.{eq-eqb, ne-eqb}
+use Rattle.reading.specs.Choice.{pick}
+use Rattle.cell_library.specs.Passes.{opened, groupFor}
+use borrow.Author.Needs.{needs}
+use Rattle.cell_library.proofs.rows.group_for.Statement.{statement}
+use Rattle.cell_library.proofs.rows.group_for.Tie as tie
+
+returns : tie.Need-returns
+unfolding groupFor pick
+returns c = rw (eq-eqb _ 2 (c .if1 .taken))
+
+returns-2 : tie.Need-returns-2
+unfolding groupFor opened pick
+returns-2 c = rw (ne-eqb _ 2 (c .before .before .before .if1 .left))
+
+pub group-for-spec : {M : Type 1} → statement M
+group-for-spec =
+    tie.close
+    (tie.spec returns (λ c. search needs) (λ c. search needs) (λ c. search needs) (λ c. search needs) returns-2)
