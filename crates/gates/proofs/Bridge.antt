@@ -3,7 +3,7 @@
 -- Assumes nothing.
 use mathlib.Core.List.{List, [], _++_, _∷_, List·Memᴰ, List·Memᴰ·head, List·Memᴰ·tail}
 use mathlib.Core.Path.{_≡_, refl, ap, _∙_}
-use Prim.Native.Nat.{ℕ, zero, suc, _+_, _*_, _-_, _≤_, _<_}
+use Prim.Native.Nat.{ℕ, zero, suc, _+_, _*_, _-_, _^_, _≤_, _<_}
 use native.Mathlib.Numerals.{add-one}
 use native.Mathlib.Omega.{arith}
 use lib.ListN.{length, getD, take, drop, length-append, length-take, length-drop}
@@ -16,6 +16,7 @@ use Rattle.reading.specs.Choice.{pick}
 use Rattle.table.proofs.Places.{length-fitted, getD-fitted}
 use Rattle.reading.proofs.Laws.{each-at}
 use Rattle.cell_library.specs.Cells.{Row, Group, Cell}
+use Rattle.cell_library.specs.Library.{columnCount}
 use Rattle.cell_library.specs.Layout.{libraryWords, cellGroups, firstGroup}
 use Rattle.cell_library.specs.Sound.{SoundRow}
 use Rattle.cell_library.proofs.Places.{length-libraryWords, cell-pins, group-count, row-depth, row-columns, cell-group, within-space, first-most}
@@ -29,7 +30,7 @@ use Rattle.calculation.specs.Nodes.{Kind, combinational, sequential}
 use Rattle.calculation.specs.Ways.{noCell, cellOf, pinLine, needs, Role, setting, observing, purposeOf, wordOf, groupIndex, groupOf, asks, wayOf, waysOf, visit}
 use Rattle.calculation.proofs.Accepting.{has-index, gate-cell, pin-count, role-group, role-row}
 use Rattle.calculation.proofs.Visiting.{getD-listed, Has}
-use Rattle.gates.specs.Tables.{kindNumber, rowPlaces, rowWays, groupWays, groupVisit, gateCell, gatePins, gateLines, byRole, visitCount, visitGroup, gateVisit}
+use Rattle.gates.specs.Tables.{kindNumber, rowPlaces, rowWays, groupWays, groupVisit, gateCell, gatePins, gateLines, byRole, roleColumns, visitCount, visitGroup, gateVisit}
 use Rattle.gates.specs.Fits.{GroupFits, GateFits, TablesFit}
 use Rattle.gates.proofs.Naming.{set-node, observe-node, linesOf, role-places}
 
@@ -78,6 +79,13 @@ role-first combinational (setting e) = omega arith
 role-first sequential (setting e) = omega arith
 role-first combinational (observing i) = omega arith
 role-first sequential (observing i) = omega arith
+
+role-width : (k : Kind) (role : Role) (n : ℕ) → columnCount (wordOf k role) n ≡ roleColumns (roleNumber role) n
+unfolding columnCount wordOf byRole pick
+role-width combinational (setting e) n = refl
+role-width sequential (setting e) n = refl
+role-width combinational (observing i) n = refl
+role-width sequential (observing i) n = refl
 
 -- ---- the tables
 
@@ -182,15 +190,23 @@ module _ (cells : List Cell) (ss : List Statement) (sound : BothSound cells ss) 
           rw (cell-number, e, ← same)
           (row-columns noCell cells behind (sound .library .few) (gate .cell) (sound-gate .known) (roleGroup k role) low r noRow (rw same most) (rw same q))
 
-      group-fits : GroupFits library place
+      -- Its rows name none but the role's columns.
+      width : columnCount (wordOf k role) (cell .pins) ≡ roleColumns (roleNumber role) (gatePins library netlist i)
+      width = rw pins-number (role-width k role (cell .pins))
+
+      group-fits : GroupFits library place (roleColumns (roleNumber role) (gatePins library netlist i))
       group-fits =
           record {
             room = rw group-number (rw cell-number (omega (arith, library-room, sound .library .few, sound-gate .known, low, most)));
             depth = λ r q. shallow r (rw group-number at q);
+            columns = λ r q. within r (rw group-number at q);
           }
         where
           shallow : (r : ℕ) → r < length rows → getD library (place + 1 + Size.rowWords * r) 0 ≤ over
           shallow r q = rw (depth-number r q) (omega (arith, row-sound (getD rows r noRow) (getD-listed rows r noRow q) .depth))
+
+          within : (r : ℕ) → r < length rows → getD library (place + 1 + Size.rowWords * r + 1) 0 < 2 ^ roleColumns (roleNumber role) (gatePins library netlist i)
+          within r q = rw (columns-number r q, ← width) (row-sound (getD rows r noRow) (getD-listed rows r noRow q) .within)
 
       group-ways : groupWays (kindNumber k) (gateLines netlist i) (gatePins library netlist i) library place ≡ waysOf k gate cell role rows
       unfolding groupWays
@@ -216,12 +232,12 @@ module _ (cells : List Cell) (ss : List Statement) (sound : BothSound cells ss) 
     of-number P f (suc zero) b = f sequential
     of-number P f (suc (suc kind)) b = absurd (omega arith)
 
-    groups-fit : (role kind p : ℕ) → role ≤ 1 → kind ≤ 1 → p < visitCount role (gatePins library netlist i) → GroupFits library (groupPlace (gateCell netlist i) (visitGroup role kind p))
+    groups-fit : (role kind p : ℕ) → role ≤ 1 → kind ≤ 1 → p < visitCount role (gatePins library netlist i) → GroupFits library (groupPlace (gateCell netlist i) (visitGroup role kind p)) (roleColumns role (gatePins library netlist i))
     unfolding byRole pick groupIndex
     groups-fit zero kind p a b l =
-        of-number (λ (m : ℕ). GroupFits library (groupPlace (gateCell netlist i) (visitGroup 0 m p))) (λ k. group-fits k (setting p) (omega arith)) kind b
+        of-number (λ (m : ℕ). GroupFits library (groupPlace (gateCell netlist i) (visitGroup 0 m p)) (roleColumns 0 (gatePins library netlist i))) (λ k. group-fits k (setting p) (omega arith)) kind b
     groups-fit (suc zero) kind p a b l =
-        of-number (λ (m : ℕ). GroupFits library (groupPlace (gateCell netlist i) (visitGroup 1 m p)))
+        of-number (λ (m : ℕ). GroupFits library (groupPlace (gateCell netlist i) (visitGroup 1 m p)) (roleColumns 1 (gatePins library netlist i)))
         (λ k. let z : suc p - 1 ≡ p = omega arith in rw z at (group-fits k (observing (suc p)) (omega arith, omega (arith, pins-number)))) kind b
     groups-fit (suc (suc role)) kind p a b l = absurd (omega arith)
 

@@ -3,6 +3,7 @@
 use mathlib.Core.List.{List, [], _∷_}
 use mathlib.Core.Path.{_≡_, refl, sym, ap, _∙_}
 use Prim.Native.Nat.{ℕ, zero, suc, _+_, _*_, _-_, _/_, _%_, _^_, _≤_, _<_, min}
+use native.Mathlib.Decide.{ℕ-discrete}
 use native.Mathlib.Nat.{pow-suc, mod-lt}
 use native.Mathlib.Omega.{arith}
 use lib.Bits.{bitAnd, and-step, and-self, and-le-l}
@@ -11,16 +12,26 @@ use lib.ListN.{length}
 use Rattle.gates.specs.Tables.{withNamed, columnPlaces}
 
 -- ---- the lowest
-pub even-trailing : (k n : ℕ) → n % 2 ≡ 0 → trailingZeros (suc k) n ≡ suc (trailingZeros k (n / 2))
+even-trailing : (k n : ℕ) → n % 2 ≡ 0 → trailingZeros (suc k) n ≡ suc (trailingZeros k (n / 2))
 unfolding trailingZeros
 even-trailing k n h = rw h
 
-pub odd-trailing : (k n : ℕ) → (n % 2 ≡ 0 → ⊥) → trailingZeros (suc k) n ≡ 0
+odd-trailing : (k n : ℕ) → (n % 2 ≡ 0 → ⊥) → trailingZeros (suc k) n ≡ 0
 unfolding trailingZeros
 odd-trailing k n h = let e : n % 2 ≡ 1 = omega arith in rw e
 
-pub half-below : (k n : ℕ) → n < 2 ^ suc k → n / 2 < 2 ^ k
+half-below : (k n : ℕ) → n < 2 ^ suc k → n / 2 < 2 ^ k
 half-below k n h = omega (arith, pow-suc 2 k)
+
+-- The lowest column is one of those that the row has.
+pub lowest-below : (k count n : ℕ) → 0 < n → n < 2 ^ count → trailingZeros k n < count
+lowest-below k zero n p h = absurd (omega arith)
+lowest-below zero (suc count) n p h = unfold trailingZeros in omega arith
+lowest-below (suc k) (suc count) n p h = go (ℕ-discrete (n % 2) 0) (λ q. lowest-below k count (n / 2) q (half-below count n h))
+  where
+    go : Dec (n % 2 ≡ 0) → (0 < n / 2 → trailingZeros k (n / 2) < count) → trailingZeros (suc k) n < suc count
+    go (yes e) ih = omega (arith, even-trailing k n e, ih (omega arith))
+    go (no e) ih = omega (arith, odd-trailing k n e)
 
 -- ---- the lowest and the rest
 

@@ -1,13 +1,13 @@
--- Rows of the library table at a gate: where their columns stand, and their sums.
+-- Rows of the library table at a gate: where their columns stand, and their sums over the columns' costs.
 -- Assumes nothing.
 use mathlib.Core.List.{List}
 use mathlib.Core.Path.{_≡_, sym, ap, _∙_}
-use Prim.Native.Nat.{ℕ, suc, _+_, _*_, _-_, _/_, _%_, _^_, _≤_, _<_}
+use Prim.Native.Nat.{ℕ, suc, _+_, _*_, _-_, _/_, _%_, _≤_, _<_}
 use native.Mathlib.Decide.{decLe}
 use native.Mathlib.Omega.{arith}
-use lib.Bits.{bitAnd}
+use lib.Bits.{bitAnd, and-le-l}
 use lib.Count.{trailingZeros}
-use lib.ListN.{getD}
+use lib.ListN.{length, getD}
 use borrow.Author.Tests.{le-leb, lt-leb}
 use Rattle.sizes.specs.Sizes as Size
 use Rattle.sizes.specs.Places.{settingPlace, observingPlace}
@@ -15,10 +15,10 @@ use Rattle.cost.specs.Cost.{never, capped, _⊕_, lesser}
 use Rattle.reading.specs.Choice.{pick}
 use Rattle.plans.specs.Sweep.{at, sums, way, least}
 use Rattle.plans.proofs.Laws.{at-getD}
-use Rattle.gates.specs.Tables.{columnPlace, rowPlaces, rowWays, groupWays}
-use Rattle.gates.specs.Fits.{LinesFit, RowFits, GroupFits}
+use Rattle.gates.specs.Tables.{columnPlace, namedColumns, columnWays, groupColumns}
+use Rattle.gates.specs.Fits.{LinesFit, ColumnsFit, GroupFits}
 use Rattle.gates.specs.Sums.{rowSum}
-use Rattle.gates.proofs.Columns.{no-places, lowest-first}
+use Rattle.gates.proofs.Columns.{no-places, lowest-below, lowest-first}
 
 -- ---- the place of a column
 module _ (kind : ℕ) (lines : List ℕ) (pins : ℕ) where
@@ -43,55 +43,57 @@ module _ (kind : ℕ) (lines : List ℕ) (pins : ℕ) where
           let b : 0 ≤ pins = omega arith in
           rw (observe-column j (omega arith)) (omega (arith, f .least 0 b, f .most 0 b))
 
-  -- ---- the sum of a row's columns
+-- ---- the sum of a row's columns, over their costs
 
-  pub no-sum : (xs : List ℕ) → 0 ≡ sums xs (rowPlaces kind lines pins 0)
-  unfolding rowPlaces sums
-  no-sum xs = rw (no-places (columnPlace kind lines pins) 32 0)
+pub no-sum : (costs : List ℕ) → 0 ≡ sums costs (namedColumns 0)
+unfolding namedColumns sums
+no-sum costs = rw (no-places (λ j. j) 32 0)
 
-  pub lowest-sum : (xs : List ℕ) (columns : ℕ) → kind ≤ 1 → RowFits lines pins xs → 0 < columns → columns < 2 ^ 32
-      → getD xs (columnPlace kind lines pins (trailingZeros 32 columns)) 0 ⊕ sums xs (rowPlaces kind lines pins (bitAnd columns (columns - 1)))
-      ≡ sums xs (rowPlaces kind lines pins columns)
-  unfolding rowPlaces sums
-  lowest-sum xs columns k f p h =
+module _ (columns : ℕ) (costs : List ℕ) (fit : ColumnsFit columns costs) (some : 0 < columns) where
+  pub lowest-inside : trailingZeros 32 columns < length costs
+  lowest-inside = rw (fit .size) (lowest-below 32 Size.columns columns some (fit .few))
+
+  pub rest-fits : ColumnsFit (bitAnd columns (columns - 1)) costs
+  rest-fits = record { size = fit .size; few = omega (arith, fit .few, and-le-l columns (columns - 1)) }
+
+  pub lowest-sum : getD costs (trailingZeros 32 columns) 0 ⊕ sums costs (namedColumns (bitAnd columns (columns - 1))) ≡ sums costs (namedColumns columns)
+  unfolding namedColumns sums
+  lowest-sum =
       let j = trailingZeros 32 columns in
       let z : 0 + j ≡ j = omega arith in
-      let e : at xs (columnPlace kind lines pins j) ≡ getD xs (columnPlace kind lines pins j) 0 =
-      at-getD xs (columnPlace kind lines pins j) 0 (omega (arith, f .size, column-inside j k (f .linesFit))) in
-      sym (ap (sums xs) (lowest-first (columnPlace kind lines pins) 32 0 columns p h) ∙ rw (z, e))
+      let e : at costs j ≡ getD costs j 0 = at-getD costs j 0 lowest-inside in
+      sym (ap (sums costs) (lowest-first (λ i. i) 32 0 columns some (omega (arith, fit .few))) ∙ rw (z, e))
 
   -- Where the lowest column is the last, the sum of the rest is 0.
-  pub last-sum : (xs : List ℕ) (columns : ℕ) → kind ≤ 1 → RowFits lines pins xs → 0 < columns → columns < 2 ^ 32 → bitAnd columns (columns - 1) ≡ 0
-      → getD xs (columnPlace kind lines pins (trailingZeros 32 columns)) 0 ⊕ 0 ≡ sums xs (rowPlaces kind lines pins columns)
-  last-sum xs columns k f p h e =
-      ap (λ (z : ℕ). getD xs (columnPlace kind lines pins (trailingZeros 32 columns)) 0 ⊕ z)
-      (no-sum xs ∙ ap (λ (c : ℕ). sums xs (rowPlaces kind lines pins c)) (sym e))
-      ∙ lowest-sum xs columns k f p h
+  pub last-sum : bitAnd columns (columns - 1) ≡ 0 → getD costs (trailingZeros 32 columns) 0 ⊕ 0 ≡ sums costs (namedColumns columns)
+  last-sum e =
+      ap (λ (z : ℕ). getD costs (trailingZeros 32 columns) 0 ⊕ z) (no-sum costs ∙ ap (λ (c : ℕ). sums costs (namedColumns c)) (sym e))
+      ∙ lowest-sum
 
 -- ---- the least row sum, the rows taken from the last to the first
 
-module _ (kind : ℕ) (lines : List ℕ) (pins : ℕ) (library xs : List ℕ) (group : ℕ) where
+module _ (library costs : List ℕ) (group : ℕ) where
   -- Of the rows from `row` on.
   abbrev pub leastFrom : ℕ → ℕ
-  leastFrom row = least xs (rowWays kind lines pins library (getD library group 0 - row) (group + 1 + Size.rowWords * row))
+  leastFrom row = least costs (columnWays library (getD library group 0 - row) (group + 1 + Size.rowWords * row))
 
   pub rows-none : (row : ℕ) → row ≡ getD library group 0 → never ≡ leastFrom row
-  unfolding rowWays least
+  unfolding columnWays least
   rows-none row h = let e : getD library group 0 - row ≡ 0 = omega arith in rw e
 
-  pub rows-more : (row : ℕ) → 0 < row → row ≤ getD library group 0 → GroupFits library group
+  pub rows-more : (row count : ℕ) → 0 < row → row ≤ getD library group 0 → GroupFits library group count
       → let at = group + 1 + Size.rowWords * (row - 1) in
-      lesser (rowSum kind lines pins xs (getD library at 0) (getD library (at + 1) 0)) (leastFrom row) ≡ leastFrom (row - 1)
-  unfolding rowWays least way capped rowSum
-  rows-more row p h f =
+      lesser (rowSum costs (getD library at 0) (getD library (at + 1) 0)) (leastFrom row) ≡ leastFrom (row - 1)
+  unfolding columnWays least way capped rowSum
+  rows-more row count p h f =
       let at = group + 1 + Size.rowWords * (row - 1) in
       let e : getD library group 0 - (row - 1) ≡ suc (getD library group 0 - row) = omega arith in
       let n : at + Size.rowWords ≡ group + 1 + Size.rowWords * row = omega arith in
       let d : capped (getD library at 0) ≡ getD library at 0 = omega (arith, f .depth (row - 1) (omega arith)) in
       rw (e, n, d)
 
-  pub rows-all : (row : ℕ) → row ≤ 0 → leastFrom row ≡ least xs (groupWays kind lines pins library group)
-  unfolding groupWays
+  pub rows-all : (row : ℕ) → row ≤ 0 → leastFrom row ≡ least costs (groupColumns library group)
+  unfolding groupColumns
   rows-all row h =
       let e : row ≡ 0 = omega arith in
       let n : getD library group 0 - 0 ≡ getD library group 0 = omega arith in

@@ -5,7 +5,7 @@ use mathlib.Core.Path.{_≡_}
 use Prim.Native.Nat.{ℕ}
 use Rattle.cost.specs.Cost.{_⊕_}
 use Rattle.plans.specs.Sweep.{sums}
-use Rattle.gates.specs.Tables.{rowPlaces}
+use Rattle.gates.specs.Tables.{namedColumns}
 use Rattle.gates.specs.declared.Sum.{Sum}
 use Rattle.gates.specs.declared.Sum.the-variants.{Combinational, Sequential}
 
@@ -22,6 +22,6 @@ pub record Summed (kind number : ℕ) (sum : Sum) : Type 0 where
   pub ofKind : sumKind sum ≡ kind
   pub comesTo : sumNumber sum ≡ number
 
--- "the sum of those plans plus the depth"
-unfoldable pub rowSum : ℕ → List ℕ → ℕ → List ℕ → ℕ → ℕ → ℕ
-rowSum kind lines pins numbers depth columns = depth ⊕ sums numbers (rowPlaces kind lines pins columns)
+-- "the sum of those plans plus the depth", over the costs of the columns
+unfoldable pub rowSum : List ℕ → ℕ → ℕ → ℕ
+rowSum costs depth columns = depth ⊕ sums costs (namedColumns columns)

@@ -52,6 +52,21 @@ rowWays kind lines pins library (suc count) at =
 unfoldable pub groupWays : ℕ → List ℕ → ℕ → List ℕ → ℕ → List Way
 groupWays kind lines pins library group = rowWays kind lines pins library (getD library group 0) (group + 1)
 
+-- ---- the same rows over the costs of the columns, which stand in a list of their own, each by its bit
+
+-- The columns that a row names, lowest first.
+unfoldable pub namedColumns : ℕ → List ℕ
+namedColumns columns = columnPlaces (λ j. j) 32 0 columns
+
+unfoldable pub columnWays : List ℕ → ℕ → ℕ → List Way
+columnWays library zero at = []
+columnWays library (suc count) at =
+    record { depth = getD library at 0; needs = namedColumns (getD library (at + 1) 0) }
+    ∷ columnWays library count (at + Size.rowWords)
+
+unfoldable pub groupColumns : List ℕ → ℕ → List Way
+groupColumns library group = columnWays library (getD library group 0) (group + 1)
+
 -- A group whose number stands at a place.
 unfoldable pub groupVisit : ℕ → List ℕ → ℕ → List ℕ → ℕ → ℕ → Visit
 groupVisit kind lines pins library group place = record { node = place; ways = groupWays kind lines pins library group }
@@ -73,6 +88,10 @@ gateLines netlist g = take Size.gateLines (drop (gatePlace g + 1) netlist)
 -- One thing where lines are set, another where they are observed.
 unfoldable pub byRole : {A : Type 0} → ℕ → A → A → A
 byRole role setting observing = pick (eqb role 0) setting observing
+
+-- How many columns a row has: those of the pins, in CO and SO rows those of the output too.
+abbrev pub roleColumns : ℕ → ℕ → ℕ
+roleColumns role pins = byRole role (2 * pins) (2 * pins + 3)
 
 abbrev pub visitCount : ℕ → ℕ → ℕ
 visitCount role pins = byRole role Size.values pins

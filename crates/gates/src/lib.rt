@@ -1,12 +1,13 @@
-// A gate of an accepted netlist, out of the tables: its lines, where its cell's groups stand, what a
-// column of a row asks for, and the row sums.
+// A gate of an accepted netlist, out of the tables: its lines, where its cell's groups stand, what its
+// columns cost, and the row sums.
 //
 // For the crates above, each with what it asks of the tables (specs/Fits.antt), since the loop of the
 // sweeps tests no bounds: `least_sum`, `lesser_of` and `number_of` with the type `Sum`, `cell_place`,
-// `lines_of`, and module `visits`.
+// `lines_of`, and modules `gather` and `visits`.
 //
 // Modules `spatial` and `temporal` add up rows, each in costs of its own kind. All that does not add
 // goes by the kind's number, 0 combinational and 1 sequential.
+pub mod gather;
 pub mod places;
 mod spatial;
 mod temporal;
@@ -24,9 +25,9 @@ ghost use Rattle.sizes.specs.Sizes as Size;
 ghost use Rattle.sizes.specs.Places.{cellPlace, gatePlace};
 ghost use Rattle.cost.specs.Cost.{never, lesser};
 ghost use Rattle.plans.specs.Sweep.{least};
-ghost use Rattle.gates.specs.Tables.{groupWays, gateCell, gateLines};
+ghost use Rattle.gates.specs.Tables.{groupColumns, gateCell, gateLines};
 ghost use Rattle.gates.specs.Sums.{sumNumber, sumKind, Summed, rowSum};
-ghost use Rattle.gates.specs.Fits.{RowFits, SumFits};
+ghost use Rattle.gates.specs.Fits.{ColumnsFit, SumFits};
 
 // A row sum, or the least of some, in the costs of its kind.
 pub enum Sum {
@@ -68,51 +69,35 @@ pub fn number_of(sum: Sum) -> u32
 
 // The lesser of a row's sum, its columns and its depth, and of the best so far, in whose kind it is
 // taken.
-fn lesser_row(
-    lines: &[u32; sizes::GATE_LINES],
-    pins: usize,
-    numbers: &[u32; sizes::NUMBERS],
-    depth: u32,
-    columns: u32,
-    best: Sum,
-) -> Sum
-    requires { ⌜ RowFits (now lines) pins (now numbers) ⌝ }
+fn lesser_row(costs: &[u32; sizes::COLUMNS], depth: u32, columns: u32, best: Sum) -> Sum
+    requires { ⌜ ColumnsFit columns (now costs) ⌝ }
     ensures { λ r.
-        ⌜ Summed (sumKind best) (lesser (rowSum (sumKind best) (now (lines .entry)) pins
-        (now (numbers .entry)) depth columns) (sumNumber best)) r ⌝ }
+        ⌜ Summed (sumKind best) (lesser (rowSum (now (costs .entry)) depth columns) (sumNumber best)) r ⌝ }
 {
     match best {
         Sum::Combinational(b) => {
-            let sum = spatial::row_sum(lines, pins, numbers, columns);
+            let sum = spatial::columns_sum(costs, columns);
             Sum::Combinational(Spatial(depth).plus(sum).lesser(b))
         }
         Sum::Sequential(b) => {
-            let sum = temporal::row_sum(lines, pins, numbers, columns);
+            let sum = temporal::columns_sum(costs, columns);
             Sum::Sequential(Temporal(depth).plus(sum).lesser(b))
         }
     }
 }
 
-// "the least row sum of its group"
-pub fn least_sum(
-    kind: usize,
-    library: &[u32],
-    group: usize,
-    lines: &[u32; sizes::GATE_LINES],
-    pins: usize,
-    numbers: &[u32; sizes::NUMBERS],
-) -> Sum
-    requires { ⌜ SumFits kind (now library) group (now lines) pins (now numbers) ⌝ }
+// "the least row sum of its group", over the costs of the columns.
+pub fn least_sum(kind: usize, library: &[u32], group: usize, costs: &[u32; sizes::COLUMNS]) -> Sum
+    requires { ⌜ SumFits kind (now library) group (now costs) ⌝ }
     ensures { λ r.
-        ⌜ sumNumber r ≡ least (now (numbers .entry))
-        (groupWays kind (now (lines .entry)) pins (now (library .entry)) group) ⌝ }
+        ⌜ sumNumber r ≡ least (now (costs .entry)) (groupColumns (now (library .entry)) group) ⌝ }
 {
     let mut best = no_sum(kind);
     let mut row = wide(library[group]);
     while 0 < row {
         row -= 1;
         let at = group + 1 + sizes::ROW_WORDS * row;
-        best = lesser_row(lines, pins, numbers, library[at], library[at + 1], best);
+        best = lesser_row(costs, library[at], library[at + 1], best);
     }
     best
 }

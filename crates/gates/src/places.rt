@@ -1,10 +1,8 @@
-// What a column of a row asks for at a gate, as a place of the numbers table.
+// Places of the numbers table, by kind, line and value.
 ghost use mathlib.Core.Path.{_≡_};
 ghost use Prim.Native.Nat.{_≤_, _<_};
 ghost use lib.Count.{trailingZeros};
 ghost use Rattle.sizes.specs.Places.{settingPlace, observingPlace};
-ghost use Rattle.gates.specs.Tables.{columnPlace};
-ghost use Rattle.gates.specs.Fits.{LinesFit};
 
 // The kinds of cost.
 pub const COMBINATIONAL: usize = 0;
@@ -40,23 +38,4 @@ pub fn observing_place(kind: usize, line: u32) -> usize
     ensures { λ r. ⌜ r ≡ observingPlace kind line ⌝ }
 {
     (wide(line) - 1) * sizes::COSTS + sizes::OBSERVED_AT + kind
-}
-
-// The place of what a column asks for at a gate with so many pins, whose lines these are: its own,
-// then its pins'.
-pub fn column_place(
-    kind: usize,
-    lines: &[u32; sizes::GATE_LINES],
-    pins: usize,
-    column: u32,
-) -> usize
-    requires { ⌜ (kind ≤ 1) × LinesFit (now lines) pins ⌝ }
-    ensures { λ r. ⌜ r ≡ columnPlace kind (now (lines .entry)) pins column ⌝ }
-{
-    let back = wide(column) / 2;
-    if back <= pins {
-        setting_place(kind, lines[pins - back], 1 - wide(column) % 2)
-    } else {
-        observing_place(kind, lines[0])
-    }
 }

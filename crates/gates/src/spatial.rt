@@ -1,33 +1,42 @@
 // Row sums in combinational costs (CC, CO), which are added to no sequential one.
-use super::places::COMBINATIONAL;
-use super::places::column_place;
 use super::places::lowest;
+use super::places::wide;
 use cost::Spatial;
 ghost use mathlib.Core.Path.{_≡_};
+ghost use Prim.Native.Nat.{_<_};
 ghost use Rattle.plans.specs.Sweep.{sums};
-ghost use Rattle.gates.specs.Tables.{rowPlaces};
-ghost use Rattle.gates.specs.Fits.{RowFits};
+ghost use Rattle.gates.specs.Tables.{namedColumns};
+ghost use Rattle.gates.specs.Fits.{ColumnsFit};
 
 // "A row's sum is taken as its lowest named column plus the sum of the rest, the routine calling
 // itself." Where the rest is empty its sum is 0, without a call.
-pub fn row_sum(
-    lines: &[u32; sizes::GATE_LINES],
-    pins: usize,
-    numbers: &[u32; sizes::NUMBERS],
-    columns: u32,
-) -> Spatial
-    requires { ⌜ RowFits (now lines) pins (now numbers) ⌝ }
-    ensures { λ r.
-        ⌜ r .0 ≡ sums (now (numbers .entry)) (rowPlaces 0 (now (lines .entry)) pins columns) ⌝ }
+fn row_sum(costs: &[u32; sizes::COLUMNS], columns: u32) -> Spatial
+    requires { ⌜ (0 < columns) × ColumnsFit columns (now costs) ⌝ }
+    ensures { λ r. ⌜ r .0 ≡ sums (now (costs .entry)) (namedColumns columns) ⌝ }
 {
-    if columns == 0 {
-        return Spatial(0);
-    }
-    let place = column_place(COMBINATIONAL, lines, pins, lowest(columns));
-    let cost = Spatial(numbers[place]);
+    let column = wide(lowest(columns));
+    let cost = Spatial(costs[column]);
     let rest = columns & (columns - 1);
     if rest == 0 {
         return cost.plus(Spatial(0));
     }
-    cost.plus(row_sum(lines, pins, numbers, rest))
+    cost.plus(row_sum(costs, rest))
+}
+
+// The sum of the columns that a row names, if any. The first of them is taken here, so that a row that
+// names one column is summed without a call.
+pub fn columns_sum(costs: &[u32; sizes::COLUMNS], columns: u32) -> Spatial
+    requires { ⌜ ColumnsFit columns (now costs) ⌝ }
+    ensures { λ r. ⌜ r .0 ≡ sums (now (costs .entry)) (namedColumns columns) ⌝ }
+{
+    if columns == 0 {
+        return Spatial(0);
+    }
+    let column = wide(lowest(columns));
+    let cost = Spatial(costs[column]);
+    let others = columns & (columns - 1);
+    if others == 0 {
+        return cost.plus(Spatial(0));
+    }
+    cost.plus(row_sum(costs, others))
 }

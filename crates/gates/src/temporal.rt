@@ -1,33 +1,42 @@
 // Row sums in sequential costs (SC, SO), which are added to no combinational one.
-use super::places::SEQUENTIAL;
-use super::places::column_place;
 use super::places::lowest;
+use super::places::wide;
 use cost::Temporal;
 ghost use mathlib.Core.Path.{_≡_};
+ghost use Prim.Native.Nat.{_<_};
 ghost use Rattle.plans.specs.Sweep.{sums};
-ghost use Rattle.gates.specs.Tables.{rowPlaces};
-ghost use Rattle.gates.specs.Fits.{RowFits};
+ghost use Rattle.gates.specs.Tables.{namedColumns};
+ghost use Rattle.gates.specs.Fits.{ColumnsFit};
 
 // "A row's sum is taken as its lowest named column plus the sum of the rest, the routine calling
 // itself." Where the rest is empty its sum is 0, without a call.
-pub fn row_sum(
-    lines: &[u32; sizes::GATE_LINES],
-    pins: usize,
-    numbers: &[u32; sizes::NUMBERS],
-    columns: u32,
-) -> Temporal
-    requires { ⌜ RowFits (now lines) pins (now numbers) ⌝ }
-    ensures { λ r.
-        ⌜ r .0 ≡ sums (now (numbers .entry)) (rowPlaces 1 (now (lines .entry)) pins columns) ⌝ }
+fn row_sum(costs: &[u32; sizes::COLUMNS], columns: u32) -> Temporal
+    requires { ⌜ (0 < columns) × ColumnsFit columns (now costs) ⌝ }
+    ensures { λ r. ⌜ r .0 ≡ sums (now (costs .entry)) (namedColumns columns) ⌝ }
 {
-    if columns == 0 {
-        return Temporal(0);
-    }
-    let place = column_place(SEQUENTIAL, lines, pins, lowest(columns));
-    let cost = Temporal(numbers[place]);
+    let column = wide(lowest(columns));
+    let cost = Temporal(costs[column]);
     let rest = columns & (columns - 1);
     if rest == 0 {
         return cost.plus(Temporal(0));
     }
-    cost.plus(row_sum(lines, pins, numbers, rest))
+    cost.plus(row_sum(costs, rest))
+}
+
+// The sum of the columns that a row names, if any. The first of them is taken here, so that a row that
+// names one column is summed without a call.
+pub fn columns_sum(costs: &[u32; sizes::COLUMNS], columns: u32) -> Temporal
+    requires { ⌜ ColumnsFit columns (now costs) ⌝ }
+    ensures { λ r. ⌜ r .0 ≡ sums (now (costs .entry)) (namedColumns columns) ⌝ }
+{
+    if columns == 0 {
+        return Temporal(0);
+    }
+    let column = wide(lowest(columns));
+    let cost = Temporal(costs[column]);
+    let others = columns & (columns - 1);
+    if others == 0 {
+        return cost.plus(Temporal(0));
+    }
+    cost.plus(row_sum(costs, others))
 }

@@ -42,6 +42,11 @@ rowDigits = 7
 abbrev pub decimalDigits : ℕ
 decimalDigits = 5
 
+-- The most columns of a row: "bit 2(n−i)+2 means "pin at 0", bit 2(n−i)+1 "pin at 1"", "bits 2n+2 and 2n+1 mean "cell output at
+-- 0" and "at 1", and bit 2n+3 means "observe the output""
+abbrev pub columns : ℕ
+columns = 2 * pins + 3
+
 -- "six costs for each line": of each kind, combinational and sequential, those of setting it to 0 and to 1, then of each kind
 -- that of observing it
 abbrev pub kinds : ℕ

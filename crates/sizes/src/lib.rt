@@ -27,6 +27,9 @@ pub const ROW_DIGITS: usize = 7;
 
 pub const DECIMAL_DIGITS: usize = 5;
 
+// The most columns of a row: each pin at 1 and at 0, the output at 1 and at 0, "observe the output".
+pub const COLUMNS: usize = 2 * PINS + 3;
+
 // "The numbers table has six costs for each line": of each kind, combinational and sequential, those of
 // setting it to 0 and to 1, then of each kind that of observing it.
 pub const KINDS: usize = 2;

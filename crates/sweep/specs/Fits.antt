@@ -7,15 +7,23 @@ use lib.ListN.{length, getD}
 use Rattle.sizes.specs.Sizes as Size
 use Rattle.plans.specs.Sweep.{Lowering}
 use Rattle.awake.specs.Lines.{Chained, Driven}
-use Rattle.gates.specs.Fits.{SumFits, TablesFit}
+use Rattle.gates.specs.Fits.{Gathered, GroupFits, SumFits, TablesFit}
 use Rattle.sweep.specs.Order.{ruleOf, sweepVisits}
 use Rattle.sweep.specs.Runs.{Runs}
 use Rattle.sweep.specs.Waking.{Linked, Resting}
 
--- One visit: a group at a gate's lines, and the place of its number.
-pub record VisitFits (kind : ℕ) (library : List ℕ) (group : ℕ) (lines : List ℕ) (pins : ℕ) (numbers : List ℕ) (place : ℕ) : Type 0 where
-  pub sumFits : SumFits kind library group lines pins numbers
+-- One visit: a group, the costs of its columns, and the place of its number.
+pub record VisitFits (kind : ℕ) (library : List ℕ) (group : ℕ) (costs numbers : List ℕ) (place : ℕ) : Type 0 where
+  pub sumFits : SumFits kind library group costs
+  pub size : length numbers ≡ Size.numbers
   pub placeFits : place < Size.numbers
+
+-- Costs are those of the columns which the rows of a group name, at a gate with these lines.
+pub record CostsOf (kind : ℕ) (library : List ℕ) (group : ℕ) (lines : List ℕ) (pins : ℕ) (numbers costs : List ℕ) : Type 0 where
+  pub count : ℕ
+  pub few : count ≤ Size.columns
+  pub gathered : Gathered count kind lines pins numbers costs
+  pub groupFits : GroupFits library group count
 
 -- The gates that need a line's number may be woken.
 pub record WakeFits (role line gates : ℕ) (first next driver awake : List ℕ) : Type 0 where

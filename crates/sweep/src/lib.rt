@@ -24,6 +24,7 @@ use calculation::Counts;
 use cost::NEVER;
 use gates::Sum;
 use gates::cell_place;
+use gates::gather::column_costs;
 use gates::least_sum;
 use gates::lesser_of;
 use gates::lines_of;
@@ -51,7 +52,7 @@ ghost use Rattle.calculation.specs.Calculation.{analysed};
 ghost use Rattle.gates.specs.Sums.{sumNumber};
 ghost use Rattle.gates.specs.Tables.{byRole, groupVisit};
 ghost use Rattle.awake.specs.Lines.{Chained, Driven};
-ghost use Rattle.sweep.specs.Fits.{VisitFits, WakeFits, GateVisitsFit, SweepFits, RunFits, FreshFits};
+ghost use Rattle.sweep.specs.Fits.{VisitFits, CostsOf, WakeFits, GateVisitsFit, SweepFits, RunFits, FreshFits};
 ghost use Rattle.sweep.specs.Order.{ruleOf, gateVisits, gateOfTurn, sweepVisits};
 ghost use Rattle.sweep.specs.Ready.{Holds, Ready, Calculated, whole};
 ghost use Rattle.sweep.specs.Runs.{Stored, Renewed, Swept};
@@ -88,24 +89,25 @@ fn renewal(role: usize, number: u32, sum: Sum) -> Sum
     }
 }
 
-// Renews the number at a place by the row sums of a group; whether it changed.
+// Renews the number at a place by the row sums of a group, over the costs of its columns; whether it
+// changed.
 fn visit(
     role: usize,
     kind: usize,
     library: &[u32],
     group: usize,
-    lines: &[u32; sizes::GATE_LINES],
-    pins: usize,
+    costs: &[u32; sizes::COLUMNS],
     numbers: &mut [u32; sizes::NUMBERS],
     place: usize,
 ) -> bool
-    requires { ⌜ VisitFits kind (now library) group (now lines) pins (now numbers) place ⌝ }
+    requires { ⌜ VisitFits kind (now library) group (now costs) (now numbers) place ⌝ }
     ensures { λ r.
-        ⌜ Renewed (ruleOf role)
-        (groupVisit kind (now (lines .entry)) pins (now (library .entry)) group place)
-        (now (numbers .entry)) (now (numbers .exit)) r ⌝ }
+        ⌜ ((lines : List ℕ) (pins : ℕ) → CostsOf kind (now (library .entry)) group lines pins
+        (now (numbers .entry)) (now (costs .entry)) → Renewed (ruleOf role)
+        (groupVisit kind lines pins (now (library .entry)) group place)
+        (now (numbers .entry)) (now (numbers .exit)) r) ⌝ }
 {
-    let least = least_sum(kind, library, group, lines, pins, numbers);
+    let least = least_sum(kind, library, group, costs);
     let sum = renewal(role, numbers[place], least);
     store(numbers, place, number_of(sum))
 }
@@ -150,7 +152,9 @@ fn wake_needing(
     }
 }
 
-// A gate's visits, "the output's 0 before its 1" or "pins in order"; whether a number changed.
+// A gate's visits, "the output's 0 before its 1" or "pins in order"; whether a number changed. The costs
+// of its columns are gathered once, and again after a visit that changed a number: the output's 1 sees
+// its 0, and a pin may read the gate's own line.
 fn visit_gate(
     role: usize,
     kind: usize,
@@ -178,15 +182,18 @@ fn visit_gate(
     let pins = wide(library[cell + sizes::PINS_AT]);
     let lines = lines_of(netlist, gate);
     let count = visit_count(role, pins);
+    let mut costs = [0u32; sizes::COLUMNS];
+    let mut stale = true;
     let mut changed = false;
     let mut i = 0;
     while i < count {
+        column_costs(stale, role, kind, &lines, pins, numbers, &mut costs);
         let group = cell + sizes::GROUPS_AT + visit_group(role, kind, i) * sizes::GROUP_WORDS;
         let place = visit_place(role, kind, &lines, pins, i);
-        let renewed = visit(role, kind, library, group, &lines, pins, numbers, place);
+        stale = visit(role, kind, library, group, &costs, numbers, place);
         let line = visit_line(role, &lines, i);
-        wake_needing(role, renewed, line, gates, first, next, driver, awake);
-        changed = either(changed, renewed);
+        wake_needing(role, stale, line, gates, first, next, driver, awake);
+        changed = either(changed, stale);
         i += 1;
     }
     changed

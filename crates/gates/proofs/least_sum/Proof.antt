@@ -4,17 +4,18 @@ use Prim.Native.Nat.{_-_, _≤_}
 use native.Mathlib.Omega.{arith}
 use lib.ListN.{getD}
 use borrow.Author.Needs.{needs}
+use Rattle.sizes.specs.Sizes as Size
 use Rattle.gates.specs.Sums.{Summed}
 use Rattle.gates.proofs.Rows.{leastFrom, rows-none, rows-more, rows-all}
 use Rattle.gates.proofs.least_sum.Statement.{statement}
 use Rattle.gates.proofs.least_sum.Tie as tie
 
 abbrev Inv-loop : tie.InvT-loop
-Inv-loop kind library group lines pins numbers best₀ row₀ best row =
-    (row ≤ getD library group 0) × Summed kind (leastFrom kind lines pins library numbers group row) best
+Inv-loop kind library group costs best₀ row₀ best row =
+    (row ≤ getD library group 0) × Summed kind (leastFrom library costs group row) best
 
 abbrev μ-loop : tie.MeasureT-loop
-μ-loop kind library group lines pins numbers best₀ row₀ best row = row
+μ-loop kind library group costs best₀ row₀ best row = row
 
 abbrev began : tie.In-loop Inv-loop μ-loop → tie.Start Inv-loop μ-loop
 began c = c .before .before .before .before .before .before
@@ -26,7 +27,7 @@ loop-holds c =
       omega arith,
       record {
         ofKind = n .ofKind;
-        comesTo = n .comesTo ∙ rows-none (a .kind) (a .lines .now) (a .pins) (a .library .now) (a .numbers .now) (a .group) (c .wide .result) (c .wide .ensures);
+        comesTo = n .comesTo ∙ rows-none (a .library .now) (a .costs .now) (a .group) (c .wide .result) (c .wide .ensures);
       },
     )
 
@@ -42,7 +43,7 @@ loop-again c =
         ofKind = n .ofKind;
         comesTo =
             n .comesTo
-            ∙ rows-more (a .kind) (a .lines .now) (a .pins) (a .library .now) (a .numbers .now) (a .group) (l .row) (omega arith) (omega arith) (s .pre .groupFits);
+            ∙ rows-more (a .library .now) (a .costs .now) (a .group) (l .row) Size.columns (omega arith) (omega arith) (s .pre .groupFits);
       },
     )
 
@@ -50,7 +51,12 @@ returns : tie.Need-returns Inv-loop μ-loop
 returns c =
     let a = c .before .before .before .before .before .before .args in
     let l = c .before .loop in
-    l .inv .1 .comesTo ∙ rows-all (a .kind) (a .lines .now) (a .pins) (a .library .now) (a .numbers .now) (a .group) (l .row) (omega arith)
+    l .inv .1 .comesTo ∙ rows-all (a .library .now) (a .costs .now) (a .group) (l .row) (omega arith)
+
+lesser-row-requires : tie.Need-lesser-row-requires Inv-loop μ-loop
+lesser-row-requires c κs =
+    let s = began (c .before .before) in
+    record { size = s .pre .size; few = s .pre .groupFits .columns _ (omega arith) }
 
 pub least-sum-spec : {M : Type 1} → statement M
 least-sum-spec =
@@ -72,7 +78,7 @@ least-sum-spec =
     (λ c. omega arith)
     (λ c. omega arith)
     (λ c. omega arith)
-    (λ c κs. search needs)
+    lesser-row-requires
     (λ c. omega arith)
     loop-again
     returns)

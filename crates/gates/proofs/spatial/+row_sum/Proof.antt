@@ -8,30 +8,30 @@ use borrow.Fn.Kinds.{In}
 use borrow.Fn.PlainCycle.{Measures, is, falls, and}
 use Rattle.cost.proofs.Spatial.plus.Reads as plus-reads
 use Rattle.gates.proofs.Columns.{rest-fewer}
-use Rattle.gates.proofs.Rows.{column-inside, no-sum, lowest-sum, last-sum}
+use Rattle.gates.proofs.Rows.{lowest-inside, rest-fits, lowest-sum, last-sum}
 use Rattle.gates.proofs.spatial.row_sum.Reads as row-sum
 use Rattle.gates.proofs.spatial.row_sum.Kinds as row-sum-kinds
 use Rattle.gates.proofs.spatial.+row_sum.Lts-row_sum as row-sum-lts
-use Rattle.gates.proofs.places.column_place.Reads as column-place-reads
 use Rattle.gates.proofs.places.lowest.Reads as lowest-reads
+use Rattle.gates.proofs.places.wide.Reads as wide-reads
 use Rattle.gates.proofs.spatial.+row_sum.{statement}
 use Rattle.gates.proofs.spatial.+row_sum.Tie.{close}
 
-abbrev μ-row-sum : Measures 2 row-sum-kinds.ps ℕ
-μ-row-sum κs a = ones (a .1 .1 .1 .0)
+abbrev μ-row-sum : Measures 1 row-sum-kinds.ps ℕ
+μ-row-sum κs a = ones (a .1 .0)
 
-abbrev row-sum-at : ℕ → In 2 row-sum-kinds.ps
-row-sum-at t = and 2 row-sum-kinds.ps (is 2 row-sum-kinds.ps μ-row-sum t) row-sum.Pre
+abbrev row-sum-at : ℕ → In 1 row-sum-kinds.ps
+row-sum-at t = and 1 row-sum-kinds.ps (is 1 row-sum-kinds.ps μ-row-sum t) row-sum.Pre
 
-abbrev row-sum-below : ℕ → In 2 row-sum-kinds.ps
-row-sum-below t = and 2 row-sum-kinds.ps (falls 2 row-sum-kinds.ps _<_ μ-row-sum t) row-sum.Pre
+abbrev row-sum-below : ℕ → In 1 row-sum-kinds.ps
+row-sum-below t = and 1 row-sum-kinds.ps (falls 1 row-sum-kinds.ps _<_ μ-row-sum t) row-sum.Pre
 
 pub +row-sum-spec : {M : Type 1} → statement M
 +row-sum-spec = close μ-row-sum λ t. row-sum-lts.spec (
   lowest-reads.Asked,
   lowest-reads.Learnt,
-  column-place-reads.Asked,
-  column-place-reads.Learnt,
+  wide-reads.Asked,
+  wide-reads.Learnt,
   plus-reads.Asked,
   plus-reads.Learnt,
   row-sum-below t,
@@ -39,26 +39,25 @@ pub +row-sum-spec : {M : Type 1} → statement M
 )
     (row-sum-at t)
     row-sum.Post
-    (λ c. let a = c .before .args in rw (c .if1 .taken) (no-sum 0 (a .lines .now) (a .pins) (a .numbers .now)))
-    (λ c κs. omega arith)
-    (λ c κs. (omega arith, c .before .before .pre .1 .linesFit))
+    (λ c κs. c .pre .1 .0)
+    (λ c κs. tt)
     (λ c.
-    let s = c .before .before .before in
-    omega (arith, c .column-place .ensures, column-inside 0 (s .args .lines .now) (s .args .pins) (c .before .lowest .result) (omega arith) (s .pre .1 .linesFit)))
+    let s = c .before .before in
+    omega (arith, c .wide .ensures, c .before .lowest .ensures, lowest-inside (s .args .columns) (s .args .costs .now) (s .pre .1 .1) (s .pre .1 .0)))
     (λ c.
-    let s = c .before .before .before in
-    omega (arith, c .column-place .ensures, column-inside 0 (s .args .lines .now) (s .args .pins) (c .before .lowest .result) (omega arith) (s .pre .1 .linesFit)))
+    let s = c .before .before in
+    omega (arith, c .wide .ensures, c .before .lowest .ensures, lowest-inside (s .args .columns) (s .args .costs .now) (s .pre .1 .1) (s .pre .1 .0)))
     (λ c. omega arith)
     (λ c κs. tt)
     (λ c.
-    let s = c .before .before .before .before .before .before in
-    let a = s .args in
-    c .plus .ensures ∙ cc (last-sum 0 (a .lines .now) (a .pins) (a .numbers .now) (a .columns) (omega arith) (s .pre .1) (omega arith) (omega arith) (c .before .if2 .taken)))
-    (λ c κs.
     let s = c .before .before .before .before .before in
-    (omega (arith, s .pre .0, rest-fewer 32 (s .args .columns) (omega arith) (omega arith)), s .pre .1))
+    c .plus .ensures ∙ cc (last-sum (s .args .columns) (s .args .costs .now) (s .pre .1 .1) (s .pre .1 .0) (c .before .if1 .taken)))
+    (λ c κs.
+    let s = c .before .before .before .before in (
+      omega (arith, s .pre .0, rest-fewer 32 (s .args .columns) (omega arith) (omega arith)),
+      (omega (arith, c .if1 .left), rest-fits (s .args .columns) (s .args .costs .now) (s .pre .1 .1) (s .pre .1 .0)),
+    ))
     (λ c κs. tt)
     (λ c.
-    let s = c .before .before .before .before .before .before .before in
-    let a = s .args in
-    c .plus2 .ensures ∙ cc (lowest-sum 0 (a .lines .now) (a .pins) (a .numbers .now) (a .columns) (omega arith) (s .pre .1) (omega arith) (omega arith)))
+    let s = c .before .before .before .before .before .before in
+    c .plus2 .ensures ∙ cc (lowest-sum (s .args .columns) (s .args .costs .now) (s .pre .1 .1) (s .pre .1 .0)))

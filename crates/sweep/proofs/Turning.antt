@@ -1,0 +1,66 @@
+-- A gate's visits, turn by turn: what one asks of the costs of its columns, and what it leaves of them to the next.
+-- Assumes nothing.
+use mathlib.Core.Bool.{Bool, true, false}
+use mathlib.Core.List.{List}
+use mathlib.Core.Path.{_≡_, sym, _∙_}
+use Prim.Native.Nat.{ℕ, _+_, _*_, _≤_, _<_}
+use native.Mathlib.Decide.{ℕ-discrete}
+use native.Mathlib.Omega.{arith}
+use lib.ListN.{length}
+use Rattle.sizes.specs.Sizes as Size
+use Rattle.plans.specs.System.{Visit}
+use Rattle.calculation.proofs.Sweeping.{unaltered}
+use Rattle.gates.specs.Tables.{roleColumns}
+use Rattle.gates.specs.Fits.{LinesFit, Gathered, GatherFits, GroupFits}
+use Rattle.gates.proofs.Gathering.{group-wider}
+use Rattle.gates.proofs.Roles.{role-set, role-observed}
+use Rattle.sweep.specs.Fits.{VisitFits, CostsOf}
+use Rattle.sweep.specs.Order.{ruleOf}
+use Rattle.sweep.specs.Runs.{Renewed}
+use Rattle.sweep.proofs.Visits.{rule-stores}
+
+columns-few : (role : ℕ) {lines : List ℕ} {pins : ℕ} → LinesFit lines pins → roleColumns role pins ≤ Size.columns
+columns-few role {lines} {pins} f = go (ℕ-discrete role 0)
+  where
+    go : Dec (role ≡ 0) → roleColumns role pins ≤ Size.columns
+    go (yes e) = rw (role-set role (2 * pins) (2 * pins + 3) e) (omega (arith, f .count))
+    go (no e) = rw (role-observed role (2 * pins) (2 * pins + 3) e) (omega (arith, f .count))
+
+-- The rows of a group that stands there.
+pub rows-same : (role : ℕ) {library : List ℕ} {group place pins count : ℕ} → group ≡ place → pins ≡ count
+    → GroupFits library place (roleColumns role count) → GroupFits library group (roleColumns role pins)
+rows-same role e n f = rw (e, n) f
+
+module _ (role : ℕ) {kind : ℕ} {lines : List ℕ} {pins : ℕ} (kinds : kind ≤ 1) (fit : LinesFit lines pins) where
+  -- Before the first turn nothing is gathered.
+  pub gather-first : {xs costs : List ℕ} → length xs ≡ Size.numbers → length costs ≡ Size.columns → GatherFits true role kind lines pins xs costs
+  gather-first n e =
+      record {
+        kindFits = kinds;
+        rowFits = record { linesFit = fit; size = n };
+        size = e;
+        fresh = λ t. let z : _≡_ {A = ℕ} 0 1 = cc in absurd (omega arith);
+      }
+
+  -- At a turn the costs are those of the present numbers `ys`.
+  module _ {library : List ℕ} {group : ℕ} (rows : GroupFits library group (roleColumns role pins)) {ys costs : List ℕ} (n : length ys ≡ Size.numbers) (g : Gathered (roleColumns role pins) kind lines pins ys costs) where
+    pub visit-fits : {place : ℕ} → place < Size.numbers → VisitFits kind library group costs ys place
+    visit-fits inside =
+        record {
+          sumFits = record { kindFits = kinds; groupFits = group-wider (columns-few role fit) rows; size = g .size };
+          size = n;
+          placeFits = inside;
+        }
+
+    pub costs-of : CostsOf kind library group lines pins ys costs
+    costs-of = record { count = roleColumns role pins; few = columns-few role fit; gathered = g; groupFits = rows }
+
+    -- A visit that changes nothing leaves the costs as they are.
+    pub gather-next : {v : Visit} {zs : List ℕ} {b : Bool} → Renewed (ruleOf role) v ys zs b → length zs ≡ Size.numbers → GatherFits b role kind lines pins zs costs
+    gather-next {v} {zs} {b} r m =
+        record {
+          kindFits = kinds;
+          rowFits = record { linesFit = fit; size = m };
+          size = g .size;
+          fresh = λ e. let same : zs ≡ ys = r .numbers ∙ unaltered (ruleOf role) (rule-stores role) v ys (sym (r .flag) ∙ e) in rw same g;
+        }
