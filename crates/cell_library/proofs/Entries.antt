@@ -1,6 +1,6 @@
 -- What each line of an entry leaves: the reading behind it and the table that holds it, or its refusal number.
 -- Assumes nothing.
-use mathlib.Core.Bool.{Bool, true, false}
+use mathlib.Core.Bool.{true, false}
 use mathlib.Core.List.{List, [], _∷_, _++_}
 use mathlib.Core.Option.{none, some}
 use mathlib.Core.Path.{_≡_, refl, sym, ap, _∙_}
@@ -17,7 +17,7 @@ use Rattle.reading.proofs.Laws.{by-test, and-right}
 use Rattle.text.specs.Lines.{sameBytes}
 use Rattle.text.proofs.Laws.{nameForm-length}
 use Rattle.cell_library.specs.Cells.{Group, Cell}
-use Rattle.cell_library.specs.Library.{Fields, holds, rowsAfter, nameLine, word, rowsForm, anyOf, aboveRows, groupsOf, Word, CC, CO, SC, SO, wordBytes, groupCount, wordLine, endLine, lineAfter, Place, outside, inside, Reading, begun, wordGroups, withGroups, rowLine, libraryLine}
+use Rattle.cell_library.specs.Library.{Fields, holds, rowsAfter, nameLine, word, rowsForm, anyOf, aboveRows, groupsOf, Word, CC, CO, SC, SO, wordBytes, wordLine, endLine, lineAfter, Place, outside, inside, Reading, begun, wordGroups, withGroups, rowLine, libraryLine}
 use Rattle.cell_library.specs.Layout.{libraryWords, LibraryHolds}
 use Rattle.cell_library.specs.Passes.{headerPut, askedOf, nonePassed, stored, wordAt, rowNumber, headerNumber, endFormed}
 use Rattle.cell_library.specs.Sound.{SoundGroup, wordNumber, endNumber, wantedNumber, SoundEntry, SoundPlace, SoundReading}

@@ -3,7 +3,7 @@
 use mathlib.Core.Bool.{Bool, true, false, not, _&&_, _||_}
 use mathlib.Core.List.{List, [], _∷_, _++_}
 use mathlib.Core.Option.{Option, none, some}
-use mathlib.Core.Path.{_≡_, refl, sym, ap, _∙_}
+use mathlib.Core.Path.{_≡_, refl}
 use Prim.Native.Nat.{ℕ, suc, _+_, _*_, _^_, _≤_, _<_}
 use native.Mathlib.Nat.{mod-lt}
 use native.Mathlib.Omega.{arith}
@@ -17,7 +17,7 @@ use Rattle.reading.specs.Numbers as No
 use Rattle.reading.specs.Refusal.{refused, read, weigh, form}
 use Rattle.reading.proofs.Laws.{and-left, and-right, or-left, or-right, each-append, each-map, refused-read, bind-read, then-read, form-read, weigh-one}
 use Rattle.text.specs.Lines.{sameBytes, lines}
-use Rattle.text.specs.Numeral.{value, nameForm}
+use Rattle.text.specs.Numeral.{value}
 use Rattle.text.proofs.Laws.{nameForm-length}
 use Rattle.cell_library.specs.Cells.{Row, rowOf, Group, Cell, bit}
 use Rattle.cell_library.specs.Entry.{libraryEntry}

@@ -1,16 +1,16 @@
--- The passes over a line tied to the definitions of the library text.
+-- The walk over a row line, and the other lines, tied to the definitions of the library text.
 -- Assumes nothing.
 use mathlib.Core.Bool.{Bool, true, false, not, _&&_, _||_, or-false, or-true, or-assoc}
 use mathlib.Core.List.{List, [], _∷_, _++_, append-assoc}
 use mathlib.Core.Option.{Option, none, some}
 use mathlib.Core.Path.{_≡_, refl, sym, ap, _∙_}
-use Prim.Native.Nat.{ℕ, zero, suc, _+_, _*_, _/_, _%_, _^_, _≤_, _<_}
+use Prim.Native.Nat.{ℕ, zero, suc, _+_, _*_, _/_, _%_, _^_, _≤_, _<_, max, min}
 use native.Mathlib.Nat.{pow-zero, pow-suc, pow-le-pow-right, div-lt-iff-lt-mul}
 use native.Mathlib.Numerals.{add-one}
 use native.Mathlib.Omega.{arith}
 use lib.Dec.{leb, ltb, eqb}
 use lib.ListN.{length, getD, drop, length-append}
-use borrow.Author.Tests.{eq-eqb, ne-eqb, lt-ltb, le-ltb, ltb-true, ltb-false, leb-false, eqb-true}
+use borrow.Author.Tests.{ne-eqb, lt-ltb, le-ltb, le-leb, lt-leb, ltb-true, ltb-false, leb-true, leb-false, eqb-true}
 use Rattle.sizes.specs.Sizes as Size
 use Rattle.reading.specs.Numbers as No
 use Rattle.text.specs.Bytes.{bytes}
@@ -19,13 +19,13 @@ use Rattle.text.specs.Lines.{sameBytes, part, fieldsFrom, nextAfter}
 use Rattle.text.specs.Numeral.{numeral, decimal, nameForm, value, wellFormed, numeralRead}
 use Rattle.text.specs.declared.Numeral.{Numeral}
 use Rattle.text.specs.declared.Numeral.the-variants.{Value, Bad}
-use Rattle.reading.specs.Refusal.{Read, refused, read, _>>=_, _>>_, weigh, form}
+use Rattle.reading.specs.Refusal.{refused, read, _>>=_, _>>_, weigh, form}
 use Rattle.reading.proofs.Laws.{by-test, clash, and-left, and-right, or-left, or-right}
 use Rattle.text.proofs.Laws.{numeral-good, numeral-bad, fieldsFrom-step, fieldsFrom-end}
 use Rattle.cell_library.specs.Cells.{Row, rowOf, Group, Cell, bit}
 use Rattle.cell_library.specs.Library.{Fields, holds, isRow, isJoin, Before, word, row, join, mayJoin, mayEnd, rowsForm, joinFirst, withRow, groupsOf, anyOf, aboveRows, above, namesNone, observesNot, Word, CC, CO, SC, SO, wordBytes, groupCount, columnCount, idle, rowsAfter, rowLine, Header, headerOf, nameAfter, endAfter, cellNamed, nameUsed, pinsBad, nameLine}
 use Rattle.cell_library.specs.Layout.{LibraryHolds}
-use Rattle.cell_library.specs.Passes.{orZero, rowValue, leastColumns, askedOf, nonePassed, marked, opened, groupFor, rowAdded, fieldPassed, passed, fieldStored, stored, numberOf, Small, RowsRead, wordAt, setting, rowNumber, pinsIn, headerNumber, endFormed}
+use Rattle.cell_library.specs.Passes.{orZero, rowValue, leastColumns, askedOf, noColumns, nonePassed, marked, opened, groupFor, rowAdded, fieldPassed, passed, fieldStored, stored, numberOf, Small, RowsRead, wordAt, setting, rowNumber, pinsIn, headerNumber, endFormed}
 use Rattle.cell_library.specs.declared.rows.Asked.{Asked}
 use Rattle.cell_library.specs.declared.rows.Passed.{Passed}
 use Rattle.cell_library.proofs.Names.{holds-count, holds-find}
@@ -153,37 +153,117 @@ unfolding anyOf
 any-append p [] ys = refl
 any-append p (x ∷ xs) ys = ap (λ (t : Bool). p x || t) (any-append p xs ys) ∙ sym (or-assoc (p x) (anyOf p xs) (anyOf p ys))
 
-any-last : {A : Type 0} (p : A → Bool) (xs : List A) (x : A) → anyOf p (xs ++ (x ∷ [])) ≡ (anyOf p xs || p x)
-unfolding anyOf
-any-last p xs x = any-append p xs (x ∷ []) ∙ ap (λ (t : Bool). anyOf p xs || t) (or-false (p x))
+-- A number made of the elements from the left.
+over : {A : Type 0} → (ℕ → A → ℕ) → ℕ → List A → ℕ
+over f n [] = n
+over f n (x ∷ xs) = over f (f n x) xs
 
--- A row more in the last group.
-any-row : (p : Row → Bool) (done : List Group) (part : Group) (r : Row)
-    → anyOf (anyOf p) (done ++ ((part ++ (r ∷ [])) ∷ [])) ≡ (anyOf (anyOf p) (done ++ (part ∷ [])) || p r)
-any-row p done part r =
-    any-last (anyOf p) done (part ++ (r ∷ []))
-    ∙ ap (λ (t : Bool). anyOf (anyOf p) done || t) (any-last p part r)
-    ∙ sym (or-assoc (anyOf (anyOf p) done) (anyOf p part) (p r))
-    ∙ ap (λ (t : Bool). t || p r) (sym (any-last (anyOf p) done part))
+over-last : {A : Type 0} (f : ℕ → A → ℕ) (n : ℕ) (xs : List A) (x : A) → over f n (xs ++ (x ∷ [])) ≡ f (over f n xs) x
+unfolding over
+over-last f n [] x = refl
+over-last f n (y ∷ xs) x = over-last f (f n y) xs x
 
--- A group of one row behind the others.
-any-new : (p : Row → Bool) (gs : List Group) (r : Row) → anyOf (anyOf p) (gs ++ ((r ∷ []) ∷ [])) ≡ (anyOf (anyOf p) gs || p r)
-unfolding anyOf
-any-new p gs r = any-last (anyOf p) gs (r ∷ []) ∙ ap (λ (t : Bool). anyOf (anyOf p) gs || t) (or-false (p r))
+-- A test of the number, where it holds of a step just where it held before or holds of the element.
+over-test : {A : Type 0} (t : ℕ → Bool) (p : A → Bool) (f : ℕ → A → ℕ) → ((n : ℕ) (x : A) → t (f n x) ≡ (t n || p x))
+    → (n : ℕ) (xs : List A) → t (over f n xs) ≡ (t n || anyOf p xs)
+unfolding over anyOf
+over-test t p f step n [] = sym (or-false (t n))
+over-test t p f step n (x ∷ xs) =
+    over-test t p f step (f n x) xs ∙ ap (λ (b : Bool). b || anyOf p xs) (step n x) ∙ or-assoc (t n) (p x) (anyOf p xs)
 
-longer : (a : Bool) (n : ℕ) → ((a || ltb Size.rows n) || ltb Size.rows (n + 1)) ≡ (a || ltb Size.rows (n + 1))
-longer true n = refl
-longer false n =
-    by-test (ltb Size.rows n)
-    (λ e. rw (e, lt-ltb Size.rows (n + 1) (omega (arith, ltb-true Size.rows n e))))
-    (λ e. rw e)
+ltb-max : (k a b : ℕ) → ltb k (max a b) ≡ (ltb k a || ltb k b)
+ltb-max k a b =
+    by-test (ltb k a)
+    (λ t. rw t (lt-ltb k (max a b) (omega (arith, ltb-true k a t))))
+    (λ t. rw t
+    (by-test (ltb k b)
+    (λ u. rw u (lt-ltb k (max a b) (omega (arith, ltb-true k b u))))
+    (λ u. rw u (le-ltb k (max a b) (omega (arith, ltb-false k a t, ltb-false k b u))))))
 
-long-row : (done : List Group) (part : Group) (r : Row)
-    → anyOf aboveRows (done ++ ((part ++ (r ∷ [])) ∷ [])) ≡ (anyOf aboveRows (done ++ (part ∷ [])) || ltb Size.rows (length part + 1))
-unfolding aboveRows
-long-row done part r =
-    any-last aboveRows done (part ++ (r ∷ []))
-    ∙ rw (length-append part (r ∷ []), any-last aboveRows done part) (sym (longer (anyOf aboveRows done) (length part)))
+leb-max : (k a b : ℕ) → leb k (max a b) ≡ (leb k a || leb k b)
+leb-max k a b =
+    by-test (leb k a)
+    (λ t. rw t (le-leb k (max a b) (omega (arith, leb-true k a t))))
+    (λ t. rw t
+    (by-test (leb k b)
+    (λ u. rw u (le-leb k (max a b) (omega (arith, leb-true k b u))))
+    (λ u. rw u (lt-leb k (max a b) (omega (arith, leb-false k a t, leb-false k b u))))))
+
+min-ltb : (k a b : ℕ) → ltb (min a b) k ≡ (ltb a k || ltb b k)
+min-ltb k a b =
+    by-test (ltb a k)
+    (λ t. rw t (lt-ltb (min a b) k (omega (arith, ltb-true a k t))))
+    (λ t. rw t
+    (by-test (ltb b k)
+    (λ u. rw u (lt-ltb (min a b) k (omega (arith, ltb-true b k u))))
+    (λ u. rw u (le-ltb (min a b) k (omega (arith, ltb-false a k t, ltb-false b k u))))))
+
+-- The rows of the longest group, and the highest and the lowest columns of a row.
+longer : ℕ → Group → ℕ
+longer n g = max n (length g)
+
+higher : ℕ → Row → ℕ
+higher n r = max n (r .columns)
+
+deeper : ℕ → Row → ℕ
+deeper n r = min n (r .columns)
+
+pub longestOf : List Group → ℕ
+longestOf gs = over longer 0 gs
+
+pub mostOf : List Group → ℕ
+mostOf gs = over (over higher) 0 gs
+
+pub leastOf : List Group → ℕ
+leastOf gs = over (over deeper) noColumns gs
+
+longest-above : (gs : List Group) → ltb Size.rows (longestOf gs) ≡ anyOf aboveRows gs
+unfolding longestOf longer aboveRows
+longest-above gs = over-test (ltb Size.rows) aboveRows longer step 0 gs
+  where
+    step : (n : ℕ) (g : Group) → ltb Size.rows (longer n g) ≡ (ltb Size.rows n || aboveRows g)
+    step n g = ltb-max Size.rows n (length g)
+
+most-above : (k : ℕ) → 0 < k → (gs : List Group) → leb k (mostOf gs) ≡ anyOf (anyOf (λ r. leb k (r .columns))) gs
+unfolding mostOf higher
+most-above k h gs =
+    over-test (leb k) (anyOf (λ r. leb k (r .columns))) (over higher) (λ n g. over-test (leb k) (λ r. leb k (r .columns)) higher step n g) 0 gs
+    ∙ rw (lt-leb k 0 h)
+  where
+    step : (n : ℕ) (r : Row) → leb k (higher n r) ≡ (leb k n || leb k (r .columns))
+    step n r = leb-max k n (r .columns)
+
+least-below : (k : ℕ) → k ≤ noColumns → (gs : List Group) → ltb (leastOf gs) k ≡ anyOf (anyOf (λ r. ltb (r .columns) k)) gs
+unfolding leastOf deeper
+least-below k h gs =
+    over-test (λ n. ltb n k) (anyOf (λ r. ltb (r .columns) k)) (over deeper) (λ n g. over-test (λ n. ltb n k) (λ r. ltb (r .columns) k) deeper step n g) noColumns gs
+    ∙ rw (le-ltb noColumns k h)
+  where
+    step : (n : ℕ) (r : Row) → ltb (deeper n r) k ≡ (ltb n k || ltb (r .columns) k)
+    step n r = min-ltb k n (r .columns)
+
+-- A row more in the last group, and a group of one row behind the others.
+over-row : (f : ℕ → Row → ℕ) (n : ℕ) (done : List Group) (part : Group) (r : Row)
+    → over (over f) n (done ++ ((part ++ (r ∷ [])) ∷ [])) ≡ f (over (over f) n (done ++ (part ∷ []))) r
+over-row f n done part r =
+    over-last (over f) n done (part ++ (r ∷ []))
+    ∙ over-last f (over (over f) n done) part r
+    ∙ ap (λ (m : ℕ). f m r) (sym (over-last (over f) n done part))
+
+over-new : (f : ℕ → Row → ℕ) (n : ℕ) (gs : List Group) (r : Row) → over (over f) n (gs ++ ((r ∷ []) ∷ [])) ≡ f (over (over f) n gs) r
+unfolding over
+over-new f n gs r = over-last (over f) n gs (r ∷ [])
+
+longest-row : (done : List Group) (part : Group) (r : Row)
+    → longestOf (done ++ ((part ++ (r ∷ [])) ∷ [])) ≡ max (longestOf (done ++ (part ∷ []))) (length part + 1)
+unfolding longestOf longer
+longest-row done part r =
+    over-last longer 0 done (part ++ (r ∷ []))
+    ∙ rw (length-append part (r ∷ []), over-last longer 0 done part) (omega arith)
+
+longest-new : (gs : List Group) (r : Row) → longestOf (gs ++ ((r ∷ []) ∷ [])) ≡ max (longestOf gs) 1
+unfolding longestOf longer
+longest-new gs r = over-last longer 0 gs (r ∷ [])
 
 -- Two tests that agree on the rows of which a third does not hold.
 any-agree : (h p q : Row → Bool) → ((r : Row) → h r ≡ false → p r ≡ q r) → (g : Group) → anyOf h g ≡ false → anyOf p g ≡ anyOf q g
@@ -256,7 +336,7 @@ module _ (a : Asked) where
   form-passed (f ∷ fs) p = form-passed fs (fieldPassed a p f) ∙ step (isJoin f) (isRow f)
     where
       step : (j i : Bool)
-          → let q = pick j (marked p 2 (p .bad || not (eqb (p .before) 1))) (pick i (rowAdded a (groupFor a p) (rowValue f)) (marked p (p .before) true)) in
+          → let q = pick j (marked p 2 (p .bad || not (eqb (p .before) 1))) (pick i (rowAdded (groupFor a p) (rowValue f)) (marked p (p .before) true)) in
           (q .bad || not (rowsForm (beforeOf (q .before)) fs))
           ≡ (p .bad || not (pick j (mayJoin (beforeOf (p .before)) && rowsForm join fs) (i && rowsForm row fs)))
       step true i = rw (may-join (p .before)) (either-bad (p .bad) (eqb (p .before) 1) (rowsForm join fs))
@@ -266,12 +346,6 @@ module _ (a : Asked) where
 -- ---- the walk: groups
 
 module _ (a : Asked) where
-  abbrev tooHigh : Row → Bool
-  tooHigh r = leb (a .limit) (r .columns)
-
-  abbrev tooLow : Row → Bool
-  tooLow r = ltb (r .columns) (a .least)
-
   -- What is passed where `done` are whole, `part` is open, and an M was just passed or not.
   abbrev pub shown : List Group → Group → Bool → Passed
   shown done part j =
@@ -281,25 +355,27 @@ module _ (a : Asked) where
         rows = length part;
         place = a .place + length done * Size.groupWords;
         bad = false;
-        long = anyOf aboveRows (done ++ (part ∷ []));
-        high = anyOf (anyOf tooHigh) (done ++ (part ∷ []));
-        low = anyOf (anyOf tooLow) (done ++ (part ∷ []));
+        longest = longestOf (done ++ (part ∷ []));
+        most = mostOf (done ++ (part ∷ []));
+        least = leastOf (done ++ (part ∷ []));
       }
 
   module _ (x : ℕ) where
-    shown-first : rowAdded a (opened a nonePassed) x ≡ shown [] (rowOf x ∷ []) false
-    unfolding rowAdded opened rowOf pick anyOf aboveRows
-    shown-first = rw (or-false (leb (a .limit) (x / 2)), or-false (leb (a .limit) (x / 2)), or-false (ltb (x / 2) (a .least)), or-false (ltb (x / 2) (a .least)))
+    shown-first : rowAdded (opened a nonePassed) x ≡ shown [] (rowOf x ∷ []) false
+    unfolding rowAdded opened rowOf pick longestOf mostOf leastOf over longer higher deeper
+    shown-first = refl
 
-    shown-more : (done : List Group) (part : Group) → rowAdded a (shown done part true) x ≡ shown done (part ++ (rowOf x ∷ [])) false
-    unfolding rowAdded rowOf pick
+    shown-more : (done : List Group) (part : Group) → rowAdded (shown done part true) x ≡ shown done (part ++ (rowOf x ∷ [])) false
+    unfolding rowAdded rowOf pick mostOf leastOf higher deeper
     shown-more done part =
-        rw (length-append part (rowOf x ∷ []), long-row done part (rowOf x), any-row tooHigh done part (rowOf x), any-row tooLow done part (rowOf x))
+        rw
+        (length-append part (rowOf x ∷ []), longest-row done part (rowOf x), over-row higher 0 done part (rowOf x), over-row deeper noColumns done part (rowOf x))
 
-    shown-new : (done : List Group) (part : Group) → rowAdded a (opened a (shown done part false)) x ≡ shown (done ++ (part ∷ [])) (rowOf x ∷ []) false
-    unfolding rowAdded opened rowOf pick aboveRows
+    shown-new : (done : List Group) (part : Group) → rowAdded (opened a (shown done part false)) x ≡ shown (done ++ (part ∷ [])) (rowOf x ∷ []) false
+    unfolding rowAdded opened rowOf pick mostOf leastOf higher deeper
     shown-new done part =
-        rw (length-append done (part ∷ []), any-last aboveRows (done ++ (part ∷ [])) (rowOf x ∷ []), any-new tooHigh (done ++ (part ∷ [])) (rowOf x), any-new tooLow (done ++ (part ∷ [])) (rowOf x))
+        rw
+        (length-append done (part ∷ []), longest-new (done ++ (part ∷ [])) (rowOf x), over-new higher 0 (done ++ (part ∷ [])) (rowOf x), over-new deeper noColumns (done ++ (part ∷ [])) (rowOf x))
 
   -- What each field makes of it.
   module _ (f : List ℕ) (done : List Group) (part : Group) where
@@ -321,13 +397,16 @@ module _ (a : Asked) where
 
   -- The numbers behind 3, of what is passed, and of groups.
   abbrev lower : Passed → ℕ
-  lower p = pick (not (eqb (p .groups) (a .groups)) || p .long) No.groupsBad (pick (p .high) No.bitAbove (pick (p .low) No.rowIdle 0))
+  lower p =
+      pick (not (eqb (p .groups) (a .groups)) || ltb Size.rows (p .longest)) No.groupsBad
+      (pick (leb (a .limit) (p .most)) No.bitAbove
+      (pick (ltb (p .least) (a .least)) No.rowIdle 0))
 
   abbrev weights : List Group → ℕ
   weights gs =
-      pick (not (eqb (length gs) (a .groups)) || anyOf aboveRows gs) No.groupsBad
-      (pick (anyOf (anyOf tooHigh) gs) No.bitAbove
-      (pick (anyOf (anyOf tooLow) gs) No.rowIdle 0))
+      pick (not (eqb (length gs) (a .groups)) || ltb Size.rows (longestOf gs)) No.groupsBad
+      (pick (leb (a .limit) (mostOf gs)) No.bitAbove
+      (pick (ltb (leastOf gs) (a .least)) No.rowIdle 0))
 
   module _ (f : List ℕ) (fs : Fields) (rest : (done : List Group) (part : Group) (j : Bool) → rowsForm (lastOf j) fs ≡ true → lower (passed a (shown done part j) fs) ≡ weights (gather done part j fs))
       (done : List Group) (part : Group) where
@@ -358,7 +437,7 @@ module _ (a : Asked) where
       (lower-row f fs (λ d p i g. lower-gather fs d p i g) done part j h)
 
   lower-groups : (fs : Fields) → rowsForm word fs ≡ true → lower (passed a nonePassed fs) ≡ weights (groupsOf fs)
-  unfolding passed groupsOf anyOf lastOf
+  unfolding passed groupsOf lastOf longestOf mostOf leastOf over
   lower-groups [] h = refl
   lower-groups (f ∷ fs) h =
       let e : isJoin f ≡ false = word-first f fs h in
@@ -500,7 +579,7 @@ pub field-small : (a : Asked) (p : Passed) (f : List ℕ) (m k : ℕ) → Small 
 unfolding fieldPassed groupFor pick marked rowAdded opened
 field-small a p f m k s h = go (isJoin f) (isRow f) (eqb (p .before) 2)
   where
-    go : (j i t : Bool) → Small a (pick j (marked p 2 (p .bad || not (eqb (p .before) 1))) (pick i (rowAdded a (pick t p (opened a p)) (rowValue f)) (marked p (p .before) true))) k
+    go : (j i t : Bool) → Small a (pick j (marked p 2 (p .bad || not (eqb (p .before) 1))) (pick i (rowAdded (pick t p (opened a p)) (rowValue f)) (marked p (p .before) true))) k
     go true i t = record { groups = omega arith; rows = omega arith; place = omega arith }
     go false true true = record { groups = omega arith; rows = omega arith; place = omega arith }
     go false true false = record { groups = omega arith; rows = omega arith; place = omega arith }
@@ -544,13 +623,6 @@ columnCount-by CO n = refl
 columnCount-by SC n = refl
 columnCount-by SO n = refl
 
-pub idle-by : (w : Word) (n : ℕ) (r : Row) → idle w n r ≡ pick (setting w) (namesNone r) (observesNot n r)
-unfolding idle setting pick
-idle-by CC n r = refl
-idle-by CO n r = refl
-idle-by SC n r = refl
-idle-by SO n r = refl
-
 pub leastColumns-by : (w : Word) (n : ℕ) → leastColumns w n ≡ pick (setting w) 1 (2 ^ (2 * n + 2))
 unfolding leastColumns setting pick
 leastColumns-by CC n = refl
@@ -560,13 +632,24 @@ leastColumns-by SO n = refl
 
 -- ---- the number of a row line, from its walk
 
+power-some : (k : ℕ) → 0 < 2 ^ k
+power-some k =
+    let two : 0 < 2 = omega arith in
+    let none : 0 ≤ k = omega arith in
+    omega (arith, pow-le-pow-right two none, pow-zero 2)
+
+least-small : (w : Word) (n : ℕ) → n ≤ Size.pins → leastColumns w n ≤ noColumns
+unfolding leastColumns
+least-small CC n h = omega arith
+least-small CO n h = let two : 0 < 2 = omega arith in let most : 2 * n + 2 ≤ 18 = omega arith in omega (arith, pow-le-pow-right two most)
+least-small SC n h = omega arith
+least-small SO n h = let two : 0 < 2 = omega arith in let most : 2 * n + 2 ≤ 18 = omega arith in omega (arith, pow-le-pow-right two most)
+
 -- Of a row without a bit above its columns, the lowest columns tell whether it is idle.
 top-bit : (x k : ℕ) → x < 2 ^ (k + 1) → not (eqb (x / 2 ^ k % 2) 1) ≡ ltb x (2 ^ k)
 top-bit x k h =
     let m = 2 ^ k in
-    let two : 0 < 2 = omega arith in
-    let none : 0 ≤ k = omega arith in
-    let some-power : 0 < m = omega (arith, pow-le-pow-right two none, pow-zero 2) in
+    let some-power : 0 < m = power-some k in
     let below : x < 2 * m = omega (arith, rw (add-one k, pow-suc 2 k) at h) in
     by-test (ltb x m)
     (λ t.
@@ -612,16 +695,17 @@ pub asked-place : (cell : ℕ) (w : Word) (n : ℕ) → cell ≤ Size.cells → 
 unfolding askedOf
 asked-place cell w n h = omega (arith, first-most w)
 
-module _ (cell : ℕ) (w : Word) (n : ℕ) where
+module _ (cell : ℕ) (w : Word) (n : ℕ) (few : n ≤ Size.pins) where
   weights-asked : (gs : List Group) → weights (askedOf cell w n) gs
       ≡ pick (not (eqb (length gs) (groupCount w n)) || anyOf aboveRows gs) No.groupsBad
       (pick (anyOf (anyOf (above (columnCount w n))) gs) No.bitAbove
       (pick (anyOf (anyOf (idle w n)) gs) No.rowIdle 0))
   unfolding askedOf above pick
   weights-asked gs =
-      by-test (anyOf (anyOf (above (columnCount w n))) gs)
+      rw (longest-above gs, most-above (2 ^ columnCount w n) (power-some (columnCount w n)) gs, least-below (leastColumns w n) (least-small w n few) gs)
+      (by-test (anyOf (anyOf (above (columnCount w n))) gs)
       (λ t. rw t)
-      (λ t. rw (t, any-groups (above (columnCount w n)) (λ r. ltb (r .columns) (leastColumns w n)) (idle w n) (idle-low w n) gs t))
+      (λ t. rw (t, any-groups (above (columnCount w n)) (λ r. ltb (r .columns) (leastColumns w n)) (idle w n) (idle-low w n) gs t)))
 
   -- The number of a row line, from the walk over the fields behind its word.
   pub rowNumber-walk : (fs : Fields) → 0 < length fs

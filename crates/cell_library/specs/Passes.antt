@@ -5,7 +5,7 @@ use mathlib.Core.Bool.{Bool, true, false, not, _&&_, _||_}
 use mathlib.Core.List.{List, [], _∷_}
 use mathlib.Core.Option.{Option, none, some}
 use mathlib.Core.Path.{_≡_}
-use Prim.Native.Nat.{ℕ, zero, suc, _+_, _*_, _/_, _%_, _^_, _≤_}
+use Prim.Native.Nat.{ℕ, zero, suc, _+_, _*_, _/_, _%_, _^_, _≤_, max, min}
 use lib.Dec.{leb, ltb, eqb}
 use lib.ListN.{length, getD, set, drop}
 use lib.Seq.{sets}
@@ -16,7 +16,6 @@ use Rattle.text.specs.Bytes.{bytes}
 use Rattle.reading.specs.Choice.{pick}
 use Rattle.text.specs.Lines.{sameBytes}
 use Rattle.text.specs.Numeral.{numeral, decimal, nameForm}
-use Rattle.cell_library.specs.Cells.{Cell}
 use Rattle.cell_library.specs.Library.{Fields, holds, isRow, isJoin, above, Word, CC, CO, SC, SO, groupCount, columnCount, idle, rowsAfter, groupsOf, anyOf, aboveRows, pinsBad}
 use Rattle.cell_library.specs.Layout.{firstGroup, foundAt}
 use Rattle.cell_library.specs.declared.rows.Asked.{Asked}
@@ -67,10 +66,14 @@ farthest = Size.library + Size.cellWords + Size.groupWords * Size.textBytes
 
 -- ---- the walk
 
+-- The least columns where no row is passed: above those of every row.
+abbrev pub noColumns : ℕ
+noColumns = 4294967295
+
 -- Before the first field behind the line's word.
 abbrev pub nonePassed : Passed
 nonePassed =
-    record { before = 0; groups = 0; rows = 0; place = 0; bad = false; long = false; high = false; low = false }
+    record { before = 0; groups = 0; rows = 0; place = 0; bad = false; longest = 0; most = 0; least = noColumns }
 
 -- A field that is no row: what stands before the next one, and whether a field so far is out of place.
 unfoldable pub marked : Passed → ℕ → Bool → Passed
@@ -81,9 +84,9 @@ marked p before bad =
       rows = p .rows;
       place = p .place;
       bad = bad;
-      long = p .long;
-      high = p .high;
-      low = p .low;
+      longest = p .longest;
+      most = p .most;
+      least = p .least;
     }
 
 -- The group that a row goes into: the open one where an M, which is 2, stands before the row, else a new one.
@@ -95,33 +98,33 @@ opened a p =
       rows = 0;
       place = a .place + p .groups * Size.groupWords;
       bad = p .bad;
-      long = p .long;
-      high = p .high;
-      low = p .low;
+      longest = p .longest;
+      most = p .most;
+      least = p .least;
     }
 
 unfoldable pub groupFor : Asked → Passed → Passed
 groupFor a p = pick (eqb (p .before) 2) p (opened a p)
 
 -- A row more in the open group.
-unfoldable pub rowAdded : Asked → Passed → ℕ → Passed
-rowAdded a p x =
+unfoldable pub rowAdded : Passed → ℕ → Passed
+rowAdded p x =
     record {
       before = 1;
       groups = p .groups;
       rows = p .rows + 1;
       place = p .place;
       bad = p .bad;
-      long = p .long || ltb Size.rows (p .rows + 1);
-      high = p .high || leb (a .limit) (x / 2);
-      low = p .low || ltb (x / 2) (a .least);
+      longest = max (p .longest) (p .rows + 1);
+      most = max (p .most) (x / 2);
+      least = min (p .least) (x / 2);
     }
 
 -- An M is out of place unless a row, which is 1, stands before it; what is neither a row nor an M always is.
 unfoldable pub fieldPassed : Asked → Passed → List ℕ → Passed
 fieldPassed a p f =
     pick (isJoin f) (marked p 2 (p .bad || not (eqb (p .before) 1)))
-    (pick (isRow f) (rowAdded a (groupFor a p) (rowValue f)) (marked p (p .before) true))
+    (pick (isRow f) (rowAdded (groupFor a p) (rowValue f)) (marked p (p .before) true))
 
 unfoldable pub passed : Asked → Passed → Fields → Passed
 passed a p [] = p
@@ -141,9 +144,9 @@ stored a p (f ∷ fs) table = stored a (fieldPassed a p f) fs (fieldStored a p f
 unfoldable pub numberOf : Asked → Passed → ℕ
 numberOf a p =
     pick (p .bad || eqb (p .before) 2) No.libraryForm
-    (pick (not (eqb (p .groups) (a .groups)) || p .long) No.groupsBad
-    (pick (p .high) No.bitAbove
-    (pick (p .low) No.rowIdle 0)))
+    (pick (not (eqb (p .groups) (a .groups)) || ltb Size.rows (p .longest)) No.groupsBad
+    (pick (leb (a .limit) (p .most)) No.bitAbove
+    (pick (ltb (p .least) (a .least)) No.rowIdle 0)))
 
 -- Counts and places that are small behind so many bytes.
 pub record Small (a : Asked) (p : Passed) (m : ℕ) : Type 0 where

@@ -179,7 +179,8 @@ fn read_line(line: &[u8], table: &mut [u32], s: State) -> State
 
 // The lines of the text, into a table that holds no cell.
 pub fn read_lines(text: &[u8], table: &mut [u32]) -> Verdict
-    requires { ⌜ (length (now text) ≤ Size.textBytes) × (now table ≡ libraryWords [] ++ drop Size.library (now table)) ⌝ }
+    requires { ⌜ (length (now text) ≤ Size.textBytes)
+        × (now table ≡ libraryWords [] ++ drop Size.library (now table)) ⌝ }
     ensures answered { λ r. ⌜ verdictRead r ≡ doneRead (library (now (text .entry))) ⌝ }
     ensures filled { λ _. ⌜ ((cells : List Cell) → library (now (text .entry)) ≡ read cells
         → now (table .exit) ≡ libraryWords cells ++ drop Size.library (now (table .entry))) ⌝ }

@@ -1,13 +1,13 @@
 // Row lines: one walk over the fields behind a line's word, which stores the rows as it goes and weighs every number that may
 // refuse the line.
 ghost use mathlib.Core.Path.{_≡_};
-ghost use Prim.Native.Nat.{_+_, _^_, _≤_, _<_};
+ghost use Prim.Native.Nat.{_+_, _^_, _≤_, _<_, max, min};
 ghost use lib.ListN.{length};
 ghost use Rattle.sizes.specs.Sizes as Size;
 ghost use Rattle.text.specs.Lines.{fields, fieldsFrom, sameBytes};
 ghost use Rattle.cell_library.specs.Library.{isJoin, wordBytes};
 ghost use Rattle.cell_library.specs.Passes.{wordAt, setting, askedOf, nonePassed, marked, groupFor, rowAdded};
-ghost use Rattle.cell_library.specs.Passes.{rowPut, fieldPassed, fieldStored, passed, stored, numberOf, Small, RowsRead};
+ghost use Rattle.cell_library.specs.Passes.{fieldPassed, fieldStored, passed, stored, numberOf, Small, RowsRead};
 use crate::store::put_row;
 use crate::store::word_place;
 use text::Numeral;
@@ -24,6 +24,9 @@ const ROW: u32 = 1;
 
 const JOIN: u32 = 2;
 
+// The lowest columns where there is no row yet: above those of every row.
+const NO_COLUMNS: u32 = 4294967295;
+
 // What a row line is asked for: where its groups start in the table, how many they are, and what the columns of a row come to,
 // at least `least`, where the row is not idle, and below `limit`.
 struct Asked {
@@ -34,16 +37,16 @@ struct Asked {
 }
 
 // The fields passed so far: what stands before the next one; the groups, the rows of the last of them and its place in the
-// table; whether a field is out of place (3), a group too long (6), a row's columns too high (7) or too low (8).
+// table; whether a field is out of place; the rows of the longest group, and the highest and the lowest columns of a row.
 struct Passed {
     before: u32,
     groups: u32,
     rows: u32,
     place: usize,
     bad: bool,
-    long: bool,
-    high: bool,
-    low: bool,
+    longest: u32,
+    most: u32,
+    least: u32,
 }
 
 // Whether a field is the word that a place of an entry wants.
@@ -141,10 +144,22 @@ fn group_for(a: Asked, p: Passed) -> Passed
     q
 }
 
+fn greater(a: u32, b: u32) -> u32
+    ensures { λ r. ⌜ r ≡ max a b ⌝ }
+{
+    if a < b { b } else { a }
+}
+
+fn lesser(a: u32, b: u32) -> u32
+    ensures { λ r. ⌜ r ≡ min a b ⌝ }
+{
+    if b < a { b } else { a }
+}
+
 // One row more in the open group.
-fn row_added(a: Asked, p: Passed, x: u32) -> Passed
+fn row_added(p: Passed, x: u32) -> Passed
     requires { ⌜ p .rows ≤ Size.textBytes ⌝ }
-    ensures { λ r. ⌜ r ≡ rowAdded a p x ⌝ }
+    ensures { λ r. ⌜ r ≡ rowAdded p x ⌝ }
 {
     let columns = x / 2;
     Passed {
@@ -153,9 +168,9 @@ fn row_added(a: Asked, p: Passed, x: u32) -> Passed
         rows: p.rows + 1,
         place: p.place,
         bad: p.bad,
-        long: p.long | (MOST_ROWS < p.rows + 1),
-        high: p.high | (a.limit <= columns),
-        low: p.low | (columns < a.least),
+        longest: greater(p.longest, p.rows + 1),
+        most: greater(p.most, columns),
+        least: lesser(p.least, columns),
     }
 }
 
@@ -173,7 +188,7 @@ fn pass_field(table: &mut [u32], a: Asked, p: Passed, f: &[u8]) -> Passed
         Numeral::Value(x) => {
             let g = group_for(a, p);
             put_row(table, g.place, g.rows, x);
-            row_added(a, g, x)
+            row_added(g, x)
         }
         Numeral::Bad => marked(p, p.before, true),
     }
@@ -194,9 +209,9 @@ fn pass_fields(table: &mut [u32], line: &[u8], from: usize, a: Asked) -> Passed
         rows: 0,
         place: 0,
         bad: false,
-        long: false,
-        high: false,
-        low: false,
+        longest: 0,
+        most: 0,
+        least: NO_COLUMNS,
     };
     while at <= n {
         let f = field(line, at);
@@ -211,17 +226,19 @@ fn number_of(a: Asked, p: Passed) -> u32
     ensures { λ r. ⌜ r ≡ numberOf a p ⌝ }
 {
     let bad = p.bad | (p.before == JOIN);
+    let wrong = (p.groups != a.groups) | (MOST_ROWS < p.longest);
+    let high = a.limit <= p.most;
+    let low = p.least < a.least;
     if bad {
         return reading::LIBRARY_FORM;
     }
-    let wrong = (p.groups != a.groups) | p.long;
     if wrong {
         return reading::GROUPS_BAD;
     }
-    if p.high {
+    if high {
         return reading::BIT_ABOVE;
     }
-    if p.low {
+    if low {
         return reading::ROW_IDLE;
     }
     0

@@ -12,7 +12,7 @@ use Rattle.cost.specs.Cost.{never, capped, lesser}
 use Rattle.cost.proofs.Laws.{sum-left, sum-right}
 use Rattle.plans.specs.System.{Way, Visit}
 use Rattle.plans.specs.Sweep.{at, sums, way, least, Rule, lower, sweep, Lowering}
-use Rattle.plans.specs.Idle.{Idles, Unmoved, inTurn, Skipped, IdlesRest, AsleepSkipped, SkippedSweep, WokenOn, MadeWatched, AsleepSettles}
+use Rattle.plans.specs.Idle.{Idles, Unmoved, inTurn, Skipped, IdlesRest, AsleepSkipped, SkippedSweep, MadeWatched, AsleepSettles}
 use Rattle.plans.proofs.Table.{Under, under-refl, under-trans}
 use Rattle.plans.proofs.Falling.{lesser-left, lesser-right, lesser-bound, lesser-most, lower-under, lower-here, lower-past, lower-still, sweep-under}
 use Rattle.plans.proofs.Keeping.{sweep-append}
@@ -156,13 +156,6 @@ made-idle (u ∷ us) xs zs below h v (List·Memᴰ·tail m) =
     made-idle us xs (lower zs u) (under-trans (lower-under zs u) below) (λ w i. h w (List·Memᴰ·tail i)) v m
 
 -- ---- a turn's visits are made
-
-pub woken-on : {block : ℕ → List Visit} {count turn : ℕ} {before between after : ℕ → Type 0} {xs ys zs : List ℕ} → WokenOn block count turn before xs between ys after zs
-woken-on w slept unmoved =
-    record {
-      slept = λ h l a q. w .slept h l (slept h l a) q;
-      unmoved = λ h l a v m n d q. unmoved h l a v m n d q ∙ w .unmoved h l (slept h l a) v m n d q;
-    }
 
 pub made-watched : {rule : Rule} {block : ℕ → List Visit} {count turn : ℕ} {before after : ℕ → Type 0} {xs ys : List ℕ} → MadeWatched rule block count turn before xs after ys
 made-watched {rule} {block} {count} {turn} {before} {after} {xs} {ys} watched woken here low e = (record { idle = idle }, now)

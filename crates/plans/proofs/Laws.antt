@@ -34,7 +34,7 @@ pub use Rattle.plans.proofs.Table.{at-getD, at-set-same}
 pub use Rattle.plans.proofs.Falling.{never-above}
 pub use Rattle.plans.proofs.Keeping.{Stores, lower-stores, renew-stores, rule-other, sweep-append, sweep-length, sweep-other, settles-length}
 -- ---- visits that change nothing, as specs/Idle.antt states it
-pub use Rattle.plans.proofs.Idling.{idles-rest, asleep-skipped, skipped-sweep, woken-on, made-watched, asleep-settles}
+pub use Rattle.plans.proofs.Idling.{idles-rest, asleep-skipped, skipped-sweep, made-watched, asleep-settles}
 -- ---- runs one after the other, as specs/Stages.antt states them
 pub use Rattle.plans.proofs.Staging.{ranked-apart, stages-within, stages-once, stages-left, stages-exact, first-start}
 -- ---- what a reader may ask of exact numbers, and what requests K10, K11 and K14 rest on

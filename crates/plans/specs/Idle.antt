@@ -68,14 +68,6 @@ SkippedSweep rule block turn next ys =
     (xs : List ℕ) → ys ≡ sweep rule (inTurn block turn) xs →
     ys ≡ sweep rule (inTurn block next) xs
 
--- `woken-on`: a turn's visits may be made one after the other, and turns woken after each.
-abbrev pub WokenOn : (ℕ → List Visit) → ℕ → ℕ → (ℕ → Type 0) → List ℕ → (ℕ → Type 0) → List ℕ → (ℕ → Type 0) → List ℕ → Type 0
-WokenOn block count turn before xs between ys after zs =
-    Woken block count turn before xs between ys →
-    ((h : ℕ) → h < count → after h → between h) →
-    ((h : ℕ) → h < count → after h → (v : Visit) → List·Memᴰ v (block h) → Unmoved ys zs v) →
-    Woken block count turn before xs after zs
-
 -- `made-watched`: after a turn, by either rule, those that are asleep are idle still. A visit may need its own number: a sum
 -- is at least each of its terms, so that a visit just made is idle, and stays so when its own number falls.
 abbrev pub MadeWatched : Rule → (ℕ → List Visit) → ℕ → ℕ → (ℕ → Type 0) → List ℕ → (ℕ → Type 0) → List ℕ → Type 0

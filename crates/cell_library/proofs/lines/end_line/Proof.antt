@@ -1,13 +1,13 @@
 -- `end_line` meets its contract. Assumes nothing.
 use mathlib.Core.Bool.{Bool, _&&_}
-use mathlib.Core.List.{List, []}
+use mathlib.Core.List.{List}
 use mathlib.Core.Path.{_≡_, sym, ap, _∙_}
 use Prim.Native.Nat.{ℕ}
 use lib.Dec.{eqb}
 use lib.ListN.{length}
 use borrow.Author.Tests.{not-true, not-false}
 use Rattle.text.specs.Bytes.{bytes}
-use Rattle.text.specs.Lines.{fields, sameBytes}
+use Rattle.text.specs.Lines.{fields}
 use Rattle.text.proofs.Laws.{fieldsFrom-start}
 use Rattle.cell_library.specs.Library.{Reading}
 use Rattle.cell_library.specs.Passes.{endFormed}

@@ -4,8 +4,7 @@ use mathlib.Core.List.{List, []}
 use mathlib.Core.Option.{some}
 use mathlib.Core.Path.{_≡_, sym, ap, _∙_}
 use Prim.Native.Nat.{ℕ}
-use lib.Dec.{eqb}
-use lib.ListN.{length, getD, drop}
+use lib.ListN.{getD, drop}
 use Rattle.text.specs.Lines.{fields, fieldsFrom}
 use Rattle.text.specs.Numeral.{numeralRead}
 use Rattle.text.proofs.Laws.{fieldsFrom-start, nameForm-length}

@@ -2,7 +2,7 @@
 -- what is promised.
 -- Assumes nothing.
 use mathlib.Core.Path.{_≡_, refl, sym, _∙_}
-use Prim.Native.Nat.{_+_, _-_, _≤_}
+use Prim.Native.Nat.{_+_, _-_}
 use lib.ListN.{length}
 use Rattle.text.specs.Lines.{fieldsFrom}
 use Rattle.cell_library.specs.Passes.{nonePassed, passed, stored, Small}

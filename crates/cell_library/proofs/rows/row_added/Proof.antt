@@ -1,5 +1,4 @@
 -- `row_added` meets its contract. Assumes nothing.
-use mathlib.Core.Path.{refl}
 use Rattle.cell_library.specs.Passes.{rowAdded}
 use borrow.Author.Needs.{needs}
 use Rattle.cell_library.proofs.rows.row_added.Statement.{statement}
@@ -7,7 +6,7 @@ use Rattle.cell_library.proofs.rows.row_added.Tie as tie
 
 returns : tie.Need-returns
 unfolding rowAdded
-returns c = refl
+returns c = rw (c .before .before .greater .ensures, c .before .greater2 .ensures, c .lesser .ensures)
 
 pub row-added-spec : {M : Type 1} → statement M
-row-added-spec = tie.close (tie.spec (λ c. search needs) (λ c. search needs) returns)
+row-added-spec = tie.close (tie.spec (λ c. search needs) (λ c. search needs) (λ c κs. search needs) (λ c κs. search needs) (λ c κs. search needs) returns)
