@@ -144,7 +144,7 @@ fn failed(case: &Case, problem: &str) {
 /// All shapes, with a ratio for each.
 fn table() -> bool {
     println!(
-        "{:<27} {:>5} {:<20} {:>11} {:>11} {:>6}",
+        "{:<27} {:>5} {:<20} {:>11} {:>11} {:>7}",
         "shape", "gates", "sweeps CC,SC,CO,SO", "archive", "second", "ratio"
     );
     let mut sound = true;
@@ -158,7 +158,7 @@ fn table() -> bool {
             }) => {
                 let ratio = archive / second;
                 println!(
-                    "{:<27} {:>5} {sweeps:<20} {archive:>11.1} {second:>11.1} {ratio:>6.2}",
+                    "{:<27} {:>5} {sweeps:<20} {archive:>11.1} {second:>11.1} {ratio:>7.4}",
                     case.label,
                     case.gates()
                 );
