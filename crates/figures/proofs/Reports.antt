@@ -57,7 +57,7 @@ fits : Summary
 fits = record { length = 98; counts = record { cc = 2; sc = 2; co = 2; so = 2 } }
 
 -- The 98 bytes of the report fill a buffer of that length, and leave what is behind them in a longer one. "17 report longer
--- than its buffer": one that is shorter is left zero (D30).
+-- than its buffer": one that is shorter is left zero (D31).
 buffers :
     (answered 98 ≡ (read fits, text (c1130Figure .report))) ×
     (answered 100 ≡ (read fits, text (c1130Figure .report) ++ (5 ∷ 5 ∷ []))) ×
@@ -66,7 +66,7 @@ unfolding outcome-open lent given answered fits answer summary left leftFrom lef
 buffers = (refl, refl, refl)
 
 -- "1 a lent table below its published size; 2 a text above 65,535 bytes"; "Entry refusals leave lent memory
--- untouched" (D32).
+-- untouched" (D33).
 short : Lent
 short =
     record {

@@ -6,7 +6,7 @@ use Prim.Native.String.{String}
 abbrev pub c1130 : List String
 c1130 = "Name,C1130,3" ∷ "CC,41,M,11,M,3,125" ∷ "CO,1025,1105,1121" ∷ "SC,40,M,10,M,2,124" ∷ "SO,1024,1104,1120" ∷ "End" ∷ []
 
--- "C1490 (D, C, R): CC 22,M,134,74; CO 1034,1334,M,1474,1222; SC and SO add 1 to each": to each row, its depth (D41).
+-- "C1490 (D, C, R): CC 22,M,134,74; CO 1034,1334,M,1474,1222; SC and SO add 1 to each": to each row, its depth (D42).
 abbrev pub c1490 : List String
 c1490 =
     "Name,C1490,3" ∷ "CC,22,M,134,74" ∷ "CO,1034,1334,M,1474,1222" ∷ "SC,23,M,135,75" ∷ "SO,1035,1335,M,1475,1223" ∷ "End" ∷ []

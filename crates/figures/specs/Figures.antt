@@ -149,7 +149,7 @@ chain29Figure =
           ∷ "sweeps,2,2,2,2" ∷ [];
     }
 
--- "Plausible errors: .. stopping after three sweeps": a chain listed backwards takes five (D42).
+-- "Plausible errors: .. stopping after three sweeps": a chain listed backwards takes five (D43).
 abbrev pub backwardsFigure : Figure
 backwardsFigure =
     record {
