@@ -2,7 +2,7 @@
 // for which something has changed.
 //
 // For the crates above, each with what it asks (specs/Turns.antt, specs/Lines.antt): the set of turns
-// that are awake, `all_awake`, `wake`, `rest` and `next_awake`; the gates that read a line, `chain` and
+// that are awake, `all_awake`, `rest` and `next_awake`; the gates that read a line, `chain` and
 // `wake_readers`; the gate that drives one, `note_drivers` and `wake_driver`.
 //
 // The set goes by the turns of a sweep, not by gates, so that the next turn is always a higher one.
@@ -35,7 +35,7 @@ fn word(awake: &[u64; sizes::AWAKE_WORDS], at: usize) -> u64
     awake[at]
 }
 
-pub fn wake(awake: &mut [u64; sizes::AWAKE_WORDS], turn: usize)
+fn wake(awake: &mut [u64; sizes::AWAKE_WORDS], turn: usize)
     requires { ⌜ (turn < Size.gates) × (length (now awake) ≡ Size.awakeWords) ⌝ }
     ensures { λ _. ⌜ Woken turn (now (awake .entry)) (now (awake .exit)) ⌝ }
 {

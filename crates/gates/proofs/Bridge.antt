@@ -26,11 +26,11 @@ use Rattle.netlist.specs.Sound.{InRange, GateSound}
 use Rattle.netlist.proofs.Laws.{gate-sound}
 use Rattle.netlist.proofs.Places.{length-netlistWords, netlist-count, gate-word}
 use Rattle.calculation.specs.Acceptance.{BothSound}
-use Rattle.calculation.specs.Nodes.{Kind, combinational, sequential}
+use Rattle.calculation.specs.Nodes.{Kind, combinational, sequential, kindNumber}
 use Rattle.calculation.specs.Ways.{noCell, cellOf, pinLine, needs, Role, setting, observing, purposeOf, wordOf, groupIndex, groupOf, asks, wayOf, waysOf, visit}
 use Rattle.calculation.proofs.Accepting.{has-index, gate-cell, pin-count, role-group, role-row}
 use Rattle.calculation.proofs.Visiting.{getD-listed, Has}
-use Rattle.gates.specs.Tables.{kindNumber, rowPlaces, rowWays, groupWays, groupVisit, gateCell, gatePins, gateLines, byRole, roleColumns, visitCount, visitGroup, gateVisit}
+use Rattle.gates.specs.Tables.{rowPlaces, rowWays, groupWays, groupVisit, gateCell, gatePins, gateLines, byRole, roleColumns, visitCount, visitGroup, gateVisit}
 use Rattle.gates.specs.Fits.{GroupFits, GateFits, TablesFit}
 use Rattle.gates.proofs.Naming.{set-node, observe-node, linesOf, role-places}
 

@@ -17,10 +17,10 @@ use Rattle.table.proofs.Places.{getD-fitted}
 use Rattle.cell_library.specs.Library.{columnCount}
 use Rattle.cell_library.specs.Cells.{Row, Cell, Column, pin, output, observe, bitOf, bit, pinColumns, settingColumns, observingColumns, named}
 use Rattle.netlist.specs.Netlist.{Gate}
-use Rattle.calculation.specs.Nodes.{Kind, combinational, sequential, node}
+use Rattle.calculation.specs.Nodes.{Kind, combinational, sequential, kindNumber, node}
 use Rattle.calculation.specs.Nodes as N
 use Rattle.calculation.specs.Ways.{pinLine, asked, needs, Role, setting, observing, wordOf, columnsOf, asks}
-use Rattle.gates.specs.Tables.{kindNumber, columnPlace, withNamed, columnPlaces, rowPlaces}
+use Rattle.gates.specs.Tables.{columnPlace, withNamed, columnPlaces, rowPlaces}
 use Rattle.gates.proofs.Columns.{fewer-places}
 use Rattle.gates.proofs.Rows.{line-column, observe-column}
 

@@ -11,11 +11,6 @@ use Rattle.sizes.specs.Sizes as Size
 use Rattle.sizes.specs.Places.{pinsPlace, groupPlace, gatePlace, settingPlace, observingPlace}
 use Rattle.reading.specs.Choice.{pick}
 use Rattle.plans.specs.System.{Way, Visit}
-use Rattle.calculation.specs.Nodes.{Kind, combinational, sequential}
-
-abbrev pub kindNumber : Kind → ℕ
-kindNumber combinational = 0
-kindNumber sequential = 1
 
 -- ---- rows
 

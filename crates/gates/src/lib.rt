@@ -3,12 +3,13 @@
 //
 // For the crates above, each with what it asks of the tables (specs/Fits.antt), since the loop of the
 // sweeps tests no bounds: `least_sum`, `lesser_of` and `number_of` with the type `Sum`, `cell_place`,
-// `lines_of`, and modules `gather` and `visits`.
+// `lines_of`, and modules `gather`, `kinds` and `visits`.
 //
 // Modules `spatial` and `temporal` add up rows, each in costs of its own kind. All that does not add
 // goes by the kind's number, 0 combinational and 1 sequential.
 pub mod gather;
-pub mod places;
+pub mod kinds;
+mod places;
 mod spatial;
 mod temporal;
 pub mod visits;
@@ -16,8 +17,8 @@ pub mod visits;
 use cost::NEVER;
 use cost::Spatial;
 use cost::Temporal;
-use places::COMBINATIONAL;
-use places::wide;
+use kinds::COMBINATIONAL;
+use kinds::wide;
 ghost use mathlib.Core.Path.{_≡_};
 ghost use Prim.Native.Nat.{_+_, _*_, _≤_, _<_};
 ghost use lib.ListN.{length};

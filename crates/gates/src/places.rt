@@ -1,19 +1,9 @@
 // Places of the numbers table, by kind, line and value.
+use super::kinds::wide;
 ghost use mathlib.Core.Path.{_≡_};
 ghost use Prim.Native.Nat.{_≤_, _<_};
 ghost use lib.Count.{trailingZeros};
 ghost use Rattle.sizes.specs.Places.{settingPlace, observingPlace};
-
-// The kinds of cost.
-pub const COMBINATIONAL: usize = 0;
-
-pub const SEQUENTIAL: usize = 1;
-
-pub fn wide(x: u32) -> usize
-    ensures { λ r. ⌜ r ≡ x ⌝ }
-{
-    x as usize
-}
 
 // The lowest named column of a row that names one: as many columns below it are not named as the row
 // has trailing zeros.

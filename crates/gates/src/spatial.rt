@@ -1,6 +1,6 @@
 // Row sums in combinational costs (CC, CO), which are added to no sequential one.
+use super::kinds::wide;
 use super::places::lowest;
-use super::places::wide;
 use cost::Spatial;
 ghost use mathlib.Core.Path.{_≡_};
 ghost use Prim.Native.Nat.{_<_};

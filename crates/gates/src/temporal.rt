@@ -1,6 +1,6 @@
 // Row sums in sequential costs (SC, SO), which are added to no combinational one.
+use super::kinds::wide;
 use super::places::lowest;
-use super::places::wide;
 use cost::Temporal;
 ghost use mathlib.Core.Path.{_≡_};
 ghost use Prim.Native.Nat.{_<_};

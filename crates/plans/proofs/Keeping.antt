@@ -77,11 +77,6 @@ module _ (rule : Rule) (stores : Stores rule) where
   sweeps-other vs zero xs n h = refl
   sweeps-other vs (suc k) xs n h = sweeps-other vs k (sweep rule vs xs) n h ∙ sweep-other vs xs n h
 
-  pub sweeps-bounded : (vs : List Visit) (k : ℕ) (xs : List ℕ) → Bounded xs → Bounded (sweeps rule vs k xs)
-  unfolding sweeps
-  sweeps-bounded vs zero xs b = b
-  sweeps-bounded vs (suc k) xs b = sweeps-bounded vs k (sweep rule vs xs) (sweep-bounded vs xs b)
-
   pub sweeps-inside : (vs us : List Visit) (k : ℕ) (xs : List ℕ) → Inside vs xs → Inside vs (sweeps rule us k xs)
   sweeps-inside vs us k xs h v m = rw (sweeps-length us k xs) (h v m)
 

@@ -33,7 +33,7 @@ use Rattle.plans.proofs.Staging as Staging
 pub use Rattle.plans.proofs.Table.{at-getD, at-set-same}
 pub use Rattle.plans.proofs.Falling.{never-above}
 pub use Rattle.plans.proofs.Keeping.{Stores, lower-stores, renew-stores, rule-other, sweep-append, sweep-length, sweep-other, settles-length}
--- ---- visits that change nothing, as specs/Idle.antt states it
+-- ---- visits that change nothing, as specs/Idle.antt states it; `idles-rest` and `asleep-settles`, the count, for a reader
 pub use Rattle.plans.proofs.Idling.{idles-rest, asleep-skipped, skipped-sweep, made-watched, asleep-settles}
 -- ---- runs one after the other, as specs/Stages.antt states them
 pub use Rattle.plans.proofs.Staging.{ranked-apart, stages-within, stages-once, stages-left, stages-exact, first-start}

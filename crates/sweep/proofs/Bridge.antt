@@ -16,12 +16,12 @@ use Rattle.cell_library.specs.Layout.{libraryWords}
 use Rattle.netlist.specs.Netlist.{Gate, Statement, gatesOf, isInput, isOutput, driven}
 use Rattle.netlist.specs.Layout.{netlistWords, driverWord, outputWord}
 use Rattle.netlist.proofs.Places.{netlist-count, driver-word, output-word}
-use Rattle.calculation.specs.Nodes.{Kind}
+use Rattle.calculation.specs.Nodes.{Kind, kindNumber}
 use Rattle.calculation.specs.Ways.{cellOf, setting, observing, groupIndex, visit, valueRoles, pinRoles, settingVisits, observingVisits}
 use Rattle.calculation.specs.Ways as W
 use Rattle.calculation.specs.Calculation.{startLine, startLines, start}
 use Rattle.calculation.specs.Acceptance.{BothSound}
-use Rattle.gates.specs.Tables.{kindNumber, byRole, gateVisit}
+use Rattle.gates.specs.Tables.{byRole, gateVisit}
 use Rattle.gates.proofs.Bridge.{noGate, pins-number, visit-is}
 use Rattle.sweep.specs.Order.{gateVisits, sweepVisits}
 use Rattle.plans.specs.Idle.{inTurn}

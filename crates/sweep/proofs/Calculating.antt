@@ -1,39 +1,41 @@
 -- The four runs at the tables of accepted cells and statements.
 -- Assumes nothing.
+use mathlib.Core.Bool.{false}
 use mathlib.Core.List.{List, [], _∷_}
+use mathlib.Core.Logic.{_↔_}
 use mathlib.Core.Path.{_≡_, refl, ap, _∙_}
 use Prim.Native.Nat.{ℕ, _+_, _*_, _≤_}
 use native.Mathlib.Omega.{arith}
 use lib.ListN.{length, getD, drop}
 use Rattle.sizes.specs.Sizes as Size
 use Rattle.reading.specs.Choice.{pick}
-use Rattle.plans.specs.Sweep.{renew, lower, Settles, Lowering}
+use Rattle.plans.specs.System.{Visit}
+use Rattle.plans.specs.Sweep.{Rule, renew, lower, Rests, Settles, Lowering}
 use Rattle.plans.specs.Stages.{AllWithin, Stages, Stages.ended, Stages.stage}
 use Rattle.plans.specs.Statements.{SettlesWithin}
 use Rattle.plans.proofs.Laws.{settles-length}
 use Rattle.cell_library.specs.Cells.{Cell}
 use Rattle.netlist.specs.Netlist.{Statement, gatesOf}
-use Rattle.calculation.specs.Nodes.{Kind, combinational, sequential}
+use Rattle.calculation.specs.Nodes.{Kind, combinational, sequential, kindNumber}
 use Rattle.calculation.specs.Ways.{settingVisits, observingVisits}
+use Rattle.calculation.specs.Changes.{changes}
 use Rattle.calculation.specs.Calculation.{analysed, start, stages}
-use Rattle.calculation.proofs.Laws.{changes-lower, changes-renew}
+use Rattle.calculation.proofs.Laws.{kind-small, changes-lower, changes-renew}
 use Rattle.calculation.proofs.Laws.{gates-apiece, within, settled-once}
-use Rattle.gates.specs.Tables.{kindNumber, byRole}
+use Rattle.gates.specs.Tables.{byRole}
 use Rattle.gates.specs.Fits.{TablesFit}
 use Rattle.gates.proofs.Bridge.{tables-fit, netlist-room}
 use Rattle.awake.specs.Lines.{LinesStand, Chained, Driven}
 use Rattle.sweep.specs.Fits.{FreshFits}
 use Rattle.sweep.specs.Order.{ruleOf, sweepVisits}
 use Rattle.sweep.specs.Ready.{Holds}
+use Rattle.sweep.specs.Runs.{Runs}
 use Rattle.sweep.specs.Start.{linesStart}
+use Rattle.sweep.specs.Waking.{Linked}
 use Rattle.sweep.proofs.Bridge.{setting-sweep, observing-sweep, start-is}
 use Rattle.sweep.proofs.Linking.{lines-stand, reads-linked, drives-linked}
 use Rattle.sweep.proofs.Starting.{laid-length}
 use Rattle.sweep.proofs.Visits.{rule-stores}
-
-kind-few : (k : Kind) → kindNumber k ≤ 1
-kind-few combinational = omega arith
-kind-few sequential = omega arith
 
 module _ {library netlist : List ℕ} {cells : List Cell} {ss : List Statement} (h : Holds library netlist cells ss) where
   abbrev gates : ℕ
@@ -64,55 +66,32 @@ module _ {library netlist : List ℕ} {cells : List Cell} {ss : List Statement} 
   -- ---- each run ends, with arrays that tell who reads and drives a line ..
 
   module _ {first next driver : List ℕ} (chained : Chained netlist (getD netlist 0 0) first next) (driven : Driven netlist (getD netlist 0 0) driver) where
+    fresh-fits : (role : ℕ) (k : Kind) {xs : List ℕ} → role ≤ 1 → Linked role (kindNumber k) library netlist first next driver → length xs ≡ Size.numbers
+        → Lowering (ruleOf role) (sweepVisits role (kindNumber k) library netlist) xs → Runs (ruleOf role) (sweepVisits role (kindNumber k) library netlist) xs
+        → FreshFits role (kindNumber k) library netlist first next driver xs
+    fresh-fits role k r linked n low runs =
+        record { linksFit = record { roleFits = r; kindFits = kind-small k; tablesFit = fit; linked = linked }; size = n; lowering = low; runs = runs }
+
+    -- The bound of a run is small, since there are few gates.
+    runs-within : {rule : Rule} {vs : List Visit} {xs : List ℕ} (bound : ℕ) → bound ≤ 2 * gates + 1
+        → ((ys : List ℕ) → (changes rule vs ys ≡ false) ↔ Rests rule vs ys) → SettlesWithin rule vs xs bound bound → Runs rule vs xs
+    runs-within bound b flag w = record { flag = flag; fuel = bound; bound = bound; within = w; small = omega (arith, h .sound .netlist .few) }
+
     set-fits : (k : Kind) {xs : List ℕ} → length xs ≡ Size.numbers → SettlesWithin renew (settingVisits k cells (gatesOf ss)) xs (2 * gates + 1) (2 * gates + 1)
         → Lowering renew (settingVisits k cells (gatesOf ss)) xs → FreshFits 0 (kindNumber k) library netlist first next driver xs
     unfolding byRole pick
-    set-fits k {xs} n w low =
-        record {
-          linksFit =
-              record {
-                roleFits = omega arith;
-                kindFits = kind-few k;
-                tablesFit = fit;
-                linked = rw (h .cellsStand, h .statementsStand) (reads-linked cells ss (h .sound) (h .behind) (h .past) k (rw (h .statementsStand) at chained) (rw (h .statementsStand) at driven));
-              };
-          size = n;
-          lowering = rw (sets k) low;
-          runs =
-              rw (sets k)
-              (record {
-                flag = changes-renew (settingVisits k cells (gatesOf ss)) (gates-apiece cells ss (h .sound) k);
-                fuel = 2 * gates + 1;
-                bound = 2 * gates + 1;
-                within = w;
-                small = omega (arith, h .sound .netlist .few);
-              });
-        }
+    set-fits k n w low =
+        fresh-fits 0 k (omega arith)
+        (rw (h .cellsStand, h .statementsStand) (reads-linked cells ss (h .sound) (h .behind) (h .past) k (rw (h .statementsStand) at chained) (rw (h .statementsStand) at driven)))
+        n (rw (sets k) low) (rw (sets k) (runs-within (2 * gates + 1) (omega arith) (changes-renew (settingVisits k cells (gatesOf ss)) (gates-apiece cells ss (h .sound) k)) w))
 
     observe-fits : (k : Kind) {xs : List ℕ} → length xs ≡ Size.numbers → SettlesWithin lower (observingVisits k cells (gatesOf ss)) xs (gates + 1) (gates + 1)
         → Lowering lower (observingVisits k cells (gatesOf ss)) xs → FreshFits 1 (kindNumber k) library netlist first next driver xs
     unfolding byRole pick
-    observe-fits k {xs} n w low =
-        record {
-          linksFit =
-              record {
-                roleFits = omega arith;
-                kindFits = kind-few k;
-                tablesFit = fit;
-                linked = rw (h .cellsStand, h .statementsStand) (drives-linked cells ss (h .sound) (h .behind) (h .past) k (rw (h .statementsStand) at chained) (rw (h .statementsStand) at driven));
-              };
-          size = n;
-          lowering = rw (observes k) low;
-          runs =
-              rw (observes k)
-              (record {
-                flag = changes-lower (observingVisits k cells (gatesOf ss));
-                fuel = gates + 1;
-                bound = gates + 1;
-                within = w;
-                small = omega (arith, h .sound .netlist .few);
-              });
-        }
+    observe-fits k n w low =
+        fresh-fits 1 k (omega arith)
+        (rw (h .cellsStand, h .statementsStand) (drives-linked cells ss (h .sound) (h .behind) (h .past) k (rw (h .statementsStand) at chained) (rw (h .statementsStand) at driven)))
+        n (rw (observes k) low) (rw (observes k) (runs-within (gates + 1) (omega arith) (changes-lower (observingVisits k cells (gatesOf ss))) w))
 
     set-settled : (k : Kind) {xs ys : List ℕ} {count : ℕ} → Left 0 (kindNumber k) xs count ys → Settles renew (settingVisits k cells (gatesOf ss)) xs count ys
     unfolding byRole pick

@@ -22,14 +22,14 @@ use Rattle.netlist.specs.Sound.{InRange, GateSound, DrivenOnce}
 use Rattle.netlist.proofs.Laws.{gate-sound, driven-once}
 use Rattle.netlist.proofs.Places.{netlist-count}
 use Rattle.calculation.specs.Acceptance.{BothSound}
-use Rattle.calculation.specs.Nodes.{Kind, set, observe, node}
+use Rattle.calculation.specs.Nodes.{Kind, kindNumber, set, observe, node}
 use Rattle.calculation.specs.Ways.{cellOf, pinLine, Role, setting, observing, visit, valueRoles, pinRoles}
 use Rattle.calculation.specs.Ways as W
 use Rattle.calculation.proofs.Accepting.{gate-cell, gate-pin}
 use Rattle.calculation.proofs.Needing.{setting-reads, observing-drives}
 use Rattle.calculation.proofs.Visiting.{getD-listed, Sets, value-from, pins-from}
 use Rattle.awake.specs.Lines.{gateLine, LinesStand, Chained, Driven}
-use Rattle.gates.specs.Tables.{kindNumber, byRole, gatePins, gateLines, visitCount, visitPlace}
+use Rattle.gates.specs.Tables.{byRole, gatePins, gateLines, visitCount, visitPlace}
 use Rattle.gates.proofs.Bridge.{noGate, netlist-room, pins-number, lines-are}
 use Rattle.gates.proofs.Naming.{set-node, observe-node, linesOf}
 use Rattle.sweep.specs.Order.{gateVisits}

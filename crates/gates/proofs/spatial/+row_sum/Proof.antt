@@ -13,7 +13,7 @@ use Rattle.gates.proofs.spatial.row_sum.Reads as row-sum
 use Rattle.gates.proofs.spatial.row_sum.Kinds as row-sum-kinds
 use Rattle.gates.proofs.spatial.+row_sum.Lts-row_sum as row-sum-lts
 use Rattle.gates.proofs.places.lowest.Reads as lowest-reads
-use Rattle.gates.proofs.places.wide.Reads as wide-reads
+use Rattle.gates.proofs.kinds.wide.Reads as wide-reads
 use Rattle.gates.proofs.spatial.+row_sum.{statement}
 use Rattle.gates.proofs.spatial.+row_sum.Tie.{close}
 
