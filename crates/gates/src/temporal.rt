@@ -9,18 +9,19 @@ ghost use Rattle.gates.specs.Tables.{namedColumns};
 ghost use Rattle.gates.specs.Fits.{ColumnsFit};
 
 // "A row's sum is taken as its lowest named column plus the sum of the rest, the routine calling
-// itself." Where the rest is empty its sum is 0, without a call.
-fn row_sum(costs: &[u32; sizes::COLUMNS], columns: u32) -> Temporal
+// itself." Where the rest is empty its sum is 0, without a call. The answer is the cost's number, which a
+// register takes from call to call; a struct would go through memory.
+fn row_sum(costs: &[u32; sizes::COLUMNS], columns: u32) -> u32
     requires { ⌜ (0 < columns) × ColumnsFit columns (now costs) ⌝ }
-    ensures { λ r. ⌜ r .0 ≡ sums (now (costs .entry)) (namedColumns columns) ⌝ }
+    ensures { λ r. ⌜ r ≡ sums (now (costs .entry)) (namedColumns columns) ⌝ }
 {
     let column = wide(lowest(columns));
     let cost = Temporal(costs[column]);
     let rest = columns & (columns - 1);
     if rest == 0 {
-        return cost.plus(Temporal(0));
+        return cost.plus(Temporal(0)).0;
     }
-    cost.plus(row_sum(costs, rest))
+    cost.plus(Temporal(row_sum(costs, rest))).0
 }
 
 // The sum of the columns that a row names, if any. The first of them is taken here, so that a row that
@@ -38,5 +39,5 @@ pub fn columns_sum(costs: &[u32; sizes::COLUMNS], columns: u32) -> Temporal
     if others == 0 {
         return cost.plus(Temporal(0));
     }
-    cost.plus(row_sum(costs, others))
+    cost.plus(Temporal(row_sum(costs, others)))
 }
