@@ -1,3 +1,4 @@
 pub mod Steps
 pub mod Decimal
+pub mod Octal
 pub mod Passed

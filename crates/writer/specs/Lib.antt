@@ -1,3 +1,4 @@
 pub mod Put
 pub mod Decimal
+pub mod Octal
 pub mod Refused

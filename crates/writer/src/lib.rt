@@ -1,11 +1,11 @@
-// Writing bytes into a lent buffer: a byte, several, a number in decimal, a refusal.
+// Writing bytes into a lent buffer: a byte, several, a number in decimal or in octal, a refusal.
 //
 // A cursor is a place of the buffer. Bytes past the buffer's end are not stored, and the cursor then
 // stands past the end, at the length and 1, so that a caller asks once, at the end, whether all was
-// stored. No call has a condition. specs/Put.antt says what a call leaves, specs/Decimal.antt what the
-// digits of a number are, specs/Refused.antt what is printed of a refusal.
+// stored. No call has a condition. specs/Put.antt says what a call leaves, specs/Decimal.antt and
+// specs/Octal.antt what the digits of a number are, specs/Refused.antt what is printed of a refusal.
 //
-// For the crates above: `put_byte`, `put_bytes`, `put_decimal`, `put_refusal`.
+// For the crates above: `put_byte`, `put_bytes`, `put_decimal`, `put_octal`, `put_refusal`.
 use reading::Refusal;
 ghost use mathlib.Core.List.{[], _∷_};
 ghost use mathlib.Core.Path.{_≡_};
@@ -13,6 +13,7 @@ ghost use Prim.Native.Nat.{_+_, _≤_, _<_};
 ghost use lib.ListN.{length};
 ghost use lib.Seq.{sets};
 ghost use Rattle.writer.specs.Decimal.{decimalBytes, twoDigits, Room};
+ghost use Rattle.writer.specs.Octal.{octalBytes};
 ghost use Rattle.writer.specs.Put.{Put};
 ghost use Rattle.writer.specs.Refused.{refusalBytes};
 
@@ -132,6 +133,19 @@ pub fn put_decimal(buffer: &mut [u8], at: usize, n: u32) -> usize
         }
     }
     put_digits(buffer, at, n as u64)
+}
+
+// A number in octal: the digits above the last, the routine calling itself, and the last.
+pub fn put_octal(buffer: &mut [u8], at: usize, n: u32) -> usize
+    ensures { λ r. ⌜ Put at (octalBytes n) (now (buffer .entry)) (now (buffer .exit)) r ⌝ }
+{
+    let digit = ZERO + (n % 8) as u8;
+    if n < 8 {
+        put_byte(buffer, at, digit)
+    } else {
+        let next = put_octal(buffer, at, n / 8);
+        put_byte(buffer, next, digit)
+    }
 }
 
 // A refusal as a program prints it; its line may be any (`Refusal`).
