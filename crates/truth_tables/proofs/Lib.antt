@@ -1,0 +1,4 @@
+pub mod Lists
+pub mod Covering
+pub mod Counting
+pub mod Order

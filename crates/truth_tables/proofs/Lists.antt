@@ -1,0 +1,128 @@
+-- What holds of each element of a list, of some element, and of those that are kept.
+-- Assumes nothing.
+use mathlib.Core.Bool.{Bool, true, false, not, _&&_, _||_}
+use mathlib.Core.List.{List, [], _∷_, _++_, map, List·Memᴰ, List·Memᴰ·head, List·Memᴰ·tail, List·Memᴰ·not-nil}
+use mathlib.Core.Path.{_≡_, refl, sym, ap, _∙_}
+use Prim.Native.Nat.{ℕ, suc, _+_, _≤_}
+use native.Mathlib.Omega.{arith}
+use lib.ListN.{length}
+use Rattle.reading.specs.Choice.{pick}
+use Rattle.reading.proofs.Laws.{by-test, clash, and-left, and-right}
+use Rattle.cell_library.specs.Library.{anyOf}
+use Rattle.truth_tables.specs.Tables.{allOf, keep}
+
+module _ {A : Type 0} where
+  -- ---- of each
+
+  pub all-member : (p : A → Bool) {x : A} {xs : List A} → List·Memᴰ x xs → allOf p xs ≡ true → p x ≡ true
+  unfolding allOf
+  all-member p {x} {xs = y ∷ xs} (List·Memᴰ·head e) h = ap p e ∙ and-left (p y) (allOf p xs) h
+  all-member p {x} {xs = y ∷ xs} (List·Memᴰ·tail m) h = all-member p m (and-right (p y) (allOf p xs) h)
+
+  pub all-by : (p : A → Bool) (xs : List A) → ((x : A) → List·Memᴰ x xs → p x ≡ true) → allOf p xs ≡ true
+  unfolding allOf
+  all-by p [] f = refl
+  all-by p (x ∷ xs) f = rw (f x (List·Memᴰ·head refl)) (all-by p xs (λ y m. f y (List·Memᴰ·tail m)))
+
+  pub all-append : (p : A → Bool) (xs ys : List A) → allOf p (xs ++ ys) ≡ (allOf p xs && allOf p ys)
+  unfolding allOf
+  all-append p [] ys = refl
+  all-append p (x ∷ xs) ys = by-test (p x) (λ e. rw e (all-append p xs ys)) (λ e. rw e refl)
+
+  pub all-both : (p q : A → Bool) (xs : List A) → allOf (λ x. p x && q x) xs ≡ (allOf p xs && allOf q xs)
+  unfolding allOf
+  all-both p q [] = refl
+  all-both p q (x ∷ xs) = rw (all-both p q xs) (go (p x) (q x) (allOf p xs) (allOf q xs))
+    where
+      go : (a b c d : Bool) → ((a && b) && (c && d)) ≡ ((a && c) && (b && d))
+      go true true c d = refl
+      go true false true d = refl
+      go true false false d = refl
+      go false b c d = refl
+
+  pub all-same : (p q : A → Bool) → ((x : A) → p x ≡ q x) → (xs : List A) → allOf p xs ≡ allOf q xs
+  unfolding allOf
+  all-same p q f [] = refl
+  all-same p q f (x ∷ xs) = rw (f x, all-same p q f xs) refl
+
+  -- Where it does not hold of each, there is one of which it does not.
+  pub all-fails : {C : Type 0} (p : A → Bool) (xs : List A) → allOf p xs ≡ false → ((x : A) → List·Memᴰ x xs → p x ≡ false → C) → C
+  unfolding allOf
+  all-fails p [] h on = clash true refl h
+  all-fails p (x ∷ xs) h on =
+      by-test (p x)
+      (λ e. all-fails p xs (rw e at h) (λ y m. on y (List·Memᴰ·tail m)))
+      (λ e. on x (List·Memᴰ·head refl) e)
+
+  -- ---- of some
+
+  pub any-member : (p : A → Bool) {x : A} {xs : List A} → List·Memᴰ x xs → p x ≡ true → anyOf p xs ≡ true
+  unfolding anyOf
+  any-member p {x} {xs = y ∷ xs} (List·Memᴰ·head e) h = rw (sym (ap p e) ∙ h) refl
+  any-member p {x} {xs = y ∷ xs} (List·Memᴰ·tail m) h = rw (any-member p m h) (go (p y))
+    where
+      go : (b : Bool) → (b || true) ≡ true
+      go true = refl
+      go false = refl
+
+  pub any-found : {C : Type 0} (p : A → Bool) (xs : List A) → anyOf p xs ≡ true → ((x : A) → List·Memᴰ x xs → p x ≡ true → C) → C
+  unfolding anyOf
+  any-found p [] h on = clash false h refl
+  any-found p (x ∷ xs) h on =
+      by-test (p x)
+      (λ e. on x (List·Memᴰ·head refl) e)
+      (λ e. any-found p xs (rw e at h) (λ y m. on y (List·Memᴰ·tail m)))
+
+  -- ---- those kept
+
+  pub keep-member : (p : A → Bool) {x : A} {xs : List A} → List·Memᴰ x xs → p x ≡ true → List·Memᴰ x (keep p xs)
+  unfolding keep pick
+  keep-member p {x} {xs = y ∷ xs} (List·Memᴰ·head e) h = rw (sym (ap p e) ∙ h) (List·Memᴰ·head e)
+  keep-member p {x} {xs = y ∷ xs} (List·Memᴰ·tail m) h =
+      by-test (p y) (λ k. rw k (List·Memᴰ·tail (keep-member p m h))) (λ k. rw k (keep-member p m h))
+
+  pub kept : (p : A → Bool) {x : A} (xs : List A) → List·Memᴰ x (keep p xs) → (p x ≡ true) × List·Memᴰ x xs
+  unfolding keep pick
+  kept p {x} [] m = absurd (List·Memᴰ·not-nil m)
+  kept p {x} (y ∷ xs) m = by-test (p y) (λ k. here k (kept p xs) (rw k at m)) (λ k. let r = kept p xs (rw k at m) in (r .0, List·Memᴰ·tail (r .1)))
+    where
+      here : p y ≡ true → (List·Memᴰ x (keep p xs) → (p x ≡ true) × List·Memᴰ x xs) → List·Memᴰ x (y ∷ keep p xs) → (p x ≡ true) × List·Memᴰ x (y ∷ xs)
+      here k more (List·Memᴰ·head e) = (ap p e ∙ k, List·Memᴰ·head e)
+      here k more (List·Memᴰ·tail n) = let r = more n in (r .0, List·Memᴰ·tail (r .1))
+
+  pub keep-append : (p : A → Bool) (xs ys : List A) → keep p (xs ++ ys) ≡ keep p xs ++ keep p ys
+  unfolding keep pick
+  keep-append p [] ys = refl
+  keep-append p (x ∷ xs) ys =
+      by-test (p x) (λ e. rw (e, keep-append p xs ys) refl) (λ e. rw (e, keep-append p xs ys) refl)
+
+  pub keep-same : (p q : A → Bool) → ((x : A) → p x ≡ q x) → (xs : List A) → keep p xs ≡ keep q xs
+  unfolding keep
+  keep-same p q f [] = refl
+  keep-same p q f (x ∷ xs) = rw (f x, keep-same p q f xs) refl
+
+  -- What is harder to meet keeps fewer.
+  pub keep-fewer : (p q : A → Bool) → ((x : A) → p x ≡ true → q x ≡ true) → (xs : List A) → length (keep p xs) ≤ length (keep q xs)
+  unfolding keep pick
+  keep-fewer p q f [] = omega arith
+  keep-fewer p q f (x ∷ xs) =
+      by-test (p x)
+      (λ e. rw (e, f x e) (omega (arith, keep-fewer p q f xs)))
+      (λ e. by-test (q x)
+      (λ k. rw (e, k) (omega (arith, keep-fewer p q f xs)))
+      (λ k. rw (e, k) (keep-fewer p q f xs)))
+
+module _ {A B : Type 0} where
+  pub map-member : (f : A → B) {x : A} {xs : List A} → List·Memᴰ x xs → List·Memᴰ (f x) (map f xs)
+  map-member f {x} {xs = y ∷ xs} (List·Memᴰ·head e) = List·Memᴰ·head (ap f e)
+  map-member f {x} {xs = y ∷ xs} (List·Memᴰ·tail m) = List·Memᴰ·tail (map-member f m)
+
+  pub all-map : (p : B → Bool) (f : A → B) (xs : List A) → allOf p (map f xs) ≡ allOf (λ x. p (f x)) xs
+  unfolding allOf
+  all-map p f [] = refl
+  all-map p f (x ∷ xs) = rw (all-map p f xs) refl
+
+  pub keep-map : (p : B → Bool) (f : A → B) (xs : List A) → keep p (map f xs) ≡ map f (keep (λ x. p (f x)) xs)
+  unfolding keep pick
+  keep-map p f [] = refl
+  keep-map p f (x ∷ xs) = by-test (p (f x)) (λ e. rw (e, keep-map p f xs) refl) (λ e. rw (e, keep-map p f xs) refl)

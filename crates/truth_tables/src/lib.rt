@@ -1,0 +1,7 @@
+// Truth tables and the cells that they make, document 02, K6: settings of the pins, implicants and prime
+// implicants, the groups of rows of a truth table, the cell and its entry's text. The crate holds
+// definitions (specs/) and theorems (proofs/); the generator, crate `generator`, is proved against them.
+//
+// No call is open to others, since there is no code. Other crates cite specs.Tables (the rows of a truth
+// table), specs.Entries (its cell, and the text of a cell), proofs.Covering (the one fact for all truth
+// tables), proofs.Counting (no group has more than 16 rows) and proofs.Order (rows descend).
