@@ -53,7 +53,9 @@ pub fn rest(awake: &mut [u64; sizes::AWAKE_WORDS], turn: usize)
     awake[at] = (word(awake, at) | bit) ^ bit;
 }
 
-// The lowest awake turn not below `from`; where none is below `end`, one that is not.
+// The lowest awake turn not below `from`; where none is below `end`, one that is not. Where `from` itself is
+// awake, as mostly in a first sweep, a test tells it: the processor goes on with that turn before it has
+// the word, which a count of zeros would make it wait for.
 pub fn next_awake(awake: &[u64; sizes::AWAKE_WORDS], from: usize, end: usize) -> usize
     requires { ⌜ (end ≤ Size.gates) × (length (now awake) ≡ Size.awakeWords) ⌝ }
     ensures { λ r. ⌜ NextAwake (now (awake .entry)) from end r ⌝ }
@@ -61,6 +63,9 @@ pub fn next_awake(awake: &[u64; sizes::AWAKE_WORDS], from: usize, end: usize) ->
     let mut at = from;
     while at < end {
         let rest = word(awake, at / sizes::WORD_BITS) >> (at % sizes::WORD_BITS);
+        if rest % 2 == 1 {
+            return at;
+        }
         if rest != 0 {
             return at + u64::trailing_zeros(rest) as usize;
         }

@@ -17,20 +17,27 @@ abbrev μ-loop : tie.MeasureT-loop
 
 cast-result : tie.Need-cast-result Inv-loop μ-loop
 cast-result c =
-    let l = c .before .before .before .loop in
-    omega (arith, trailing-le Size.wordBits (c .before .word .result / 2 ^ (l .at % Size.wordBits)))
+    let l = c .before .before .before .before .loop in
+    omega (arith, trailing-le Size.wordBits (c .before .before .word .result / 2 ^ (l .at % Size.wordBits)))
 
 add-result : tie.Need-add-result Inv-loop μ-loop
 add-result c =
-    let l = c .before .before .before .loop in
-    omega (arith, trailing-le Size.wordBits (c .before .word .result / 2 ^ (l .at % Size.wordBits)))
+    let l = c .before .before .before .before .loop in
+    omega (arith, trailing-le Size.wordBits (c .before .before .word .result / 2 ^ (l .at % Size.wordBits)))
 
+-- The turn itself is awake.
 returns : tie.Need-returns Inv-loop μ-loop
+unfolding bitAt
 returns c =
-    let a = c .before .before .before .before .args in
     let l = c .before .before .before .loop in
-    let w = c .before .word .result in
-    let stands = c .before .word .ensures in
+    record { least = omega arith; asleep = l .inv .1; found = λ h. rw (← c .before .word .ensures) (c .if1 .taken) }
+
+returns-2 : tie.Need-returns-2 Inv-loop μ-loop
+returns-2 c =
+    let a = c .before .before .before .before .before .args in
+    let l = c .before .before .before .before .loop in
+    let w = c .before .before .word .result in
+    let stands = c .before .before .word .ensures in
     let fits : w < 2 ^ Size.wordBits = omega arith in
     let some : 0 < w / 2 ^ (l .at % Size.wordBits) = omega arith in
     record {
@@ -42,15 +49,15 @@ returns c =
 
 loop-again : tie.Need-loop-again Inv-loop μ-loop
 loop-again c =
-    let a = c .before .before .before .before .args in
-    let l = c .before .before .before .loop in (
+    let a = c .before .before .before .before .before .args in
+    let l = c .before .before .before .before .loop in (
       omega arith,
       joined-asleep (a .awake .now) (l .at) (l .inv .1)
-          (rest-asleep (a .awake .now) (l .at) (c .before .word .result) (c .before .word .ensures) (omega arith)),
+          (rest-asleep (a .awake .now) (l .at) (c .before .before .word .result) (c .before .before .word .ensures) (omega arith)),
     )
 
-returns-2 : tie.Need-returns-2 Inv-loop μ-loop
-returns-2 c = record { least = omega arith; asleep = c .before .loop .inv .1; found = λ h. absurd (omega arith) }
+returns-3 : tie.Need-returns-3 Inv-loop μ-loop
+returns-3 c = record { least = omega arith; asleep = c .before .loop .inv .1; found = λ h. absurd (omega arith) }
 
 pub next-awake-spec : {M : Type 1} → statement M
 next-awake-spec =
@@ -61,11 +68,12 @@ next-awake-spec =
     (λ c. (omega arith, λ t h k. absurd (omega arith)))
     (λ c κs. omega arith)
     (λ c. omega arith)
+    returns
     cast-result
     add-result
-    returns
+    returns-2
     (λ c. omega arith)
     (λ c. omega arith)
     (λ c. omega arith)
     loop-again
-    returns-2)
+    returns-3)
