@@ -43,18 +43,19 @@ enum scoap_refusal {
     /* a text has more than 65,535 bytes */
     SCOAP_TEXT_TOO_LONG = 2,
 
-    /* bad form: a wrong word, a missing or empty field, a bad number or name, an M out of place, no
-       byte 10 at the end, an entry broken off */
+    /* bad form: a wrong word, a missing or empty field, a bad number or name, an M or a Z out of
+       place, no byte 10 at the end, an entry broken off */
     SCOAP_LIBRARY_FORM = 3,
     /* the name was used before */
     SCOAP_NAME_USED = 4,
-    /* not 1 to 8 pins */
+    /* more than 8 pins */
     SCOAP_PINS = 5,
     /* a wrong count of groups, or a group of more than 16 rows */
     SCOAP_GROUPS = 6,
     /* a row has a bit above its columns */
     SCOAP_ROW_BITS = 7,
-    /* a CC or SC row names no pin, or a CO or SO row does not observe the output */
+    /* a CC or SC row names no pin while the other group of its line has rows, or a CO or SO row does not observe
+       the output */
     SCOAP_ROW_EMPTY = 8,
     /* a 33rd entry */
     SCOAP_ENTRIES = 9,

@@ -2,7 +2,7 @@
 -- Assumes nothing.
 use mathlib.Core.Bool.{true}
 use mathlib.Core.List.{List, [], _∷_, List·Memᴰ, List·Memᴰ·not-nil}
-use mathlib.Core.Path.{_≡_}
+use mathlib.Core.Path.{_≡_, refl}
 use Prim.Native.Nat.{ℕ, zero, suc, _-_, _≤_, _<_}
 use native.Mathlib.Omega.{arith}
 use lib.ListN.{length, getD}
@@ -10,7 +10,7 @@ use Rattle.reading.proofs.Laws.{each-at, each-member}
 use Rattle.cost.specs.Cost.{most}
 use Rattle.cell_library.specs.Cells.{Row, Group, Cell}
 use Rattle.cell_library.specs.Cells as C
-use Rattle.cell_library.specs.Library.{Word, CC, CO, SC, SO, groupCount, wordGroups}
+use Rattle.cell_library.specs.Library.{Word, CC, CO, SC, SO, groupCount, excepted, wordGroups}
 use Rattle.cell_library.specs.Sound.{SoundRow, SoundGroup, SoundGroups, SoundCell}
 use Rattle.cell_library.proofs.Laws.{cell-known, CO-observes, SO-observes}
 use Rattle.netlist.specs.Netlist.{Gate, Statement, gatesOf}
@@ -31,13 +31,13 @@ group-inside (g ∷ gs) zero r m = omega arith
 group-inside (g ∷ gs) (suc e) r m = omega (arith, group-inside gs e r m)
 
 -- A row of CO or SO names "observe the output".
-pub row-observes : (k : Kind) (i n : ℕ) (r : Row) → SoundRow (wordOf k (observing i)) n r → C.bit (r .columns) (C.bitOf n C.observe) ≡ true
-unfolding wordOf C.bitOf
-row-observes combinational i n r s = CO-observes n r (s .useful)
-row-observes sequential i n r s = SO-observes n r (s .useful)
+pub row-observes : (k : Kind) (i n : ℕ) (all : List Group) (r : Row) → SoundRow (wordOf k (observing i)) n all r → C.bit (r .columns) (C.bitOf n C.observe) ≡ true
+unfolding wordOf excepted C.bitOf
+row-observes combinational i n all r s = CO-observes n r (s .useful refl)
+row-observes sequential i n all r s = SO-observes n r (s .useful refl)
 
 -- What sums ask of a depth: that it is a figure.
-pub row-depth : {w : Word} {n : ℕ} {r : Row} → SoundRow w n r → r .depth ≤ most
+pub row-depth : {w : Word} {n : ℕ} {all : List Group} {r : Row} → SoundRow w n all r → r .depth ≤ most
 row-depth s = omega (arith, s .depth)
 
 -- The count of the groups of a role's word tells that the cell has the role.
@@ -94,16 +94,19 @@ module _ {cells : List Cell} {ss : List Statement} (sound : BothSound cells ss) 
     pub gate-groups : (w : Word) → SoundGroups w (cell .pins) (wordGroups w cell)
     gate-groups w = cell-known w cell gate-cell
 
-    -- The group of a role.
-    pub role-group : (k : Kind) (role : Role) → Has cell role → SoundGroup (wordOf k role) (cell .pins) (groupOf k cell role)
+    -- The groups of a role's line, and the one of the role.
+    abbrev pub lineGroups : Kind → Role → List Group
+    lineGroups k role = wordGroups (wordOf k role) cell
+
+    pub role-group : (k : Kind) (role : Role) → Has cell role → SoundGroup (wordOf k role) (cell .pins) (lineGroups k role) (groupOf k cell role)
     unfolding groupOf
     role-group k role h =
-        let gs : SoundGroups (wordOf k role) (cell .pins) (wordGroups (wordOf k role) cell) = gate-groups (wordOf k role) in
-        each-at (SoundGroup (wordOf k role) (cell .pins)) (wordGroups (wordOf k role) cell) (groupIndex role) []
+        let gs : SoundGroups (wordOf k role) (cell .pins) (lineGroups k role) = gate-groups (wordOf k role) in
+        each-at (SoundGroup (wordOf k role) (cell .pins) (lineGroups k role)) (lineGroups k role) (groupIndex role) []
         (rw (gs .count) (has-index k cell role h)) (gs .groups)
 
-    pub role-row : (k : Kind) (role : Role) → Has cell role → (r : Row) → List·Memᴰ r (groupOf k cell role) → SoundRow (wordOf k role) (cell .pins) r
-    role-row k role h r m = each-member (SoundRow (wordOf k role) (cell .pins)) m (role-group k role h .rows)
+    pub role-row : (k : Kind) (role : Role) → Has cell role → (r : Row) → List·Memᴰ r (groupOf k cell role) → SoundRow (wordOf k role) (cell .pins) (lineGroups k role) r
+    role-row k role h r m = each-member (SoundRow (wordOf k role) (cell .pins) (lineGroups k role)) m (role-group k role h .rows)
 
     -- "CC and SC have two groups (output to 0, output to 1)": a row of group e is one of value 0 or 1.
     pub row-value : (k : Kind) (e : ℕ) (r : Row) → List·Memᴰ r (groupOf k cell (setting e)) → Has cell (setting e)

@@ -15,8 +15,9 @@ use Rattle.plans.specs.System.{Way, Visit}
 use Rattle.plans.specs.Sweep.{at, Inside, Bounded, Visited, Above, Leads}
 use Rattle.plans.specs.Stages.{runStage, allVisits, Stages.ended, Stages.stage, Needed, Apart, Works, AllWork, AllWithin}
 use Rattle.plans.proofs.Laws.{never-above, renewing-works, leading-works, ranked-apart, stages-within, stages-once, stages-left}
-use Rattle.cell_library.specs.Cells.{Row, Cell, Column, pin, output}
+use Rattle.cell_library.specs.Cells.{Row, Group, Cell, Column, pin, output}
 use Rattle.cell_library.specs.Cells as C
+use Rattle.cell_library.specs.Library.{wordGroups}
 use Rattle.cell_library.specs.Sound.{SoundRow}
 use Rattle.netlist.specs.Netlist.{Gate, Statement, gatesOf, isInput}
 use Rattle.calculation.specs.Nodes.{Kind, combinational, sequential, kindNumber, set, observe, lineOf, costIndex, node}
@@ -280,9 +281,9 @@ module _ (cells : List Cell) (ss : List Statement) (sound : BothSound cells ss) 
 
   -- ---- CO and SO: every row leads through its gate's output
 
-  asks-output : (k : Kind) (c : Cell) (role : Role) (r : Row) → Observes c role → SoundRow (wordOf k role) (c .pins) r → List·Memᴰ C.observe (asks c role r)
-  asks-output k c (setting e) r h s = absurd h
-  asks-output k c (observing i) r h s = asks-observe c i r (row-observes k i (c .pins) r s)
+  asks-output : (k : Kind) (c : Cell) (role : Role) (all : List Group) (r : Row) → Observes c role → SoundRow (wordOf k role) (c .pins) all r → List·Memᴰ C.observe (asks c role r)
+  asks-output k c (setting e) all r h s = absurd h
+  asks-output k c (observing i) all r h s = asks-observe c i r (row-observes k i (c .pins) all r s)
 
   abbrev outputs : Kind → List ℕ
   outputs k = map (λ (g : Gate). node k (observe (g .line))) gs
@@ -294,7 +295,7 @@ module _ (cells : List Cell) (ss : List Statement) (sound : BothSound cells ss) 
         let c : Cell = cellOf cells (o .gate) in
         rw (offer-needs o)
         (Memᴰ·map (λ (d : Column). node k (asked (o .gate) d))
-        (asks-output k c (o .role) (o .row) (o .allowed)
+        (asks-output k c (o .role) (wordGroups (wordOf k (o .role)) c) (o .row) (o .allowed)
         (role-row sound (o .gate) (o .listed) k (o .role) (observes-has c (o .role) (o .allowed)) (o .row) (o .among))))
 
     leads-others : (m : ℕ) → List·Memᴰ m (w .needs) → (m ≡ node k (observe (o .gate .line))) ⊎ (Visited (observingVisits k cells gs) m → ⊥)

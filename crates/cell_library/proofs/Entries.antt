@@ -157,10 +157,10 @@ number-formed w n fs h e =
     (λ t. and-right s (rowsForm word (drop 1 fs)) (sym (row-formed w fs h) ∙ t))
     (λ t. let three : No.libraryForm ≡ 0 = rw t at e in absurd (omega arith))
 
-no-long : (w : Word) (n : ℕ) (gs : List Group) → Each (SoundGroup w n) gs → anyOf aboveRows gs ≡ false
+no-long : (w : Word) (n : ℕ) (all gs : List Group) → Each (SoundGroup w n all) gs → anyOf aboveRows gs ≡ false
 unfolding Each anyOf aboveRows
-no-long w n [] e = refl
-no-long w n (g ∷ gs) e = rw (le-ltb Size.rows (length g) (e .0 .most-rows)) (no-long w n gs (e .1))
+no-long w n all [] e = refl
+no-long w n all (g ∷ gs) e = rw (le-ltb Size.rows (length g) (e .0 .most-rows)) (no-long w n all gs (e .1))
 
 -- The groups of the word that an entry wants are still to come.
 without : (n : ℕ) (w : Word) (c : Cell) → SoundEntry n (wordLine w) c → withGroups w [] c ≡ c
@@ -185,7 +185,7 @@ module _ (n : ℕ) (cells : List Cell) (w : Word) (c : Cell) (fs : Fields) where
       let groups = rowLine-sound w (c .pins) n fs (groupsOf rows) (entry-line e) in
       let fits : length (groupsOf rows) ≤ space w = omega (arith, groups .count, within-space w (c .pins) (known .header .most-pins)) in
       ap (λ (x : Cell). stored (askedOf (length cells) w (c .pins)) nonePassed rows (countedWords (length cells) (cells ++ (x ∷ [])) ++ past)) (sym (without (length cells) w c known))
-      ∙ line-stored (length cells) cells w c past (known .space) rows (number-formed w (c .pins) fs some-field e) fits (no-long w (c .pins) (groupsOf rows) (groups .groups))
+      ∙ line-stored (length cells) cells w c past (known .space) rows (number-formed w (c .pins) fs some-field e) fits (no-long w (c .pins) (groupsOf rows) (groupsOf rows) (groups .groups))
 
 module _ (fs : Fields) (some-field : 0 < length fs) (r : Reading) (past : List ℕ) (n : ℕ) (s : State) (table : List ℕ) (shows : Shows r s table past) (at : AtWord (r .place)) where
   abbrev w : Word

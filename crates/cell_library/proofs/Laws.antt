@@ -9,19 +9,19 @@ use native.Mathlib.Nat.{mod-lt}
 use native.Mathlib.Omega.{arith}
 use lib.Dec.{leb, eqb}
 use lib.ListN.{length, length-append}
-use borrow.Author.Tests.{lt-ltb, le-ltb, ltb-false, leb-true, leb-false, eqb-true, not-false}
+use borrow.Author.Tests.{lt-ltb, le-ltb, ltb-false, leb-false, eqb-true, not-false}
 use Rattle.sizes.specs.Sizes as Size
 use Rattle.reading.specs.Choice.{pick}
 use Rattle.reading.specs.Each.{Each}
 use Rattle.reading.specs.Numbers as No
 use Rattle.reading.specs.Refusal.{refused, read, weigh, form}
-use Rattle.reading.proofs.Laws.{and-left, and-right, or-left, or-right, each-append, each-map, refused-read, bind-read, then-read, form-read, weigh-one}
+use Rattle.reading.proofs.Laws.{or-left, or-right, each-append, each-map, refused-read, bind-read, then-read, form-read, weigh-one}
 use Rattle.text.specs.Lines.{sameBytes, lines}
 use Rattle.text.specs.Numeral.{value}
 use Rattle.text.proofs.Laws.{nameForm-length}
 use Rattle.cell_library.specs.Cells.{Row, rowOf, Group, Cell, bit}
 use Rattle.cell_library.specs.Entry.{libraryEntry}
-use Rattle.cell_library.specs.Library.{Fields, isJoin, word, rowsForm, joinFirst, withRow, groupsOf, anyOf, aboveRows, above, observesNot, Word, CC, CO, SC, SO, wordBytes, groupCount, columnCount, idle, rowsAfter, rowLine, Header, nameAfter, endAfter, nameUsed, pinsBad, nameLine, wordLine, endLine, lineAfter, Place, outside, inside, Reading, begun, wordGroups, withGroups, libraryLine, libraryEnd, libraryFrom, library}
+use Rattle.cell_library.specs.Library.{Fields, isJoin, isZ, word, rowsForm, joinFirst, withRow, groupsOf, anyOf, aboveRows, above, observesNot, Word, CC, CO, SC, SO, wordBytes, groupCount, columnCount, idle, excepted, rowIdle, rowsAfter, rowLine, Header, nameAfter, endAfter, nameUsed, pinsBad, nameLine, wordLine, endLine, lineAfter, Place, outside, inside, Reading, begun, wordGroups, withGroups, libraryLine, libraryEnd, libraryFrom, library}
 use Rattle.cell_library.specs.Layout.{ShortName, FewPins, Fits}
 use Rattle.cell_library.specs.Sound.{SoundRow, SoundGroup, SoundGroups, SoundHeader, SoundCell, Sound, SoundEntry, SoundPlace, SoundReading}
 use Rattle.cell_library.proofs.Passes.{nameAfter-form}
@@ -34,13 +34,12 @@ weigh-three line i j k x y z u e =
 
 -- ---- the groups of a line
 
--- A group as its line wrote it: a row at least, each of depth 0 or 1.
+-- A group as its line wrote it: each row of depth 0 or 1.
 Shallow : Row → Type 0
 Shallow r = r .depth ≤ 1
 
-record Written (g : Group) : Type 0 where
-  some-row : 1 ≤ length g
-  shallow : Each Shallow g
+abbrev Written : Group → Type 0
+Written g = Each Shallow g
 
 row-shallow : (x : ℕ) → Shallow (rowOf x)
 unfolding rowOf Shallow
@@ -48,18 +47,20 @@ row-shallow x = omega (arith, mod-lt x {m = 2} (omega arith))
 
 withRow-written : (j : Bool) (r : Row) (gs : List Group) → Shallow r → Each Written gs → Each Written (withRow j r gs)
 unfolding withRow Each
-withRow-written false r gs s e = (record { some-row = omega arith; shallow = (s, tt) }, e)
-withRow-written true r [] s e = (record { some-row = omega arith; shallow = (s, tt) }, tt)
-withRow-written true r (g ∷ gs) s e = (record { some-row = omega arith; shallow = (s, e .0 .shallow) }, e .1)
+withRow-written false r gs s e = ((s, tt), e)
+withRow-written true r [] s e = ((s, tt), tt)
+withRow-written true r (g ∷ gs) s e = ((s, e .0), e .1)
 
 groups-written : (fs : Fields) → Each Written (groupsOf fs)
 unfolding groupsOf Each pick
 groups-written [] = tt
-groups-written (f ∷ fs) = step (groups-written fs) (isJoin f)
+groups-written (f ∷ fs) = step (groups-written fs) (isJoin f) (isZ f)
   where
-    step : Each Written (groupsOf fs) → (j : Bool) → Each Written (pick j (groupsOf fs) (withRow (joinFirst fs) (rowOf (value 8 0 f)) (groupsOf fs)))
-    step e true = e
-    step e false = withRow-written (joinFirst fs) (rowOf (value 8 0 f)) (groupsOf fs) (row-shallow (value 8 0 f)) e
+    step : Each Written (groupsOf fs) → (j z : Bool)
+        → Each Written (pick j (groupsOf fs) (pick z ([] ∷ groupsOf fs) (withRow (joinFirst fs) (rowOf (value 8 0 f)) (groupsOf fs))))
+    step e true z = e
+    step e false true = (tt, e)
+    step e false false = withRow-written (joinFirst fs) (rowOf (value 8 0 f)) (groupsOf fs) (row-shallow (value 8 0 f)) e
 
 pick-some : {A : Type 0} (t : Bool) (a b : A) → pick t (some a) none ≡ some b → (t ≡ true) × (a ≡ b)
 unfolding pick
@@ -73,42 +74,53 @@ rows-written w (f ∷ fs) gs e =
     let same : groupsOf fs ≡ gs = pick-some (sameBytes f (wordBytes w) && rowsForm word fs) (groupsOf fs) gs e .1 in
     rw same at (groups-written fs)
 
+-- Of two facts that are not both so, the second is not so where the first is.
+not-both : (x y : Bool) → (not x && y) ≡ false → x ≡ false → y ≡ false
+not-both x y e f = rw f at e
+
 module _ (w : Word) (n : ℕ) where
   abbrev high : Row → Bool
   high = above (columnCount w n)
 
-  rows-sound : (g : Group) → Each Shallow g → anyOf high g ≡ false → anyOf (idle w n) g ≡ false → Each (SoundRow w n) g
-  unfolding anyOf Each above Shallow
-  rows-sound [] s a i = tt
-  rows-sound (r ∷ g) s a i = (
-    record { depth = s .0; within = leb-false (2 ^ columnCount w n) (r .columns) (or-left (high r) (anyOf high g) a); useful = or-left (idle w n r) (anyOf (idle w n) g) i },
-    rows-sound g (s .1) (or-right (high r) (anyOf high g) a) (or-right (idle w n r) (anyOf (idle w n) g) i),
-  )
+  module _ (all : List Group) where
+    rows-sound : (g : Group) → Each Shallow g → anyOf high g ≡ false → (excepted w all ≡ false → anyOf (idle w n) g ≡ false) → Each (SoundRow w n all) g
+    unfolding anyOf Each above Shallow
+    rows-sound [] s a i = tt
+    rows-sound (r ∷ g) s a i = (
+      record {
+        depth = s .0;
+        within = leb-false (2 ^ columnCount w n) (r .columns) (or-left (high r) (anyOf high g) a);
+        useful = λ x. or-left (idle w n r) (anyOf (idle w n) g) (i x);
+      },
+      rows-sound g (s .1) (or-right (high r) (anyOf high g) a) (λ x. or-right (idle w n r) (anyOf (idle w n) g) (i x)),
+    )
 
-  groups-sound : (gs : List Group) → Each Written gs → anyOf aboveRows gs ≡ false → anyOf (anyOf high) gs ≡ false → anyOf (anyOf (idle w n)) gs ≡ false → Each (SoundGroup w n) gs
-  unfolding anyOf Each aboveRows
-  groups-sound [] s l a i = tt
-  groups-sound (g ∷ gs) s l a i =
-      let rows = rows-sound g (s .0 .shallow) (or-left (anyOf high g) (anyOf (anyOf high) gs) a) (or-left (anyOf (idle w n) g) (anyOf (anyOf (idle w n)) gs) i) in (
-        record { some-row = s .0 .some-row; most-rows = ltb-false Size.rows (length g) (or-left (aboveRows g) (anyOf aboveRows gs) l); rows = rows },
-        groups-sound gs (s .1) (or-right (aboveRows g) (anyOf aboveRows gs) l) (or-right (anyOf high g) (anyOf (anyOf high) gs) a) (or-right (anyOf (idle w n) g) (anyOf (anyOf (idle w n)) gs) i),
-      )
+    groups-sound : (gs : List Group) → Each Written gs → anyOf aboveRows gs ≡ false → anyOf (anyOf high) gs ≡ false
+        → (excepted w all ≡ false → anyOf (anyOf (idle w n)) gs ≡ false) → Each (SoundGroup w n all) gs
+    unfolding anyOf Each aboveRows
+    groups-sound [] s l a i = tt
+    groups-sound (g ∷ gs) s l a i =
+        let rows = rows-sound g (s .0) (or-left (anyOf high g) (anyOf (anyOf high) gs) a) (λ x. or-left (anyOf (idle w n) g) (anyOf (anyOf (idle w n)) gs) (i x)) in (
+          record { most-rows = ltb-false Size.rows (length g) (or-left (aboveRows g) (anyOf aboveRows gs) l); rows = rows },
+          groups-sound gs (s .1) (or-right (aboveRows g) (anyOf aboveRows gs) l) (or-right (anyOf high g) (anyOf (anyOf high) gs) a)
+              (λ x. or-right (anyOf (idle w n) g) (anyOf (anyOf (idle w n)) gs) (i x)),
+        )
 
   -- A row line that is read has the groups that its word and its cell ask for.
   pub rowLine-sound : (line : ℕ) (fs : Fields) (gs : List Group) → rowLine line w n fs ≡ read gs → SoundGroups w n gs
-  unfolding rowLine
+  unfolding rowLine rowIdle
   rowLine-sound line fs gs =
       bind-read (form No.libraryForm line (rowsAfter w fs)) _ gs
       (λ hs formed. then-read _ (read hs) gs
       (λ u weighed last.
       let same : hs ≡ gs = cc in
       let other = not (eqb (length hs) (groupCount w n)) in
-      let none = weigh-three line No.groupsBad No.bitAbove No.rowIdle (other || anyOf aboveRows hs) (anyOf (anyOf high) hs) (anyOf (anyOf (idle w n)) hs) u weighed in
+      let none = weigh-three line No.groupsBad No.bitAbove No.rowIdle (other || anyOf aboveRows hs) (anyOf (anyOf high) hs) (rowIdle w n hs) u weighed in
       let written = rows-written w fs hs (form-read No.libraryForm line (rowsAfter w fs) hs formed) in
       let found : SoundGroups w n hs =
       record {
         count = eqb-true (length hs) (groupCount w n) (not-false (eqb (length hs) (groupCount w n)) (or-left other (anyOf aboveRows hs) (none .0)));
-        groups = groups-sound hs written (or-right other (anyOf aboveRows hs) (none .0)) (none .1) (none .2);
+        groups = groups-sound hs hs written (or-right other (anyOf aboveRows hs) (none .0)) (none .1) (not-both (excepted w hs) (anyOf (anyOf (idle w n)) hs) (none .2));
       } in
       rw same at found))
 
@@ -123,12 +135,10 @@ nameLine-sound line cells fs h =
     (λ u weighed last.
     let same : g ≡ h = cc in
     let none = weigh-three line No.nameUsed No.pinsBad No.cellsMany (nameUsed (g .name) cells) (pinsBad (g .pins)) (leb Size.cells (length cells)) u weighed in
-    let pins = not-false (leb 1 (g .pins) && leb (g .pins) Size.pins) (none .1) in
     let header : SoundHeader (g .name) (g .pins) =
     record {
       form = nameAfter-form fs g (form-read No.libraryForm line (nameAfter fs) g formed);
-      some-pin = leb-true 1 (g .pins) (and-left (leb 1 (g .pins)) (leb (g .pins) Size.pins) pins);
-      most-pins = leb-true (g .pins) Size.pins (and-right (leb 1 (g .pins)) (leb (g .pins) Size.pins) pins);
+      most-pins = ltb-false Size.pins (g .pins) (none .1);
     } in
     (rw same at header, leb-false Size.cells (length cells) (none .2))))
 

@@ -23,9 +23,9 @@ use Rattle.reading.specs.Refusal.{refused, read, _>>=_, _>>_, weigh, form}
 use Rattle.reading.proofs.Laws.{by-test, clash, and-left, and-right, or-left, or-right}
 use Rattle.text.proofs.Laws.{numeral-good, numeral-bad, fieldsFrom-step, fieldsFrom-end}
 use Rattle.cell_library.specs.Cells.{Row, rowOf, Group, Cell, bit}
-use Rattle.cell_library.specs.Library.{Fields, holds, isRow, isJoin, Before, word, row, join, mayJoin, mayEnd, rowsForm, joinFirst, withRow, groupsOf, anyOf, aboveRows, above, namesNone, observesNot, Word, CC, CO, SC, SO, wordBytes, groupCount, columnCount, idle, rowsAfter, rowLine, Header, headerOf, nameAfter, endAfter, cellNamed, nameUsed, pinsBad, nameLine}
+use Rattle.cell_library.specs.Library.{Fields, holds, isRow, isJoin, isZ, Before, word, row, join, mayJoin, mayEnd, rowsForm, joinFirst, withRow, groupsOf, anyOf, aboveRows, above, namesNone, observesNot, Word, CC, CO, SC, SO, wordBytes, groupCount, columnCount, idle, noRow, excepted, rowIdle, rowsAfter, rowLine, Header, headerOf, nameAfter, endAfter, cellNamed, nameUsed, pinsBad, nameLine}
 use Rattle.cell_library.specs.Layout.{LibraryHolds}
-use Rattle.cell_library.specs.Passes.{orZero, rowValue, leastColumns, askedOf, noColumns, nonePassed, marked, opened, groupFor, rowAdded, fieldPassed, passed, fieldStored, stored, numberOf, Small, RowsRead, wordAt, setting, rowNumber, pinsIn, headerNumber, endFormed}
+use Rattle.cell_library.specs.Passes.{orZero, rowValue, leastColumns, askedOf, noColumns, nonePassed, marked, opened, groupFor, rowAdded, rowlessAdded, fieldPassed, passed, fieldStored, stored, numberOf, Small, RowsRead, wordAt, setting, rowNumber, pinsIn, headerNumber, endFormed}
 use Rattle.cell_library.specs.declared.rows.Asked.{Asked}
 use Rattle.cell_library.specs.declared.rows.Passed.{Passed}
 use Rattle.cell_library.proofs.Names.{holds-count, holds-find}
@@ -63,22 +63,35 @@ module _ (b : Before) (f : List ℕ) (fs : Fields) where
       let both : (mayJoin b && rowsForm join fs) ≡ true = rw e at h in
       (and-left (mayJoin b) (rowsForm join fs) both, and-right (mayJoin b) (rowsForm join fs) both)
 
-  pub form-row : isJoin f ≡ false → rowsForm b (f ∷ fs) ≡ true → (isRow f ≡ true) × (rowsForm row fs ≡ true)
+  pub form-rowless : isJoin f ≡ false → isZ f ≡ true → rowsForm b (f ∷ fs) ≡ true → (mayEnd b ≡ true) × (rowsForm word fs ≡ true)
   unfolding rowsForm pick
-  form-row e h =
-      let both : (isRow f && rowsForm row fs) ≡ true = rw e at h in
+  form-rowless e z h =
+      let both : (mayEnd b && rowsForm word fs) ≡ true = rw (e, z) at h in
+      (and-left (mayEnd b) (rowsForm word fs) both, and-right (mayEnd b) (rowsForm word fs) both)
+
+  pub form-row : isJoin f ≡ false → isZ f ≡ false → rowsForm b (f ∷ fs) ≡ true → (isRow f ≡ true) × (rowsForm row fs ≡ true)
+  unfolding rowsForm pick
+  form-row e z h =
+      let both : (isRow f && rowsForm row fs) ≡ true = rw (e, z) at h in
       (and-left (isRow f) (rowsForm row fs) both, and-right (isRow f) (rowsForm row fs) both)
 
 -- ---- the groups, from the left
 
--- The groups of a line from where `done` are whole and `part` is open, with or without an M just passed.
-unfoldable pub gather : List Group → Group → Bool → Fields → List Group
-gather done part joined [] = done ++ (part ∷ [])
-gather done part joined (f ∷ fs) =
-    pick (isJoin f) (gather done part true fs)
-    (pick joined
-    (gather done (part ++ (rowOf (rowValue f) ∷ [])) false fs)
-    (gather (done ++ (part ∷ [])) (rowOf (rowValue f) ∷ []) false fs))
+-- Whether the next row goes into the open group.
+unfoldable pub joined : Before → Bool
+joined word = false
+joined row = false
+joined join = true
+
+-- The groups of a line from where `done` are whole and `part` is open, behind what was just passed.
+unfoldable pub gather : List Group → Group → Before → Fields → List Group
+gather done part b [] = done ++ (part ∷ [])
+gather done part b (f ∷ fs) =
+    pick (isJoin f) (gather done part join fs)
+    (pick (isZ f) (gather (done ++ (part ∷ [])) [] word fs)
+    (pick (joined b)
+    (gather done (part ++ (rowOf (rowValue f) ∷ [])) row fs)
+    (gather (done ++ (part ∷ [])) (rowOf (rowValue f) ∷ []) row fs)))
 
 -- Rows in front of the first group.
 prepend : Group → List Group → List Group
@@ -97,50 +110,98 @@ single-row r false gs = refl
 single-row r true [] = refl
 single-row r true (g ∷ gs) = refl
 
--- What stands before a field, where it is known whether an M does.
-unfoldable pub lastOf : Bool → Before
-lastOf true = join
-lastOf false = row
-
 -- What the fields still to come make of the open group.
-ahead : Bool → Group → Fields → List Group
-ahead true part fs = prepend part (groupsOf fs)
-ahead false part fs = pick (joinFirst fs) (prepend part (groupsOf fs)) (part ∷ groupsOf fs)
+ahead : Before → Group → Fields → List Group
+ahead word part fs = part ∷ groupsOf fs
+ahead row part fs = pick (joinFirst fs) (prepend part (groupsOf fs)) (part ∷ groupsOf fs)
+ahead join part fs = prepend part (groupsOf fs)
 
-module _ (f : List ℕ) (fs : Fields) (rest : (done : List Group) (part : Group) (j : Bool) → rowsForm (lastOf j) fs ≡ true → gather done part j fs ≡ done ++ ahead j part fs) where
-  gather-row : (done : List Group) (part : Group) (j : Bool) → rowsForm (lastOf j) (f ∷ fs) ≡ true → isJoin f ≡ false → gather done part j (f ∷ fs) ≡ done ++ ahead j part (f ∷ fs)
-  unfolding gather ahead lastOf groupsOf joinFirst pick
-  gather-row done part true h e =
-      let good = form-row join f fs e h in
-      rw (e, row-value f (good .0), prepend-row part (rowOf (value 8 0 f)) (joinFirst fs) (groupsOf fs)) (rest done (part ++ (rowOf (value 8 0 f) ∷ [])) false (good .1))
-  gather-row done part false h e =
-      let good = form-row row f fs e h in
-      rw (e, row-value f (good .0))
-      (rest (done ++ (part ∷ [])) (rowOf (value 8 0 f) ∷ []) false (good .1)
-      ∙ append-assoc done (part ∷ []) (ahead false (rowOf (value 8 0 f) ∷ []) fs)
-      ∙ ap (λ (x : List Group). done ++ (part ∷ x)) (single-row (rowOf (value 8 0 f)) (joinFirst fs) (groupsOf fs)))
+-- What is no M leaves the open group as it is, unless an M stands before it.
+ahead-new : (b : Before) (part : Group) (f : List ℕ) (fs : Fields) → joined b ≡ false → isJoin f ≡ false → ahead b part (f ∷ fs) ≡ part ∷ groupsOf (f ∷ fs)
+unfolding ahead joined joinFirst pick
+ahead-new word part f fs j e = refl
+ahead-new row part f fs j e = rw e
+ahead-new join part f fs j e = clash true refl j
 
-  gather-join : (done : List Group) (part : Group) (j : Bool) → rowsForm (lastOf j) (f ∷ fs) ≡ true → isJoin f ≡ true → gather done part j (f ∷ fs) ≡ done ++ ahead j part (f ∷ fs)
-  unfolding gather ahead lastOf groupsOf joinFirst pick mayJoin
-  gather-join done part true h e = clash false (form-join join f fs e h .0) refl
-  gather-join done part false h e = rw e (rest done part true (form-join row f fs e h .1))
+-- An M, a Z, or what is neither.
+pub by-field : {A : Type 0} (f : List ℕ) → (isJoin f ≡ true → A) → (isJoin f ≡ false → isZ f ≡ true → A) → (isJoin f ≡ false → isZ f ≡ false → A) → A
+by-field f m z r = by-test (isJoin f) m (λ e. by-test (isZ f) (z e) (r e))
 
-gather-ahead : (done : List Group) (part : Group) (j : Bool) (fs : Fields) → rowsForm (lastOf j) fs ≡ true → gather done part j fs ≡ done ++ ahead j part fs
-unfolding gather ahead lastOf rowsForm mayEnd joinFirst groupsOf pick
-gather-ahead done part true [] h = clash false h refl
-gather-ahead done part false [] h = refl
-gather-ahead done part j (f ∷ fs) h =
-    by-test (isJoin f)
-    (gather-join f fs (λ d p i g. gather-ahead d p i fs g) done part j h)
-    (gather-row f fs (λ d p i g. gather-ahead d p i fs g) done part j h)
+pub may-joined : (b : Before) → mayEnd b ≡ true → joined b ≡ false
+unfolding mayEnd joined
+may-joined word h = refl
+may-joined row h = refl
+may-joined join h = clash false h refl
 
--- The groups of a line that has the form, from its first row.
-pub gather-first : (f : List ℕ) (fs : Fields) → isJoin f ≡ false → rowsForm word (f ∷ fs) ≡ true → gather [] (rowOf (rowValue f) ∷ []) false fs ≡ groupsOf (f ∷ fs)
-unfolding groupsOf ahead pick lastOf
-gather-first f fs e h =
-    let good = form-row word f fs e h in
-    rw (e, row-value f (good .0))
-    (gather-ahead [] (rowOf (value 8 0 f) ∷ []) false fs (good .1) ∙ single-row (rowOf (value 8 0 f)) (joinFirst fs) (groupsOf fs))
+-- What a field makes of the groups behind it: a group of no row, of one row, or one row more of the open one.
+rowless-ahead : (f : List ℕ) (fs : Fields) → isJoin f ≡ false → isZ f ≡ true → ahead word [] fs ≡ groupsOf (f ∷ fs)
+unfolding ahead groupsOf pick
+rowless-ahead f fs e z = rw (e, z)
+
+row-ahead : (f : List ℕ) (fs : Fields) → isJoin f ≡ false → isZ f ≡ false → isRow f ≡ true → ahead row (rowOf (rowValue f) ∷ []) fs ≡ groupsOf (f ∷ fs)
+unfolding ahead groupsOf pick
+row-ahead f fs e z i = rw (e, z, row-value f i) (single-row (rowOf (value 8 0 f)) (joinFirst fs) (groupsOf fs))
+
+more-ahead : (b : Before) (part : Group) (f : List ℕ) (fs : Fields) → joined b ≡ true → isJoin f ≡ false → isZ f ≡ false → isRow f ≡ true
+    → ahead row (part ++ (rowOf (rowValue f) ∷ [])) fs ≡ ahead b part (f ∷ fs)
+unfolding ahead groupsOf joined pick
+more-ahead word part f fs j e z i = clash false j refl
+more-ahead row part f fs j e z i = clash false j refl
+more-ahead join part f fs j e z i = rw (e, z, row-value f i) (sym (prepend-row part (rowOf (value 8 0 f)) (joinFirst fs) (groupsOf fs)))
+
+module _ (f : List ℕ) (fs : Fields) (rest : (done : List Group) (part : Group) (b : Before) → rowsForm b fs ≡ true → gather done part b fs ≡ done ++ ahead b part fs)
+    (done : List Group) (part : Group) (b : Before) (h : rowsForm b (f ∷ fs) ≡ true) where
+  gather-join : isJoin f ≡ true → gather done part b (f ∷ fs) ≡ done ++ ahead b part (f ∷ fs)
+  unfolding gather ahead groupsOf joinFirst pick mayJoin
+  gather-join e = go b (form-join b f fs e h .0)
+    where
+      go : (b : Before) → mayJoin b ≡ true → gather done part b (f ∷ fs) ≡ done ++ ahead b part (f ∷ fs)
+      go word m = clash false m refl
+      go row m = rw e (rest done part join (form-join b f fs e h .1))
+      go join m = clash false m refl
+
+  -- A group behind the open one.
+  gather-new : joined b ≡ false → isJoin f ≡ false → (c : Before) (g : Group) → rowsForm c fs ≡ true → ahead c g fs ≡ groupsOf (f ∷ fs)
+      → gather (done ++ (part ∷ [])) g c fs ≡ done ++ ahead b part (f ∷ fs)
+  gather-new j e c g k same =
+      rest (done ++ (part ∷ [])) g c k
+      ∙ append-assoc done (part ∷ []) (ahead c g fs)
+      ∙ ap (λ (x : List Group). done ++ (part ∷ x)) same
+      ∙ ap (λ (x : List Group). done ++ x) (sym (ahead-new b part f fs j e))
+
+  gather-rowless : isJoin f ≡ false → isZ f ≡ true → gather done part b (f ∷ fs) ≡ done ++ ahead b part (f ∷ fs)
+  unfolding gather pick
+  gather-rowless e z =
+      let good = form-rowless b f fs e z h in
+      rw (e, z) (gather-new (may-joined b (good .0)) e word [] (good .1) (rowless-ahead f fs e z))
+
+  gather-row : isJoin f ≡ false → isZ f ≡ false → gather done part b (f ∷ fs) ≡ done ++ ahead b part (f ∷ fs)
+  unfolding gather pick
+  gather-row e z =
+      let good = form-row b f fs e z h in
+      by-test (joined b)
+      (λ j. rw (e, z, j) (rest done (part ++ (rowOf (rowValue f) ∷ [])) row (good .1) ∙ ap (λ (x : List Group). done ++ x) (more-ahead b part f fs j e z (good .0))))
+      (λ j. rw (e, z, j) (gather-new j e row (rowOf (rowValue f) ∷ []) (good .1) (row-ahead f fs e z (good .0))))
+
+gather-ahead : (done : List Group) (part : Group) (b : Before) (fs : Fields) → rowsForm b fs ≡ true → gather done part b fs ≡ done ++ ahead b part fs
+unfolding gather ahead rowsForm mayEnd joinFirst groupsOf pick
+gather-ahead done part word [] h = refl
+gather-ahead done part row [] h = refl
+gather-ahead done part join [] h = clash false h refl
+gather-ahead done part b (f ∷ fs) h =
+    by-field f
+    (gather-join f fs (λ d p c g. gather-ahead d p c fs g) done part b h)
+    (gather-rowless f fs (λ d p c g. gather-ahead d p c fs g) done part b h)
+    (gather-row f fs (λ d p c g. gather-ahead d p c fs g) done part b h)
+
+-- The groups of a line that has the form, from its first group: a Z, or a row.
+pub rowless-first : (f : List ℕ) (fs : Fields) → isJoin f ≡ false → isZ f ≡ true → rowsForm word (f ∷ fs) ≡ true → gather [] [] word fs ≡ groupsOf (f ∷ fs)
+rowless-first f fs e z h = gather-ahead [] [] word fs (form-rowless word f fs e z h .1) ∙ rowless-ahead f fs e z
+
+pub gather-first : (f : List ℕ) (fs : Fields) → isJoin f ≡ false → isZ f ≡ false → rowsForm word (f ∷ fs) ≡ true → gather [] (rowOf (rowValue f) ∷ []) row fs ≡ groupsOf (f ∷ fs)
+gather-first f fs e z h =
+    let good = form-row word f fs e z h in
+    gather-ahead [] (rowOf (rowValue f) ∷ []) row fs (good .1) ∙ row-ahead f fs e z (good .0)
 
 pub word-first : (f : List ℕ) (fs : Fields) → rowsForm word (f ∷ fs) ≡ true → isJoin f ≡ false
 unfolding mayJoin
@@ -261,6 +322,28 @@ longest-row done part r =
     over-last longer 0 done (part ++ (r ∷ []))
     ∙ rw (length-append part (r ∷ []), over-last longer 0 done part) (omega arith)
 
+-- A group of no row behind the others.
+over-none : (f : ℕ → Row → ℕ) (n : ℕ) (gs : List Group) → over (over f) n (gs ++ ([] ∷ [])) ≡ over (over f) n gs
+unfolding over
+over-none f n gs = over-last (over f) n gs []
+
+longest-none : (gs : List Group) → longestOf (gs ++ ([] ∷ [])) ≡ longestOf gs
+unfolding longestOf longer
+longest-none gs = over-last longer 0 gs [] ∙ omega arith
+
+-- Whether a group has no row: a new one has none or a row, and a row more changes nothing where there was one.
+none-new : (gs : List Group) → anyOf noRow (gs ++ ([] ∷ [])) ≡ true
+unfolding anyOf noRow
+none-new gs = any-append noRow gs ([] ∷ []) ∙ or-true (anyOf noRow gs)
+
+none-row : (gs : List Group) (g : Group) → noRow g ≡ false → anyOf noRow (gs ++ (g ∷ [])) ≡ anyOf noRow gs
+unfolding anyOf
+none-row gs g e = any-append noRow gs (g ∷ []) ∙ rw e (or-false (anyOf noRow gs))
+
+pub row-some : (part : Group) (r : Row) → noRow (part ++ (r ∷ [])) ≡ false
+unfolding noRow
+row-some part r = ne-eqb (length (part ++ (r ∷ []))) 0 (λ e. omega (arith, length-append part (r ∷ [])))
+
 longest-new : (gs : List Group) (r : Row) → longestOf (gs ++ ((r ∷ []) ∷ [])) ≡ max (longestOf gs) 1
 unfolding longestOf longer
 longest-new gs r = over-last longer 0 gs (r ∷ [])
@@ -313,6 +396,11 @@ either-bad true m r = refl
 either-bad false true r = refl
 either-bad false false r = refl
 
+either-joined : (x y r : Bool) → ((x || y) || not r) ≡ (x || not (not y && r))
+either-joined true y r = refl
+either-joined false true r = refl
+either-joined false false r = refl
+
 group-bad : (a : Asked) (p : Passed) → (groupFor a p) .bad ≡ p .bad
 unfolding groupFor opened pick
 group-bad a p = go (eqb (p .before) 2)
@@ -327,122 +415,191 @@ module _ (a : Asked) where
 
   -- A field is out of place, or the last one is an M, just where the line does not have the form.
   form-passed : (fs : Fields) (p : Passed) → ends (passed a p fs) ≡ (p .bad || not (rowsForm (beforeOf (p .before)) fs))
-  unfolding passed fieldPassed rowsForm pick marked rowAdded beforeOf
+  unfolding passed fieldPassed rowsForm pick marked rowAdded rowlessAdded beforeOf
   form-passed [] p = rw (may-end (p .before)) (ap (λ (t : Bool). p .bad || t) (twice-not (eqb (p .before) 2)))
     where
       twice-not : (t : Bool) → t ≡ not (not t)
       twice-not true = refl
       twice-not false = refl
-  form-passed (f ∷ fs) p = form-passed fs (fieldPassed a p f) ∙ step (isJoin f) (isRow f)
+  form-passed (f ∷ fs) p = form-passed fs (fieldPassed a p f) ∙ step (isJoin f) (isZ f) (isRow f)
     where
-      step : (j i : Bool)
-          → let q = pick j (marked p 2 (p .bad || not (eqb (p .before) 1))) (pick i (rowAdded (groupFor a p) (rowValue f)) (marked p (p .before) true)) in
+      step : (j z i : Bool)
+          → let q =
+          pick j (marked p 2 (p .bad || not (eqb (p .before) 1)))
+          (pick z (rowlessAdded a p) (pick i (rowAdded (groupFor a p) (rowValue f)) (marked p (p .before) true))) in
           (q .bad || not (rowsForm (beforeOf (q .before)) fs))
-          ≡ (p .bad || not (pick j (mayJoin (beforeOf (p .before)) && rowsForm join fs) (i && rowsForm row fs)))
-      step true i = rw (may-join (p .before)) (either-bad (p .bad) (eqb (p .before) 1) (rowsForm join fs))
-      step false true = rw (group-bad a p)
-      step false false = sym (or-true (p .bad))
+          ≡ (p .bad || not (pick j (mayJoin (beforeOf (p .before)) && rowsForm join fs)
+          (pick z (mayEnd (beforeOf (p .before)) && rowsForm word fs) (i && rowsForm row fs))))
+      step true z i = rw (may-join (p .before)) (either-bad (p .bad) (eqb (p .before) 1) (rowsForm join fs))
+      step false true i = rw (may-end (p .before)) (either-joined (p .bad) (eqb (p .before) 2) (rowsForm word fs))
+      step false false true = rw (group-bad a p)
+      step false false false = sym (or-true (p .bad))
 
 -- ---- the walk: groups
 
+-- The number of what stands before a field, and whether the open group is one without rows.
+unfoldable pub beforeNumber : Before → ℕ
+beforeNumber word = 0
+beforeNumber row = 1
+beforeNumber join = 2
+
+unfoldable pub closed : Before → Bool
+closed word = true
+closed row = false
+closed join = false
+
+joined-closed : (b : Before) → joined b ≡ true → closed b ≡ false
+unfolding joined closed
+joined-closed word h = clash false h refl
+joined-closed row h = refl
+joined-closed join h = refl
+
+pub joined-number : (b : Before) → eqb (beforeNumber b) 2 ≡ joined b
+unfolding joined beforeNumber
+joined-number word = refl
+joined-number row = refl
+joined-number join = refl
+
 module _ (a : Asked) where
-  -- What is passed where `done` are whole, `part` is open, and an M was just passed or not.
-  abbrev pub shown : List Group → Group → Bool → Passed
-  shown done part j =
+  -- What is passed where `done` are whole, `part` is open, behind what was just passed.
+  abbrev pub shown : List Group → Group → Before → Passed
+  shown done part b =
       record {
-        before = pick j 2 1;
+        before = beforeNumber b;
         groups = length done + 1;
         rows = length part;
         place = a .place + length done * Size.groupWords;
         bad = false;
+        rowless = anyOf noRow (done ++ (part ∷ []));
         longest = longestOf (done ++ (part ∷ []));
         most = mostOf (done ++ (part ∷ []));
         least = leastOf (done ++ (part ∷ []));
       }
 
+  rowless-shown : rowlessAdded a nonePassed ≡ shown [] [] word
+  unfolding rowlessAdded beforeNumber anyOf noRow longestOf mostOf leastOf over longer higher deeper
+  rowless-shown = refl
+
+  shown-rowless : (done : List Group) (part : Group) (b : Before) → joined b ≡ false → rowlessAdded a (shown done part b) ≡ shown (done ++ (part ∷ [])) [] word
+  unfolding rowlessAdded mostOf leastOf beforeNumber
+  shown-rowless done part b j =
+      let gs = done ++ (part ∷ []) in
+      rw (joined-number b, j, length-append done (part ∷ []), none-new gs, longest-none gs, over-none higher 0 gs, over-none deeper noColumns gs)
+
   module _ (x : ℕ) where
-    shown-first : rowAdded (opened a nonePassed) x ≡ shown [] (rowOf x ∷ []) false
-    unfolding rowAdded opened rowOf pick longestOf mostOf leastOf over longer higher deeper
+    shown-first : rowAdded (opened a nonePassed) x ≡ shown [] (rowOf x ∷ []) row
+    unfolding rowAdded opened rowOf beforeNumber anyOf noRow longestOf mostOf leastOf over longer higher deeper
     shown-first = refl
 
-    shown-more : (done : List Group) (part : Group) → rowAdded (shown done part true) x ≡ shown done (part ++ (rowOf x ∷ [])) false
-    unfolding rowAdded rowOf pick mostOf leastOf higher deeper
-    shown-more done part =
+    shown-more : (done : List Group) (part : Group) (b : Before) → noRow part ≡ false → rowAdded (shown done part b) x ≡ shown done (part ++ (rowOf x ∷ [])) row
+    unfolding rowAdded rowOf beforeNumber mostOf leastOf higher deeper
+    shown-more done part b some-row =
         rw
-        (length-append part (rowOf x ∷ []), longest-row done part (rowOf x), over-row higher 0 done part (rowOf x), over-row deeper noColumns done part (rowOf x))
+        (length-append part (rowOf x ∷ []), none-row done part some-row, none-row done (part ++ (rowOf x ∷ [])) (row-some part (rowOf x)), longest-row done part (rowOf x), over-row higher 0 done part (rowOf x), over-row deeper noColumns done part (rowOf x))
 
-    shown-new : (done : List Group) (part : Group) → rowAdded (opened a (shown done part false)) x ≡ shown (done ++ (part ∷ [])) (rowOf x ∷ []) false
-    unfolding rowAdded opened rowOf pick mostOf leastOf higher deeper
-    shown-new done part =
+    shown-new : (done : List Group) (part : Group) (b : Before) → rowAdded (opened a (shown done part b)) x ≡ shown (done ++ (part ∷ [])) (rowOf x ∷ []) row
+    unfolding rowAdded opened rowOf beforeNumber mostOf leastOf higher deeper
+    shown-new done part b =
+        let gs = done ++ (part ∷ []) in
         rw
-        (length-append done (part ∷ []), longest-new (done ++ (part ∷ [])) (rowOf x), over-new higher 0 (done ++ (part ∷ [])) (rowOf x), over-new deeper noColumns (done ++ (part ∷ [])) (rowOf x))
+        (length-append done (part ∷ []), none-row gs (rowOf x ∷ []) (row-some [] (rowOf x)), longest-new gs (rowOf x), over-new higher 0 gs (rowOf x), over-new deeper noColumns gs (rowOf x))
 
   -- What each field makes of it.
   module _ (f : List ℕ) (done : List Group) (part : Group) where
-    pub join-passed : isJoin f ≡ true → fieldPassed a (shown done part false) f ≡ shown done part true
-    unfolding fieldPassed marked pick
+    pub join-passed : isJoin f ≡ true → fieldPassed a (shown done part row) f ≡ shown done part join
+    unfolding fieldPassed marked beforeNumber pick
     join-passed e = rw e
 
-    pub more-passed : isJoin f ≡ false → isRow f ≡ true → fieldPassed a (shown done part true) f ≡ shown done (part ++ (rowOf (rowValue f) ∷ [])) false
-    unfolding fieldPassed groupFor pick
-    more-passed e g = rw (e, g) (shown-more (rowValue f) done part)
+    module _ (b : Before) (e : isJoin f ≡ false) where
+      pub rowless-passed : isZ f ≡ true → joined b ≡ false → fieldPassed a (shown done part b) f ≡ shown (done ++ (part ∷ [])) [] word
+      unfolding fieldPassed pick
+      rowless-passed z j = rw (e, z) (shown-rowless done part b j)
 
-    pub new-passed : isJoin f ≡ false → isRow f ≡ true → fieldPassed a (shown done part false) f ≡ shown (done ++ (part ∷ [])) (rowOf (rowValue f) ∷ []) false
-    unfolding fieldPassed groupFor pick
-    new-passed e g = rw (e, g) (shown-new (rowValue f) done part)
+      pub more-passed : isZ f ≡ false → isRow f ≡ true → noRow part ≡ closed b → joined b ≡ true → fieldPassed a (shown done part b) f ≡ shown done (part ++ (rowOf (rowValue f) ∷ [])) row
+      unfolding fieldPassed groupFor pick
+      more-passed z g k j = rw (e, z, g, joined-number b, j) (shown-more (rowValue f) done part b (k ∙ joined-closed b j))
 
-  pub first-passed : (f : List ℕ) → isJoin f ≡ false → isRow f ≡ true → fieldPassed a nonePassed f ≡ shown [] (rowOf (rowValue f) ∷ []) false
-  unfolding fieldPassed groupFor pick
-  first-passed f e g = rw (e, g) (shown-first (rowValue f))
+      pub new-passed : isZ f ≡ false → isRow f ≡ true → joined b ≡ false → fieldPassed a (shown done part b) f ≡ shown (done ++ (part ∷ [])) (rowOf (rowValue f) ∷ []) row
+      unfolding fieldPassed groupFor pick
+      new-passed z g j = rw (e, z, g, joined-number b, j) (shown-new (rowValue f) done part b)
+
+  module _ (f : List ℕ) (e : isJoin f ≡ false) where
+    pub none-passed : isZ f ≡ true → fieldPassed a nonePassed f ≡ shown [] [] word
+    unfolding fieldPassed pick
+    none-passed z = rw (e, z) rowless-shown
+
+    pub first-passed : isZ f ≡ false → isRow f ≡ true → fieldPassed a nonePassed f ≡ shown [] (rowOf (rowValue f) ∷ []) row
+    unfolding fieldPassed groupFor pick
+    first-passed z g = rw (e, z, g) (shown-first (rowValue f))
 
   -- The numbers behind 3, of what is passed, and of groups.
   abbrev lower : Passed → ℕ
   lower p =
       pick (not (eqb (p .groups) (a .groups)) || ltb Size.rows (p .longest)) No.groupsBad
       (pick (leb (a .limit) (p .most)) No.bitAbove
-      (pick (ltb (p .least) (a .least)) No.rowIdle 0))
+      (pick (not (a .excepts && p .rowless) && ltb (p .least) (a .least)) No.rowIdle 0))
 
   abbrev weights : List Group → ℕ
   weights gs =
       pick (not (eqb (length gs) (a .groups)) || ltb Size.rows (longestOf gs)) No.groupsBad
       (pick (leb (a .limit) (mostOf gs)) No.bitAbove
-      (pick (ltb (leastOf gs) (a .least)) No.rowIdle 0))
+      (pick (not (a .excepts && anyOf noRow gs) && ltb (leastOf gs) (a .least)) No.rowIdle 0))
 
-  module _ (f : List ℕ) (fs : Fields) (rest : (done : List Group) (part : Group) (j : Bool) → rowsForm (lastOf j) fs ≡ true → lower (passed a (shown done part j) fs) ≡ weights (gather done part j fs))
-      (done : List Group) (part : Group) where
+  module _ (f : List ℕ) (fs : Fields)
+      (rest : (done : List Group) (part : Group) (b : Before) → noRow part ≡ closed b → rowsForm b fs ≡ true → lower (passed a (shown done part b) fs) ≡ weights (gather done part b fs))
+      (done : List Group) (part : Group) (b : Before) (k : noRow part ≡ closed b) (h : rowsForm b (f ∷ fs) ≡ true) where
     walked : {p q : Passed} → p ≡ q → lower (passed a p fs) ≡ lower (passed a q fs)
     walked e = ap (λ (q : Passed). lower (passed a q fs)) e
 
-    lower-join : (j : Bool) → rowsForm (lastOf j) (f ∷ fs) ≡ true → isJoin f ≡ true → lower (passed a (shown done part j) (f ∷ fs)) ≡ weights (gather done part j (f ∷ fs))
-    unfolding passed gather pick lastOf mayJoin
-    lower-join true h e = clash false (form-join join f fs e h .0) refl
-    lower-join false h e = rw e (walked (join-passed f done part e) ∙ rest done part true (form-join row f fs e h .1))
+    lower-join : isJoin f ≡ true → lower (passed a (shown done part b) (f ∷ fs)) ≡ weights (gather done part b (f ∷ fs))
+    unfolding passed gather pick mayJoin closed
+    lower-join e = go b k (form-join b f fs e h .0)
+      where
+        go : (b : Before) → noRow part ≡ closed b → mayJoin b ≡ true → lower (passed a (shown done part b) (f ∷ fs)) ≡ weights (gather done part b (f ∷ fs))
+        go word k m = clash false m refl
+        go row k m = rw e (walked (join-passed f done part e) ∙ rest done part join k (form-join b f fs e h .1))
+        go join k m = clash false m refl
 
-    lower-row : (j : Bool) → rowsForm (lastOf j) (f ∷ fs) ≡ true → isJoin f ≡ false → lower (passed a (shown done part j) (f ∷ fs)) ≡ weights (gather done part j (f ∷ fs))
-    unfolding passed gather pick lastOf
-    lower-row true h e =
-        let good = form-row join f fs e h in
-        rw e (walked (more-passed f done part e (good .0)) ∙ rest done (part ++ (rowOf (rowValue f) ∷ [])) false (good .1))
-    lower-row false h e =
-        let good = form-row row f fs e h in
-        rw e (walked (new-passed f done part e (good .0)) ∙ rest (done ++ (part ∷ [])) (rowOf (rowValue f) ∷ []) false (good .1))
+    lower-rowless : isJoin f ≡ false → isZ f ≡ true → lower (passed a (shown done part b) (f ∷ fs)) ≡ weights (gather done part b (f ∷ fs))
+    unfolding passed gather pick noRow closed
+    lower-rowless e z =
+        let good = form-rowless b f fs e z h in
+        rw (e, z) (walked (rowless-passed f done part b e z (may-joined b (good .0))) ∙ rest (done ++ (part ∷ [])) [] word refl (good .1))
 
-  lower-gather : (fs : Fields) (done : List Group) (part : Group) (j : Bool) → rowsForm (lastOf j) fs ≡ true
-      → lower (passed a (shown done part j) fs) ≡ weights (gather done part j fs)
+    lower-row : isJoin f ≡ false → isZ f ≡ false → lower (passed a (shown done part b) (f ∷ fs)) ≡ weights (gather done part b (f ∷ fs))
+    unfolding passed gather pick closed
+    lower-row e z =
+        let good = form-row b f fs e z h in
+        let r = rowOf (rowValue f) in
+        by-test (joined b)
+        (λ j. rw (e, z, j) (walked (more-passed f done part b e z (good .0) k j) ∙ rest done (part ++ (r ∷ [])) row (row-some part r) (good .1)))
+        (λ j. rw (e, z, j) (walked (new-passed f done part b e z (good .0) j) ∙ rest (done ++ (part ∷ [])) (r ∷ []) row (row-some [] r) (good .1)))
+
+  lower-gather : (fs : Fields) (done : List Group) (part : Group) (b : Before) → noRow part ≡ closed b → rowsForm b fs ≡ true
+      → lower (passed a (shown done part b) fs) ≡ weights (gather done part b fs)
   unfolding passed gather
-  lower-gather [] done part j h = rw (length-append done (part ∷ []))
-  lower-gather (f ∷ fs) done part j h =
-      by-test (isJoin f)
-      (lower-join f fs (λ d p i g. lower-gather fs d p i g) done part j h)
-      (lower-row f fs (λ d p i g. lower-gather fs d p i g) done part j h)
+  lower-gather [] done part b k h = rw (length-append done (part ∷ []))
+  lower-gather (f ∷ fs) done part b k h =
+      by-field f
+      (lower-join f fs (λ d p c i g. lower-gather fs d p c i g) done part b k h)
+      (lower-rowless f fs (λ d p c i g. lower-gather fs d p c i g) done part b k h)
+      (lower-row f fs (λ d p c i g. lower-gather fs d p c i g) done part b k h)
 
   lower-groups : (fs : Fields) → rowsForm word fs ≡ true → lower (passed a nonePassed fs) ≡ weights (groupsOf fs)
-  unfolding passed groupsOf lastOf longestOf mostOf leastOf over
+  unfolding passed groupsOf longestOf mostOf leastOf over anyOf noRow closed
   lower-groups [] h = refl
   lower-groups (f ∷ fs) h =
       let e : isJoin f ≡ false = word-first f fs h in
-      let good = form-row word f fs e h in
-      (ap (λ (q : Passed). lower (passed a q fs)) (first-passed f e (good .0)) ∙ lower-gather fs [] (rowOf (rowValue f) ∷ []) false (good .1) ∙ ap weights (gather-first f fs e h))
+      by-test (isZ f)
+      (λ z.
+      ap (λ (q : Passed). lower (passed a q fs)) (none-passed f e z)
+      ∙ lower-gather fs [] [] word refl (form-rowless word f fs e z h .1)
+      ∙ ap weights (rowless-first f fs e z h))
+      (λ z.
+      let good = form-row word f fs e z h in
+      ap (λ (q : Passed). lower (passed a q fs)) (first-passed f e z (good .0))
+      ∙ lower-gather fs [] (rowOf (rowValue f) ∷ []) row (row-some [] (rowOf (rowValue f))) (good .1)
+      ∙ ap weights (gather-first f fs e z h))
 
   -- The number of the walk, from the form of the fields and their groups.
   number-walk : (fs : Fields) → numberOf a (passed a nonePassed fs) ≡ pick (rowsForm word fs) (weights (groupsOf fs)) No.libraryForm
@@ -467,7 +624,7 @@ rowLine-number line w n (f ∷ fs) = by-test (sameBytes f (wordBytes w) && rowsF
     good : (sameBytes f (wordBytes w) && rowsForm word fs) ≡ true → rowLine line w n (f ∷ fs) ≡ pick (eqb (rowNumber w n (f ∷ fs)) 0) (read (groupsOf fs)) (refused (rowNumber w n (f ∷ fs)) line)
     good e =
         rw e
-        (weighed line No.groupsBad No.bitAbove No.rowIdle (not (eqb (length (groupsOf fs)) (groupCount w n)) || anyOf aboveRows (groupsOf fs)) (anyOf (anyOf (above (columnCount w n))) (groupsOf fs)) (anyOf (anyOf (idle w n)) (groupsOf fs)) (groupsOf fs) (omega arith) (omega arith) (omega arith))
+        (weighed line No.groupsBad No.bitAbove No.rowIdle (not (eqb (length (groupsOf fs)) (groupCount w n)) || anyOf aboveRows (groupsOf fs)) (anyOf (anyOf (above (columnCount w n))) (groupsOf fs)) (rowIdle w n (groupsOf fs)) (groupsOf fs) (omega arith) (omega arith) (omega arith))
 
     bad : (sameBytes f (wordBytes w) && rowsForm word fs) ≡ false → rowLine line w n (f ∷ fs) ≡ pick (eqb (rowNumber w n (f ∷ fs)) 0) (read (groupsOf fs)) (refused (rowNumber w n (f ∷ fs)) line)
     bad e = rw e refl
@@ -576,14 +733,17 @@ group-small a p m s = go (eqb (p .before) 2)
 
 -- Counts and places grow by little.
 pub field-small : (a : Asked) (p : Passed) (f : List ℕ) (m k : ℕ) → Small a p m → m < k → Small a (fieldPassed a p f) k
-unfolding fieldPassed groupFor pick marked rowAdded opened
-field-small a p f m k s h = go (isJoin f) (isRow f) (eqb (p .before) 2)
+unfolding fieldPassed groupFor pick marked rowAdded rowlessAdded opened
+field-small a p f m k s h = go (isJoin f) (isZ f) (isRow f) (eqb (p .before) 2)
   where
-    go : (j i t : Bool) → Small a (pick j (marked p 2 (p .bad || not (eqb (p .before) 1))) (pick i (rowAdded (pick t p (opened a p)) (rowValue f)) (marked p (p .before) true))) k
-    go true i t = record { groups = omega arith; rows = omega arith; place = omega arith }
-    go false true true = record { groups = omega arith; rows = omega arith; place = omega arith }
-    go false true false = record { groups = omega arith; rows = omega arith; place = omega arith }
-    go false false t = record { groups = omega arith; rows = omega arith; place = omega arith }
+    go : (j z i t : Bool)
+        → Small a (pick j (marked p 2 (p .bad || not (eqb (p .before) 1)))
+        (pick z (rowlessAdded a p) (pick i (rowAdded (pick t p (opened a p)) (rowValue f)) (marked p (p .before) true)))) k
+    go true z i t = record { groups = omega arith; rows = omega arith; place = omega arith }
+    go false true i t = record { groups = omega arith; rows = omega arith; place = omega arith }
+    go false false true true = record { groups = omega arith; rows = omega arith; place = omega arith }
+    go false false true false = record { groups = omega arith; rows = omega arith; place = omega arith }
+    go false false false t = record { groups = omega arith; rows = omega arith; place = omega arith }
 
 -- ---- places and their words
 
@@ -629,6 +789,13 @@ leastColumns-by CC n = refl
 leastColumns-by CO n = refl
 leastColumns-by SC n = refl
 leastColumns-by SO n = refl
+
+pub excepted-by : (w : Word) (gs : List Group) → excepted w gs ≡ (setting w && anyOf noRow gs)
+unfolding excepted setting
+excepted-by CC gs = refl
+excepted-by CO gs = refl
+excepted-by SC gs = refl
+excepted-by SO gs = refl
 
 -- ---- the number of a row line, from its walk
 
@@ -699,10 +866,10 @@ module _ (cell : ℕ) (w : Word) (n : ℕ) (few : n ≤ Size.pins) where
   weights-asked : (gs : List Group) → weights (askedOf cell w n) gs
       ≡ pick (not (eqb (length gs) (groupCount w n)) || anyOf aboveRows gs) No.groupsBad
       (pick (anyOf (anyOf (above (columnCount w n))) gs) No.bitAbove
-      (pick (anyOf (anyOf (idle w n)) gs) No.rowIdle 0))
-  unfolding askedOf above pick
+      (pick (rowIdle w n gs) No.rowIdle 0))
+  unfolding askedOf above rowIdle pick
   weights-asked gs =
-      rw (longest-above gs, most-above (2 ^ columnCount w n) (power-some (columnCount w n)) gs, least-below (leastColumns w n) (least-small w n few) gs)
+      rw (longest-above gs, most-above (2 ^ columnCount w n) (power-some (columnCount w n)) gs, least-below (leastColumns w n) (least-small w n few) gs, excepted-by w gs)
       (by-test (anyOf (anyOf (above (columnCount w n))) gs)
       (λ t. rw t)
       (λ t. rw (t, any-groups (above (columnCount w n)) (λ r. ltb (r .columns) (leastColumns w n)) (idle w n) (idle-low w n) gs t)))

@@ -17,15 +17,15 @@ use Rattle.table.proofs.Places.{length-fitted, fitted-short, length-blocks, blo
 use Rattle.reading.specs.Choice.{pick}
 use Rattle.reading.proofs.Laws.{by-test, clash, or-left, or-right}
 use Rattle.cell_library.specs.Cells.{Row, rowOf, Group, Cell}
-use Rattle.cell_library.specs.Library.{Fields, isRow, isJoin, word, row, join, mayJoin, rowsForm, groupsOf, Word, CC, CO, SC, SO, anyOf, aboveRows, wordGroups, withGroups, begun}
+use Rattle.cell_library.specs.Library.{Fields, isRow, isJoin, isZ, Before, word, row, join, mayJoin, rowsForm, groupsOf, noRow, Word, CC, CO, SC, SO, anyOf, aboveRows, wordGroups, withGroups, begun}
 use Rattle.cell_library.specs.Layout.{rowWords, groupWords, cellGroups, cellWords, firstGroup, libraryWords}
-use Rattle.cell_library.specs.Passes.{rowValue, askedOf, headerPut, rowPut, nonePassed, opened, groupFor, fieldStored, stored}
+use Rattle.cell_library.specs.Passes.{rowValue, askedOf, headerPut, rowPut, rowlessPut, nonePassed, opened, groupFor, rowlessAdded, fieldPassed, fieldStored, stored}
 use Rattle.cell_library.specs.Walk.{countedWords}
 use Rattle.cell_library.specs.declared.rows.Asked.{Asked}
 use Rattle.cell_library.specs.declared.rows.Passed.{Passed}
 use Rattle.cell_library.proofs.Names.{blank}
 use Rattle.cell_library.proofs.Places.{length-rowWords, length-groupWords, length-cellWords, space, filledGroups, frontGroups, backGroups, groups-open, length-front}
-use Rattle.cell_library.proofs.Passes.{gather, gather-first, lastOf, form-join, form-row, word-first, any-append, shown, join-passed, more-passed, new-passed, first-passed}
+use Rattle.cell_library.proofs.Passes.{joined, gather, by-field, may-joined, rowless-first, gather-first, form-join, form-rowless, form-row, word-first, any-append, row-some, closed, joined-number, shown, join-passed, rowless-passed, more-passed, new-passed, none-passed, first-passed}
 
 -- ---- stores into lists put together from parts
 
@@ -188,25 +188,29 @@ module _ (done : List Group) (part : Group) where
   ended : (gs others : List Group) → gs ≡ done ++ (part ∷ others) → Gathered done part gs
   ended gs others e = record { more = []; others = others; same = rw (append-nil part) e }
 
-  gather-step : (f : List ℕ) (fs : Fields) (rest : (d : List Group) (p : Group) (j : Bool) → Gathered d p (gather d p j fs)) (t j : Bool)
-      → Gathered done part (pick t (gather done part true fs)
-      (pick j (gather done (part ++ (rowOf (rowValue f) ∷ [])) false fs)
-      (gather (done ++ (part ∷ [])) (rowOf (rowValue f) ∷ []) false fs)))
+  gather-step : (f : List ℕ) (fs : Fields) (rest : (d : List Group) (p : Group) (b : Before) → Gathered d p (gather d p b fs)) (t z j : Bool)
+      → Gathered done part (pick t (gather done part join fs)
+      (pick z (gather (done ++ (part ∷ [])) [] word fs)
+      (pick j (gather done (part ++ (rowOf (rowValue f) ∷ [])) row fs)
+      (gather (done ++ (part ∷ [])) (rowOf (rowValue f) ∷ []) row fs))))
   unfolding pick
-  gather-step f fs rest true j = rest done part true
-  gather-step f fs rest false true =
+  gather-step f fs rest true z j = rest done part join
+  gather-step f fs rest false true j =
+      let g = rest (done ++ (part ∷ [])) [] word in
+      ended _ (g .more ∷ g .others) (g .same ∙ append-assoc done (part ∷ []) (g .more ∷ g .others))
+  gather-step f fs rest false false true =
       let r = rowOf (rowValue f) in
-      let g = rest done (part ++ (r ∷ [])) false in
+      let g = rest done (part ++ (r ∷ [])) row in
       record { more = r ∷ g .more; others = g .others; same = g .same ∙ ap (λ (x : Group). done ++ (x ∷ g .others)) (append-assoc part (r ∷ []) (g .more)) }
-  gather-step f fs rest false false =
+  gather-step f fs rest false false false =
       let r = rowOf (rowValue f) in
-      let g = rest (done ++ (part ∷ [])) (r ∷ []) false in
+      let g = rest (done ++ (part ∷ [])) (r ∷ []) row in
       ended _ ((r ∷ g .more) ∷ g .others) (g .same ∙ append-assoc done (part ∷ []) ((r ∷ g .more) ∷ g .others))
 
-gathered : (done : List Group) (part : Group) (j : Bool) (fs : Fields) → Gathered done part (gather done part j fs)
+gathered : (done : List Group) (part : Group) (b : Before) (fs : Fields) → Gathered done part (gather done part b fs)
 unfolding gather
-gathered done part j [] = ended done part _ [] refl
-gathered done part j (f ∷ fs) = gather-step done part f fs (λ d p i. gathered d p i fs) (isJoin f) j
+gathered done part b [] = ended done part _ [] refl
+gathered done part b (f ∷ fs) = gather-step done part f fs (λ d p c. gathered d p c fs) (isJoin f) (isZ f) (joined b)
 
 module _ (done : List Group) (part : Group) (gs : List Group) (g : Gathered done part gs) where
   gather-count : length done < length gs
@@ -276,6 +280,11 @@ module _ (n : ℕ) (cells : List Cell) (w : Word) (c : Cell) (past : List ℕ) (
   unfolding askedOf
   open-place done = omega arith
 
+  rowless-stored : (gs : List Group) → length gs < space w → rowlessPut (groupPlace (length cells) (firstGroup w + length gs)) (partTable gs) ≡ partTable (gs ++ ([] ∷ []))
+  unfolding rowlessPut groupWords
+  rowless-stored gs h =
+      rw (← part-empty gs, part-open gs [] h, ← length-before gs) (set-append-seam (before-group gs) 0 _ 0)
+
   -- What a field makes of the table.
   module _ (f : List ℕ) where
     abbrev new : Row
@@ -285,84 +294,128 @@ module _ (n : ℕ) (cells : List Cell) (w : Word) (c : Cell) (past : List ℕ) (
     unfolding fieldStored pick
     join-put p table e = rw e
 
-    module _ (e : isJoin f ≡ false) (g : isRow f ≡ true) where
+    module _ (e : isJoin f ≡ false) (z : isZ f ≡ true) where
+      none-put : 0 < space w → fieldStored asks nonePassed f (partTable []) ≡ partTable ([] ∷ [])
+      unfolding fieldStored rowlessAdded pick
+      none-put h = rw (e, z, open-place []) (rowless-stored [] h)
+
+      rowless-put : (done : List Group) (part : Group) (b : Before) → length (done ++ (part ∷ [])) < space w
+          → fieldStored asks (shown asks done part b) f (partTable (done ++ (part ∷ []))) ≡ partTable ((done ++ (part ∷ [])) ++ ([] ∷ []))
+      unfolding fieldStored rowlessAdded pick
+      rowless-put done part b h =
+          let more = done ++ (part ∷ []) in
+          rw (e, z, ← length-append done (part ∷ []), open-place more) (rowless-stored more h)
+
+    module _ (e : isJoin f ≡ false) (z : isZ f ≡ false) (g : isRow f ≡ true) where
       first-put : 0 < space w → fieldStored asks nonePassed f (partTable []) ≡ partTable ((new ∷ []) ∷ [])
       unfolding fieldStored groupFor opened pick
-      first-put h = rw (e, g, open-place [], ← part-empty []) (row-stored [] [] (rowValue f) h (omega arith))
+      first-put h = rw (e, z, g, open-place [], ← part-empty []) (row-stored [] [] (rowValue f) h (omega arith))
 
-      module _ (done : List Group) (part : Group) where
-        more-put : length done < space w → length part < Size.rows
-            → fieldStored asks (shown asks done part true) f (partTable (done ++ (part ∷ []))) ≡ partTable (done ++ ((part ++ (new ∷ [])) ∷ []))
+      module _ (done : List Group) (part : Group) (b : Before) where
+        more-put : joined b ≡ true → length done < space w → length part < Size.rows
+            → fieldStored asks (shown asks done part b) f (partTable (done ++ (part ∷ []))) ≡ partTable (done ++ ((part ++ (new ∷ [])) ∷ []))
         unfolding fieldStored groupFor pick
-        more-put h q = rw (e, g, open-place done) (row-stored done part (rowValue f) h q)
+        more-put j h q = rw (e, z, g, joined-number b, j, open-place done) (row-stored done part (rowValue f) h q)
 
-        new-put : length (done ++ (part ∷ [])) < space w
-            → fieldStored asks (shown asks done part false) f (partTable (done ++ (part ∷ []))) ≡ partTable ((done ++ (part ∷ [])) ++ ((new ∷ []) ∷ []))
+        new-put : joined b ≡ false → length (done ++ (part ∷ [])) < space w
+            → fieldStored asks (shown asks done part b) f (partTable (done ++ (part ∷ []))) ≡ partTable ((done ++ (part ∷ [])) ++ ((new ∷ []) ∷ []))
         unfolding fieldStored groupFor opened pick
-        new-put h =
+        new-put j h =
             let more = done ++ (part ∷ []) in
-            rw (e, g, ← length-append done (part ∷ []), open-place more, ← part-empty more) (row-stored more [] (rowValue f) h (omega arith))
+            rw (e, z, g, joined-number b, j, ← length-append done (part ∷ []), open-place more, ← part-empty more) (row-stored more [] (rowValue f) h (omega arith))
 
   stored-as : (fs : Fields) {p q : Passed} {t u : List ℕ} → p ≡ q → t ≡ u → stored asks p fs t ≡ stored asks q fs u
   stored-as fs e d = cc
 
-  module _ (f : List ℕ) (fs : Fields)
-      (rest : (done : List Group) (part : Group) (j : Bool) → rowsForm (lastOf j) fs ≡ true → length (gather done part j fs) ≤ space w → anyOf aboveRows (gather done part j fs) ≡ false
-      → stored asks (shown asks done part j) fs (partTable (done ++ (part ∷ []))) ≡ partTable (gather done part j fs))
-      (done : List Group) (part : Group) where
-    put-join : (j : Bool) → rowsForm (lastOf j) (f ∷ fs) ≡ true → length (gather done part j (f ∷ fs)) ≤ space w → anyOf aboveRows (gather done part j (f ∷ fs)) ≡ false → isJoin f ≡ true
-        → stored asks (shown asks done part j) (f ∷ fs) (partTable (done ++ (part ∷ []))) ≡ partTable (gather done part j (f ∷ fs))
-    unfolding stored gather pick lastOf mayJoin
-    put-join true h q s e = clash false (form-join join f fs e h .0) refl
-    put-join false h q s e =
-        rw e
-        (stored-as fs (join-passed asks f done part e) (join-put f _ _ e) ∙ rest done part true (form-join row f fs e h .1) (rw e at q) (rw e at s))
+  -- What is stored behind `done` and `part`, where what is gathered fits.
+  abbrev Puts : Fields → List Group → Group → Before → Type 0
+  Puts fs done part b =
+      noRow part ≡ closed b → rowsForm b fs ≡ true → length (gather done part b fs) ≤ space w → anyOf aboveRows (gather done part b fs) ≡ false
+      → stored asks (shown asks done part b) fs (partTable (done ++ (part ∷ []))) ≡ partTable (gather done part b fs)
 
-    put-one : (j : Bool) → rowsForm (lastOf j) (f ∷ fs) ≡ true → length (gather done part j (f ∷ fs)) ≤ space w → anyOf aboveRows (gather done part j (f ∷ fs)) ≡ false → isJoin f ≡ false
-        → stored asks (shown asks done part j) (f ∷ fs) (partTable (done ++ (part ∷ []))) ≡ partTable (gather done part j (f ∷ fs))
-    unfolding stored gather pick lastOf
-    put-one true h q s e =
-        let good = form-row join f fs e h in
-        let grown = part ++ (rowOf (rowValue f) ∷ []) in
-        let fits : length (gather done grown false fs) ≤ space w = rw e at q in
-        let short : anyOf aboveRows (gather done grown false fs) ≡ false = rw e at s in
-        let size : length grown ≡ length part + 1 = length-append part (rowOf (rowValue f) ∷ []) in
-        let g = gathered done grown false fs in
+  module _ (f : List ℕ) (fs : Fields) (rest : (done : List Group) (part : Group) (b : Before) → Puts fs done part b) (done : List Group) (part : Group) where
+    put-join : isJoin f ≡ true → (b : Before) → Puts (f ∷ fs) done part b
+    unfolding stored gather pick mayJoin closed
+    put-join e word k h q s = clash false (form-join word f fs e h .0) refl
+    put-join e row k h q s =
+        rw e
+        (stored-as fs (join-passed asks f done part e) (join-put f _ _ e) ∙ rest done part join k (form-join row f fs e h .1) (rw e at q) (rw e at s))
+    put-join e join k h q s = clash false (form-join join f fs e h .0) refl
+
+    put-rowless : isJoin f ≡ false → isZ f ≡ true → (b : Before) → Puts (f ∷ fs) done part b
+    unfolding stored gather pick noRow closed
+    put-rowless e z b k h q s =
+        let good = form-rowless b f fs e z h in
+        let more = done ++ (part ∷ []) in
+        let fits : length (gather more [] word fs) ≤ space w = rw (e, z) at q in
+        let short : anyOf aboveRows (gather more [] word fs) ≡ false = rw (e, z) at s in
+        let below : length more < space w = omega (arith, gather-count more [] _ (gathered more [] word fs)) in
+        rw (e, z) (stored-as fs (rowless-passed asks f done part b e z (may-joined b (good .0))) (rowless-put f e z done part b below) ∙ rest more [] word refl (good .1) fits short)
+
+    put-more : isJoin f ≡ false → isZ f ≡ false → (b : Before) → joined b ≡ true → Puts (f ∷ fs) done part b
+    unfolding stored gather pick closed
+    put-more e z b j k h q s =
+        let good = form-row b f fs e z h in
+        let r = rowOf (rowValue f) in
+        let grown = part ++ (r ∷ []) in
+        let fits : length (gather done grown row fs) ≤ space w = rw (e, z, j) at q in
+        let short : anyOf aboveRows (gather done grown row fs) ≡ false = rw (e, z, j) at s in
+        let size : length grown ≡ length part + 1 = length-append part (r ∷ []) in
+        let g = gathered done grown row fs in
         let most : length grown ≤ Size.rows = gather-part done grown _ g short in
         let below : length done < space w = omega (arith, gather-count done grown _ g) in
-        rw e (stored-as fs (more-passed asks f done part e (good .0)) (more-put f e (good .0) done part below (omega arith)) ∙ rest done grown false (good .1) fits short)
-    put-one false h q s e =
-        let good = form-row row f fs e h in
+        rw (e, z, j)
+        (stored-as fs (more-passed asks f done part b e z (good .0) k j) (more-put f e z (good .0) done part b j below (omega arith))
+        ∙ rest done grown row (row-some part r) (good .1) fits short)
+
+    put-new : isJoin f ≡ false → isZ f ≡ false → (b : Before) → joined b ≡ false → Puts (f ∷ fs) done part b
+    unfolding stored gather pick closed
+    put-new e z b j k h q s =
+        let good = form-row b f fs e z h in
         let r = rowOf (rowValue f) in
         let more = done ++ (part ∷ []) in
-        let fits : length (gather more (r ∷ []) false fs) ≤ space w = rw e at q in
-        let short : anyOf aboveRows (gather more (r ∷ []) false fs) ≡ false = rw e at s in
-        let below : length more < space w = omega (arith, gather-count more (r ∷ []) _ (gathered more (r ∷ []) false fs)) in
-        rw e (stored-as fs (new-passed asks f done part e (good .0)) (new-put f e (good .0) done part below) ∙ rest more (r ∷ []) false (good .1) fits short)
+        let fits : length (gather more (r ∷ []) row fs) ≤ space w = rw (e, z, j) at q in
+        let short : anyOf aboveRows (gather more (r ∷ []) row fs) ≡ false = rw (e, z, j) at s in
+        let below : length more < space w = omega (arith, gather-count more (r ∷ []) _ (gathered more (r ∷ []) row fs)) in
+        rw (e, z, j)
+        (stored-as fs (new-passed asks f done part b e z (good .0) j) (new-put f e z (good .0) done part b j below)
+        ∙ rest more (r ∷ []) row (row-some [] r) (good .1) fits short)
 
-  put-groups : (fs : Fields) (done : List Group) (part : Group) (j : Bool) → rowsForm (lastOf j) fs ≡ true → length (gather done part j fs) ≤ space w → anyOf aboveRows (gather done part j fs) ≡ false
-      → stored asks (shown asks done part j) fs (partTable (done ++ (part ∷ []))) ≡ partTable (gather done part j fs)
+  put-groups : (fs : Fields) (done : List Group) (part : Group) (b : Before) → Puts fs done part b
   unfolding stored gather
-  put-groups [] done part j h q s = refl
-  put-groups (f ∷ fs) done part j h q s =
-      by-test (isJoin f)
-      (put-join f fs (λ d p i x y z. put-groups fs d p i x y z) done part j h q s)
-      (put-one f fs (λ d p i x y z. put-groups fs d p i x y z) done part j h q s)
+  put-groups [] done part b k h q s = refl
+  put-groups (f ∷ fs) done part b k h q s =
+      by-field f
+      (λ e. put-join f fs (λ d p c i x y t. put-groups fs d p c i x y t) done part e b k h q s)
+      (λ e z. put-rowless f fs (λ d p c i x y t. put-groups fs d p c i x y t) done part e z b k h q s)
+      (λ e z.
+      by-test (joined b)
+      (λ j. put-more f fs (λ d p c i x y t. put-groups fs d p c i x y t) done part e z b j k h q s)
+      (λ j. put-new f fs (λ d p c i x y t. put-groups fs d p c i x y t) done part e z b j k h q s))
 
-  -- From a cell without these groups.
+  -- From a cell without these groups: behind the first of them the others.
+  first-stored : (f : List ℕ) (fs : Fields) (g : Group) (b : Before) → noRow g ≡ closed b → rowsForm b fs ≡ true → gather [] g b fs ≡ groupsOf (f ∷ fs)
+      → fieldPassed asks nonePassed f ≡ shown asks [] g b → (0 < space w → fieldStored asks nonePassed f (partTable []) ≡ partTable (g ∷ []))
+      → length (groupsOf (f ∷ fs)) ≤ space w → anyOf aboveRows (groupsOf (f ∷ fs)) ≡ false
+      → stored asks nonePassed (f ∷ fs) (partTable []) ≡ partTable (groupsOf (f ∷ fs))
+  unfolding stored
+  first-stored f fs g b k h all passes puts q s =
+      let some-space : 0 < space w = omega (arith, gather-count [] g _ (gathered [] g b fs), ap (λ (gs : List Group). length gs) all) in
+      stored-as fs passes (puts some-space)
+      ∙ put-groups fs [] g b k h (rw all q) (rw all s)
+      ∙ ap partTable all
+
   pub line-stored : (fs : Fields) → rowsForm word fs ≡ true → length (groupsOf fs) ≤ space w → anyOf aboveRows (groupsOf fs) ≡ false
       → stored asks nonePassed fs (partTable []) ≡ partTable (groupsOf fs)
-  unfolding stored groupsOf lastOf
+  unfolding stored groupsOf noRow closed
   line-stored [] h q s = refl
   line-stored (f ∷ fs) h q s =
       let e : isJoin f ≡ false = word-first f fs h in
-      let good = form-row word f fs e h in
-      let r = rowOf (rowValue f) in
-      let all : gather [] (r ∷ []) false fs ≡ groupsOf (f ∷ fs) = gather-first f fs e h in
-      let some-space : 0 < space w = omega (arith, gather-count [] (r ∷ []) _ (gathered [] (r ∷ []) false fs), ap (λ (gs : List Group). length gs) all) in
-      stored-as fs (first-passed asks f e (good .0)) (first-put f e (good .0) some-space)
-      ∙ put-groups fs [] (r ∷ []) false (good .1) (rw all q) (rw all s)
-      ∙ ap partTable all
+      by-test (isZ f)
+      (λ z. first-stored f fs [] word refl (form-rowless word f fs e z h .1) (rowless-first f fs e z h) (none-passed asks f e z) (none-put f e z) q s)
+      (λ z.
+      let good = form-row word f fs e z h in
+      first-stored f fs (rowOf (rowValue f) ∷ []) row (row-some [] (rowOf (rowValue f))) (good .1) (gather-first f fs e z h) (first-passed asks f e z (good .0)) (first-put f e z (good .0)) q s)
 
 -- ---- the header of a new cell, and the count at its end
 

@@ -32,7 +32,11 @@ isRow f = holds (numeral 8 Size.rowDigits f)
 unfoldable pub isJoin : List ℕ → Bool
 isJoin f = sameBytes f (bytes "M")
 
--- What stands before a field: the line's word, a row, or an M.
+-- "A group may be the single letter Z, meaning no row: that value or pin has no plan." (02, K1)
+unfoldable pub isZ : List ℕ → Bool
+isZ f = sameBytes f (bytes "Z")
+
+-- What stands before a field: the line's word, or a Z, which as little as the word may be joined; a row; an M.
 pub data Before : Type 0 where
   word row join : Before
 
@@ -47,10 +51,13 @@ mayEnd word = true
 mayEnd row = true
 mayEnd join = false
 
--- "a line or an M out of place is bad form": the fields after a line's word are rows, with an M only between two rows.
+-- "a line or an M out of place is bad form": the fields after a line's word are rows, with an M only between two rows, and
+-- Zs, each a group by itself: no M stands before it, and none behind it.
 unfoldable pub rowsForm : Before → Fields → Bool
 rowsForm b [] = mayEnd b
-rowsForm b (f ∷ fs) = pick (isJoin f) (mayJoin b && rowsForm join fs) (isRow f && rowsForm row fs)
+rowsForm b (f ∷ fs) =
+    pick (isJoin f) (mayJoin b && rowsForm join fs)
+    (pick (isZ f) (mayEnd b && rowsForm word fs) (isRow f && rowsForm row fs))
 
 unfoldable pub joinFirst : Fields → Bool
 joinFirst [] = false
@@ -61,10 +68,13 @@ withRow false r gs = (r ∷ []) ∷ gs
 withRow true r [] = (r ∷ []) ∷ []
 withRow true r (g ∷ gs) = (r ∷ g) ∷ gs
 
--- "Rows joined by M form a group of alternatives": a row before an M stands in the group of the row behind it.
+-- "Rows joined by M form a group of alternatives": a row before an M stands in the group of the row behind it. A Z is a
+-- group of no row.
 unfoldable pub groupsOf : Fields → List Group
 groupsOf [] = []
-groupsOf (f ∷ fs) = pick (isJoin f) (groupsOf fs) (withRow (joinFirst fs) (rowOf (value 8 0 f)) (groupsOf fs))
+groupsOf (f ∷ fs) =
+    pick (isJoin f) (groupsOf fs)
+    (pick (isZ f) ([] ∷ groupsOf fs) (withRow (joinFirst fs) (rowOf (value 8 0 f)) (groupsOf fs)))
 
 -- ---- refusals 6, 7 and 8, of the groups of a line
 
@@ -118,6 +128,20 @@ idle CO n = observesNot n
 idle SC n = namesNone
 idle SO n = observesNot n
 
+unfoldable pub noRow : Group → Bool
+noRow g = eqb (length g) 0
+
+-- "A CC or SC row may name no pin when the other group of its line is Z; refusal 8 excepts it." (02, K1) A row's own group has
+-- a row, so that where one of the line's two groups has none, it is the other one; 6 comes before 8, so that they are two.
+unfoldable pub excepted : Word → List Group → Bool
+excepted CC gs = anyOf noRow gs
+excepted CO gs = false
+excepted SC gs = anyOf noRow gs
+excepted SO gs = false
+
+unfoldable pub rowIdle : Word → ℕ → List Group → Bool
+rowIdle w n gs = not (excepted w gs) && anyOf (anyOf (idle w n)) gs
+
 -- The groups of a line that starts with this word; none is bad form.
 unfoldable pub rowsAfter : Word → Fields → Option (List Group)
 rowsAfter w [] = none
@@ -129,7 +153,7 @@ rowLine line w n fs = do
   weigh line
       ((No.groupsBad, not (eqb (length gs) (groupCount w n)) || anyOf aboveRows gs)
       ∷ (No.bitAbove, anyOf (anyOf (above (columnCount w n))) gs)
-      ∷ (No.rowIdle, anyOf (anyOf (idle w n)) gs)
+      ∷ (No.rowIdle, rowIdle w n gs)
       ∷ [])
   read gs
 
@@ -163,9 +187,9 @@ cellNamed name (c ∷ cs) = pick (sameBytes name (c .name)) 0 (suc (cellNamed na
 unfoldable pub nameUsed : List ℕ → List Cell → Bool
 nameUsed name cells = ltb (cellNamed name cells) (length cells)
 
--- "5 pins not 1 to 8"
+-- "5 pins not 1 to 8", and (02, K1) "Pin counts now run from 0 to 8, and refusal 5 reads so."
 unfoldable pub pinsBad : ℕ → Bool
-pinsBad n = not (leb 1 n && leb n Size.pins)
+pinsBad n = ltb Size.pins n
 
 unfoldable pub nameLine : ℕ → List Cell → Fields → Read Header
 nameLine line cells fs = do
@@ -242,5 +266,5 @@ library t = libraryFrom 1 (record { cells = []; place = outside }) (lines t)
 
 -- Opens the page's definitions, where a figure computes with them.
 unfoldable pub library-open : ℕ
-unfolding bytes-open lines-open numeral-open refusal-open cells-open holds isRow isJoin mayJoin mayEnd rowsForm joinFirst withRow groupsOf anyOf aboveRows above namesNone observesNot wordBytes groupCount columnCount idle rowsAfter rowLine headerOf nameAfter endAfter cellNamed nameUsed pinsBad nameLine lineAfter begun wordGroups withGroups libraryLine libraryEnd libraryFrom library
+unfolding bytes-open lines-open numeral-open refusal-open cells-open holds isRow isJoin isZ mayJoin mayEnd rowsForm joinFirst withRow groupsOf anyOf aboveRows above namesNone observesNot wordBytes groupCount columnCount idle noRow excepted rowIdle rowsAfter rowLine headerOf nameAfter endAfter cellNamed nameUsed pinsBad nameLine lineAfter begun wordGroups withGroups libraryLine libraryEnd libraryFrom library
 library-open = 0

@@ -16,7 +16,7 @@ use Rattle.text.specs.Bytes.{bytes}
 use Rattle.reading.specs.Choice.{pick}
 use Rattle.text.specs.Lines.{sameBytes}
 use Rattle.text.specs.Numeral.{numeral, decimal, nameForm}
-use Rattle.cell_library.specs.Library.{Fields, holds, isRow, isJoin, above, Word, CC, CO, SC, SO, groupCount, columnCount, idle, rowsAfter, groupsOf, anyOf, aboveRows, pinsBad}
+use Rattle.cell_library.specs.Library.{Fields, holds, isRow, isJoin, isZ, above, Word, CC, CO, SC, SO, groupCount, columnCount, rowIdle, rowsAfter, groupsOf, anyOf, aboveRows, pinsBad}
 use Rattle.cell_library.specs.Layout.{firstGroup, foundAt}
 use Rattle.cell_library.specs.declared.rows.Asked.{Asked}
 use Rattle.cell_library.specs.declared.rows.Passed.{Passed}
@@ -40,12 +40,20 @@ leastColumns CO n = 2 ^ (2 * n + 2)
 leastColumns SC n = 1
 leastColumns SO n = 2 ^ (2 * n + 2)
 
+-- CC and SC rows set the output, CO and SO rows observe a pin.
+unfoldable pub setting : Word → Bool
+setting CC = true
+setting CO = false
+setting SC = true
+setting SO = false
+
 -- Of a cell, a word and so many pins.
 unfoldable pub askedOf : ℕ → Word → ℕ → Asked
 askedOf cell w n =
     record {
       place = groupPlace cell (firstGroup w);
       groups = groupCount w n;
+      excepts = setting w;
       least = leastColumns w n;
       limit = 2 ^ columnCount w n;
     }
@@ -60,6 +68,10 @@ headerPut cell name pins table = set (sets (set table (cellPlace cell) (length n
 unfoldable pub rowPut : ℕ → ℕ → ℕ → List ℕ → List ℕ
 rowPut place rows x table = set (set (set table place (rows + 1)) (place + 1 + 2 * rows) (x % 2)) (place + 2 + 2 * rows) (x / 2)
 
+-- A group of no row at a place of the table.
+unfoldable pub rowlessPut : ℕ → List ℕ → List ℕ
+rowlessPut place table = set table place 0
+
 -- The farthest place that a group can have: a line has no more fields than a text has bytes, and one.
 abbrev pub farthest : ℕ
 farthest = Size.library + Size.cellWords + Size.groupWords * Size.textBytes
@@ -73,7 +85,7 @@ noColumns = 4294967295
 -- Before the first field behind the line's word.
 abbrev pub nonePassed : Passed
 nonePassed =
-    record { before = 0; groups = 0; rows = 0; place = 0; bad = false; longest = 0; most = 0; least = noColumns }
+    record { before = 0; groups = 0; rows = 0; place = 0; bad = false; rowless = false; longest = 0; most = 0; least = noColumns }
 
 -- A field that is no row: what stands before the next one, and whether a field so far is out of place.
 unfoldable pub marked : Passed → ℕ → Bool → Passed
@@ -84,12 +96,13 @@ marked p before bad =
       rows = p .rows;
       place = p .place;
       bad = bad;
+      rowless = p .rowless;
       longest = p .longest;
       most = p .most;
       least = p .least;
     }
 
--- The group that a row goes into: the open one where an M, which is 2, stands before the row, else a new one.
+-- One group more, of no row yet.
 unfoldable pub opened : Asked → Passed → Passed
 opened a p =
     record {
@@ -98,11 +111,13 @@ opened a p =
       rows = 0;
       place = a .place + p .groups * Size.groupWords;
       bad = p .bad;
+      rowless = p .rowless;
       longest = p .longest;
       most = p .most;
       least = p .least;
     }
 
+-- The group that a row goes into: the open one where an M, which is 2, stands before the row, else a new one.
 unfoldable pub groupFor : Asked → Passed → Passed
 groupFor a p = pick (eqb (p .before) 2) p (opened a p)
 
@@ -115,16 +130,33 @@ rowAdded p x =
       rows = p .rows + 1;
       place = p .place;
       bad = p .bad;
+      rowless = p .rowless;
       longest = max (p .longest) (p .rows + 1);
       most = max (p .most) (x / 2);
       least = min (p .least) (x / 2);
     }
 
--- An M is out of place unless a row, which is 1, stands before it; what is neither a row nor an M always is.
+-- A new group that stays without a row; behind it as behind the line's word, which is 0.
+unfoldable pub rowlessAdded : Asked → Passed → Passed
+rowlessAdded a p =
+    record {
+      before = 0;
+      groups = p .groups + 1;
+      rows = 0;
+      place = a .place + p .groups * Size.groupWords;
+      bad = p .bad || eqb (p .before) 2;
+      rowless = true;
+      longest = p .longest;
+      most = p .most;
+      least = p .least;
+    }
+
+-- An M is out of place unless a row, which is 1, stands before it, a Z where an M does; what is none of the three always is.
 unfoldable pub fieldPassed : Asked → Passed → List ℕ → Passed
 fieldPassed a p f =
     pick (isJoin f) (marked p 2 (p .bad || not (eqb (p .before) 1)))
-    (pick (isRow f) (rowAdded (groupFor a p) (rowValue f)) (marked p (p .before) true))
+    (pick (isZ f) (rowlessAdded a p)
+    (pick (isRow f) (rowAdded (groupFor a p) (rowValue f)) (marked p (p .before) true)))
 
 unfoldable pub passed : Asked → Passed → Fields → Passed
 passed a p [] = p
@@ -134,7 +166,8 @@ passed a p (f ∷ fs) = passed a (fieldPassed a p f) fs
 unfoldable pub fieldStored : Asked → Passed → List ℕ → List ℕ → List ℕ
 fieldStored a p f table =
     pick (isJoin f) table
-    (pick (isRow f) (rowPut ((groupFor a p) .place) ((groupFor a p) .rows) (rowValue f) table) table)
+    (pick (isZ f) (rowlessPut ((rowlessAdded a p) .place) table)
+    (pick (isRow f) (rowPut ((groupFor a p) .place) ((groupFor a p) .rows) (rowValue f) table) table))
 
 unfoldable pub stored : Asked → Passed → Fields → List ℕ → List ℕ
 stored a p [] table = table
@@ -146,7 +179,7 @@ numberOf a p =
     pick (p .bad || eqb (p .before) 2) No.libraryForm
     (pick (not (eqb (p .groups) (a .groups)) || ltb Size.rows (p .longest)) No.groupsBad
     (pick (leb (a .limit) (p .most)) No.bitAbove
-    (pick (ltb (p .least) (a .least)) No.rowIdle 0)))
+    (pick (not (a .excepts && p .rowless) && ltb (p .least) (a .least)) No.rowIdle 0)))
 
 -- Counts and places that are small behind so many bytes.
 pub record Small (a : Asked) (p : Passed) (m : ℕ) : Type 0 where
@@ -163,20 +196,13 @@ wordAt (suc (suc zero)) = CO
 wordAt (suc (suc (suc zero))) = SC
 wordAt (suc (suc (suc (suc n)))) = SO
 
--- CC and SC rows set the output, CO and SO rows observe a pin.
-unfoldable pub setting : Word → Bool
-setting CC = true
-setting CO = false
-setting SC = true
-setting SO = false
-
 -- The refusal number of a line, 0 where it has none.
 unfoldable pub rowNumber : Word → ℕ → Fields → ℕ
 rowNumber w n fs =
     pick (holds (rowsAfter w fs))
     (pick (not (eqb (length (groupsOf (drop 1 fs))) (groupCount w n)) || anyOf aboveRows (groupsOf (drop 1 fs))) No.groupsBad
     (pick (anyOf (anyOf (above (columnCount w n))) (groupsOf (drop 1 fs))) No.bitAbove
-    (pick (anyOf (anyOf (idle w n)) (groupsOf (drop 1 fs))) No.rowIdle 0)))
+    (pick (rowIdle w n (groupsOf (drop 1 fs))) No.rowIdle 0)))
     No.libraryForm
 
 -- A row line that was read: its number, and where it has none, the table with its rows.

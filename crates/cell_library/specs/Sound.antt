@@ -10,31 +10,29 @@ use lib.ListN.{length}
 use Rattle.sizes.specs.Sizes as Size
 use Rattle.text.specs.Numeral.{nameForm}
 use Rattle.cell_library.specs.Cells.{Row, Group, Cell}
-use Rattle.cell_library.specs.Library.{Word, CC, CO, SC, SO, groupCount, columnCount, idle, wordGroups, Wanted, wordLine, endLine, Place, outside, inside, Reading}
+use Rattle.cell_library.specs.Library.{Word, CC, CO, SC, SO, groupCount, columnCount, idle, excepted, wordGroups, Wanted, wordLine, endLine, Place, outside, inside, Reading}
 use Rattle.reading.specs.Each.{Each}
 
--- "Bit 0 is the depth (0 or 1)"; no "bit above its columns"; not "a CC or SC row naming no pin, or a CO or SO row without
--- "observe the output"".
-pub record SoundRow (w : Word) (n : ℕ) (r : Row) : Type 0 where
+-- A row of a line that has the groups `all`. "Bit 0 is the depth (0 or 1)"; no "bit above its columns"; not "a CC or SC row
+-- naming no pin, or a CO or SO row without "observe the output"", where 8 does not except it.
+pub record SoundRow (w : Word) (n : ℕ) (all : List Group) (r : Row) : Type 0 where
   pub depth : r .depth ≤ 1
   pub within : r .columns < 2 ^ columnCount w n
-  pub useful : idle w n r ≡ false
+  pub useful : excepted w all ≡ false → idle w n r ≡ false
 
--- "a group of alternatives, 1 to 16 rows"
-pub record SoundGroup (w : Word) (n : ℕ) (g : Group) : Type 0 where
-  pub some-row : 1 ≤ length g
+-- "a group of alternatives, 1 to 16 rows", or none
+pub record SoundGroup (w : Word) (n : ℕ) (all : List Group) (g : Group) : Type 0 where
   pub most-rows : length g ≤ Size.rows
-  pub rows : Each (SoundRow w n) g
+  pub rows : Each (SoundRow w n all) g
 
 -- "CC and SC have two groups (output to 0, output to 1), CO and SO one for each pin."
 pub record SoundGroups (w : Word) (n : ℕ) (gs : List Group) : Type 0 where
   pub count : length gs ≡ groupCount w n
-  pub groups : Each (SoundGroup w n) gs
+  pub groups : Each (SoundGroup w n gs) gs
 
--- "A cell has a name (1 to 8 bytes of A–Z, 0–9) and n pins", 1 to 8 of them.
+-- "A cell has a name (1 to 8 bytes of A–Z, 0–9) and n pins", at most 8 of them.
 pub record SoundHeader (name : List ℕ) (pins : ℕ) : Type 0 where
   pub form : nameForm name ≡ true
-  pub some-pin : 1 ≤ pins
   pub most-pins : pins ≤ Size.pins
 
 pub record SoundCell (c : Cell) : Type 0 where

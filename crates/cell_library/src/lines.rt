@@ -85,9 +85,6 @@ fn header_number(table: &[u32], name: &[u8], pins: u32) -> u32
     if find(table, name) < n {
         return reading::NAME_USED;
     }
-    if pins < 1 {
-        return reading::PINS_BAD;
-    }
     if MOST_PINS < pins {
         return reading::PINS_BAD;
     }

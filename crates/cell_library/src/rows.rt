@@ -5,10 +5,11 @@ ghost use Prim.Native.Nat.{_+_, _^_, _≤_, _<_, max, min};
 ghost use lib.ListN.{length};
 ghost use Rattle.sizes.specs.Sizes as Size;
 ghost use Rattle.text.specs.Lines.{fields, fieldsFrom, sameBytes};
-ghost use Rattle.cell_library.specs.Library.{isJoin, wordBytes};
-ghost use Rattle.cell_library.specs.Passes.{wordAt, setting, askedOf, nonePassed, marked, groupFor, rowAdded};
+ghost use Rattle.cell_library.specs.Library.{isJoin, isZ, wordBytes};
+ghost use Rattle.cell_library.specs.Passes.{wordAt, setting, askedOf, nonePassed, marked, opened, groupFor, rowAdded, rowlessAdded};
 ghost use Rattle.cell_library.specs.Passes.{fieldPassed, fieldStored, passed, stored, numberOf, Small, RowsRead};
 use crate::store::put_row;
+use crate::store::put_rowless;
 use crate::store::word_place;
 use text::Numeral;
 use text::after;
@@ -17,7 +18,7 @@ use text::octal;
 use text::same;
 
 const MOST_ROWS: u32 = sizes::ROWS as u32;
-// What stands before a field: the line's word, a row, or an M.
+// What stands before a field: the line's word or a Z, a row, or an M.
 const WORD: u32 = 0;
 
 const ROW: u32 = 1;
@@ -27,23 +28,27 @@ const JOIN: u32 = 2;
 // The lowest columns where there is no row yet: above those of every row.
 const NO_COLUMNS: u32 = 4294967295;
 
-// What a row line is asked for: where its groups start in the table, how many they are, and what the columns of a row come to,
-// at least `least`, where the row is not idle, and below `limit`.
+// What a row line is asked for: where its groups start in the table, how many they are, whether a group without rows excepts the
+// rows of the other from being idle, and what the columns of a row come to, at least `least`, where the row is not idle, and
+// below `limit`.
 struct Asked {
     place: usize,
     groups: u32,
+    excepts: bool,
     least: u32,
     limit: u32,
 }
 
 // The fields passed so far: what stands before the next one; the groups, the rows of the last of them and its place in the
-// table; whether a field is out of place; the rows of the longest group, and the highest and the lowest columns of a row.
+// table; whether a field is out of place; whether a group has no row; the rows of the longest group, and the highest and the
+// lowest columns of a row.
 struct Passed {
     before: u32,
     groups: u32,
     rows: u32,
     place: usize,
     bad: bool,
+    rowless: bool,
     longest: u32,
     most: u32,
     least: u32,
@@ -102,6 +107,7 @@ fn asked_for(cell: u32, place: u32, pins: u32) -> Asked
         return Asked {
             place: at,
             groups: 2,
+            excepts: true,
             least: 1,
             limit: power(2 * pins),
         };
@@ -109,6 +115,7 @@ fn asked_for(cell: u32, place: u32, pins: u32) -> Asked
     Asked {
         place: at,
         groups: pins,
+        excepts: false,
         least: power(2 * pins + 2),
         limit: power(2 * pins + 3),
     }
@@ -120,12 +127,30 @@ fn is_join(f: &[u8]) -> bool
     same(f, b"M")
 }
 
+fn is_rowless(f: &[u8]) -> bool
+    ensures { λ r. ⌜ r ≡ isZ (now (f .entry)) ⌝ }
+{
+    same(f, b"Z")
+}
+
 fn marked(p: Passed, before: u32, bad: bool) -> Passed
     ensures { λ r. ⌜ r ≡ marked p before bad ⌝ }
 {
     let mut q = p;
     q.before = before;
     q.bad = bad;
+    q
+}
+
+// One group more, of no row yet.
+fn opened(a: Asked, p: Passed) -> Passed
+    requires { ⌜ (a .place ≤ Size.library + Size.cellWords) × Small a p Size.textBytes ⌝ }
+    ensures { λ r. ⌜ r ≡ opened a p ⌝ }
+{
+    let mut q = p;
+    q.groups = p.groups + 1;
+    q.rows = 0;
+    q.place = a.place + p.groups as usize * sizes::GROUP_WORDS;
     q
 }
 
@@ -137,10 +162,18 @@ fn group_for(a: Asked, p: Passed) -> Passed
     if p.before == JOIN {
         return p;
     }
-    let mut q = p;
-    q.groups = p.groups + 1;
-    q.rows = 0;
-    q.place = a.place + p.groups as usize * sizes::GROUP_WORDS;
+    opened(a, p)
+}
+
+// A new group that stays without a row.
+fn rowless_added(a: Asked, p: Passed) -> Passed
+    requires { ⌜ (a .place ≤ Size.library + Size.cellWords) × Small a p Size.textBytes ⌝ }
+    ensures { λ r. ⌜ r ≡ rowlessAdded a p ⌝ }
+{
+    let mut q = opened(a, p);
+    q.before = WORD;
+    q.bad = p.bad | (p.before == JOIN);
+    q.rowless = true;
     q
 }
 
@@ -168,13 +201,14 @@ fn row_added(p: Passed, x: u32) -> Passed
         rows: p.rows + 1,
         place: p.place,
         bad: p.bad,
+        rowless: p.rowless,
         longest: greater(p.longest, p.rows + 1),
         most: greater(p.most, columns),
         least: lesser(p.least, columns),
     }
 }
 
-// A field judged, and stored where it is a row.
+// A field judged, and stored where it is a row or a group without rows.
 fn pass_field(table: &mut [u32], a: Asked, p: Passed, f: &[u8]) -> Passed
     requires { ⌜ (a .place ≤ Size.library + Size.cellWords) × Small a p Size.textBytes ⌝ }
     ensures judged { λ r. ⌜ r ≡ fieldPassed a p (now (f .entry)) ⌝ }
@@ -182,6 +216,11 @@ fn pass_field(table: &mut [u32], a: Asked, p: Passed, f: &[u8]) -> Passed
 {
     if is_join(f) {
         return marked(p, JOIN, p.bad | (p.before != ROW));
+    }
+    if is_rowless(f) {
+        let g = rowless_added(a, p);
+        put_rowless(table, g.place);
+        return g;
     }
     let v = octal(f, sizes::ROW_DIGITS);
     match v {
@@ -209,6 +248,7 @@ fn pass_fields(table: &mut [u32], line: &[u8], from: usize, a: Asked) -> Passed
         rows: 0,
         place: 0,
         bad: false,
+        rowless: false,
         longest: 0,
         most: 0,
         least: NO_COLUMNS,
@@ -228,7 +268,7 @@ fn number_of(a: Asked, p: Passed) -> u32
     let bad = p.bad | (p.before == JOIN);
     let wrong = (p.groups != a.groups) | (MOST_ROWS < p.longest);
     let high = a.limit <= p.most;
-    let low = p.least < a.least;
+    let low = !(a.excepts & p.rowless) & (p.least < a.least);
     if bad {
         return reading::LIBRARY_FORM;
     }

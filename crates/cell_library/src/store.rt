@@ -6,7 +6,7 @@ ghost use lib.Seq.{sets};
 ghost use Rattle.sizes.specs.Places.{groupPlace};
 ghost use Rattle.sizes.specs.Sizes as Size;
 ghost use Rattle.cell_library.specs.Layout.{firstGroup};
-ghost use Rattle.cell_library.specs.Passes.{wordAt, farthest, headerPut, rowPut};
+ghost use Rattle.cell_library.specs.Passes.{wordAt, farthest, headerPut, rowPut, rowlessPut};
 use crate::cells::cell_place;
 use table::put;
 
@@ -54,6 +54,13 @@ pub fn word_place(cell: u32, place: u32) -> usize
     ensures { λ r. ⌜ r ≡ groupPlace cell (firstGroup (wordAt place)) ⌝ }
 {
     cell_place(cell) + sizes::GROUPS_AT + first_group(place) * sizes::GROUP_WORDS
+}
+
+// A group of no row.
+pub fn put_rowless(table: &mut [u32], place: usize)
+    ensures { λ _. ⌜ now (table .exit) ≡ rowlessPut place (now (table .entry)) ⌝ }
+{
+    put(table, place, 0);
 }
 
 // A row behind so many others of its group.

@@ -2,3 +2,4 @@ pub mod Libraries
 pub mod Netlists
 pub mod Reports
 pub mod Texts
+pub mod Ties

@@ -94,7 +94,7 @@ pub record Refused : Type 0 where
 abbrev pub Stops : Refused → Type 0
 Stops f = library (f .given) ≡ refused (f .number) (f .line)
 
-stops : List ℕ → ℕ → ℕ → Refused
+unfoldable pub stops : List ℕ → ℕ → ℕ → Refused
 stops t number line = record { given = t; number = number; line = line }
 
 -- Each number by a text of its own; then the last line without byte 10, an entry broken off by the end, and lines with two

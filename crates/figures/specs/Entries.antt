@@ -1,4 +1,4 @@
--- Document 01's library entries, each by its lines. "Cells" and "Figures to hold".
+-- Document 01's library entries, each by its lines, "Cells" and "Figures to hold"; and tie cells (02, K1).
 -- Assumes nothing.
 use mathlib.Core.List.{List, [], _∷_}
 use Prim.Native.String.{String}
@@ -16,3 +16,10 @@ nand2 = "Name,NAND2,2" ∷ "CC,13,21,M,5" ∷ "CO,203,211" ∷ "SC,12,20,M,4" �
 
 abbrev pub and2 : List String
 and2 = "Name,AND2,2" ∷ "CC,21,M,5,13" ∷ "CO,203,211" ∷ "SC,20,M,4,12" ∷ "SO,202,210" ∷ "End" ∷ []
+
+-- "The home recorder's layout ties unused pins with cells that have no pins." (02, K1)
+abbrev pub tie0 : List String
+tie0 = "Name,TIE0,0" ∷ "CC,1,Z" ∷ "CO" ∷ "SC,0,Z" ∷ "SO" ∷ "End" ∷ []
+
+abbrev pub tie1 : List String
+tie1 = "Name,TIE1,0" ∷ "CC,Z,1" ∷ "CO" ∷ "SC,Z,0" ∷ "SO" ∷ "End" ∷ []

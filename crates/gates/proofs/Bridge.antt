@@ -16,7 +16,7 @@ use Rattle.reading.specs.Choice.{pick}
 use Rattle.table.proofs.Places.{length-fitted, getD-fitted}
 use Rattle.reading.proofs.Laws.{each-at}
 use Rattle.cell_library.specs.Cells.{Row, Group, Cell}
-use Rattle.cell_library.specs.Library.{columnCount}
+use Rattle.cell_library.specs.Library.{columnCount, wordGroups}
 use Rattle.cell_library.specs.Layout.{libraryWords, cellGroups, firstGroup}
 use Rattle.cell_library.specs.Sound.{SoundRow}
 use Rattle.cell_library.proofs.Places.{length-libraryWords, cell-pins, group-count, row-depth, row-columns, cell-group, within-space, first-most}
@@ -170,7 +170,7 @@ module _ (cells : List Cell) (ss : List Statement) (sound : BothSound cells ss) 
       most : length rows ≤ Size.rows
       most = role-group sound gate listed k role has .most-rows
 
-      row-sound : (r : Row) → List·Memᴰ r rows → SoundRow (wordOf k role) (cell .pins) r
+      row-sound : (r : Row) → List·Memᴰ r rows → SoundRow (wordOf k role) (cell .pins) (wordGroups (wordOf k role) cell) r
       row-sound = role-row sound gate listed k role has
 
       group-number : getD library place 0 ≡ length rows

@@ -132,6 +132,16 @@ fn lend_long(records: [Record; MOST], count: usize)
     lend_with(&lib, records, count, &mut numbers, &mut report);
 }
 
+// With a library of one cell that has no pins.
+fn lend_tie(records: [Record; MOST], count: usize)
+    requires { ⌜ count ≤ 2 * Size.lines + 1 ⌝ }
+{
+    let mut numbers = [0u32; sizes::NUMBERS];
+    let mut report = [0u8; 512];
+    let lib = b"Name,TIE1,0\nCC,Z,1\nCO\nSC,Z,0\nSO\nEnd\n";
+    lend_with(lib, records, count, &mut numbers, &mut report);
+}
+
 // With a library text that ends within an entry.
 fn lend_broken(records: [Record; MOST], count: usize)
     requires { ⌜ count ≤ 2 * Size.lines + 1 ⌝ }
@@ -173,6 +183,13 @@ fn latch_with(last: Record) -> [Record; MOST] {
     list[2] = gate(0, 3, 1, 4, 0);
     list[3] = gate(0, 4, 2, 3, 0);
     list[4] = mark(1, 3);
+    list
+}
+
+// A gate without pins, and its line marked output.
+fn tied() -> [Record; MOST] {
+    let mut list = [mark(1, 3); MOST];
+    list[0] = gate(0, 3, 0, 0, 0);
     list
 }
 
@@ -349,6 +366,7 @@ fn main() {
     let latch = latch_with(mark(0, 0));
     lend_all(latch, 5);
     lend_all(latch, 0);
+    lend_tie(tied(), 2);
     // 1, 2 and 3
     lend_small(latch, 5);
     lend_long(latch, 5);

@@ -41,6 +41,9 @@ fn damage(rng: &mut Random, pair: &mut Pair, number: u32) -> Option<Refusal> {
         GROUPS_BAD | BIT_ABOVE | ROW_IDLE => {
             let at = rows_place(rng, pair)?;
             let pins = pair.cells[at / ENTRY].pins;
+            if !has_place(at % ENTRY, pins, number) {
+                return None;
+            }
             bad_rows(rng, &mut pair.lib.lines[at], at % ENTRY, pins, number);
             Some(at)
         }
@@ -168,9 +171,22 @@ fn bad_entry_line(rng: &mut Random, line: &mut Fields, place: usize) {
     let rows = (1..=4).contains(&place);
     if rows && rng.once_in(2) {
         let mark = b"M".to_vec();
-        match rng.below(5) {
+        match rng.below(8) {
             0 => line.insert(1, mark),
             1 => line.push(mark),
+            // A Z joined to what stands behind it, or before it.
+            5 => {
+                line.insert(1, mark);
+                line.insert(1, b"Z".to_vec());
+            }
+            6 => {
+                line.push(mark);
+                line.push(b"Z".to_vec());
+            }
+            7 => {
+                let bad = rng.pick(&["ZZ", "z", "Z0", "0Z", "ZM"]).as_bytes().to_vec();
+                line.insert(rng.within(1, line.len()), bad);
+            }
             2 => {
                 // Two after another, between rows or where they part.
                 let at = rng.within(1, line.len());
@@ -272,8 +288,7 @@ fn used_name(rng: &mut Random, pair: &mut Pair) -> Option<usize> {
 
 fn bad_pins(rng: &mut Random, line: &mut Fields) {
     line[2] = match rng.below(6) {
-        0 => b"0".to_vec(),
-        1 | 2 => b"9".to_vec(),
+        0..=2 => b"9".to_vec(),
         3 => b"10".to_vec(),
         4 => b"99999".to_vec(),
         _ => rng.within(9, 99_999).to_string().into_bytes(),
@@ -286,12 +301,22 @@ fn rows_place(rng: &mut Random, pair: &Pair) -> Option<usize> {
     Some(rng.below(cells) * ENTRY + rng.within(1, 4))
 }
 
+/// CO and SO of a cell without pins have no row to damage.
+fn has_place(place: usize, pins: usize, number: u32) -> bool {
+    pins > 0 || place % 2 == 1 || number == GROUPS_BAD
+}
+
 /// Damages a line of rows for the groups, a bit above the columns, or a row that names too little.
 fn bad_rows(rng: &mut Random, line: &mut Fields, place: usize, pins: usize, number: u32) {
     let mut groups = groups_of(line);
     let observe = place % 2 == 0;
     let top = if observe { 2 * pins + 3 } else { 2 * pins };
     match number {
+        GROUPS_BAD if groups.is_empty() => groups.push(if rng.once_in(2) {
+            Vec::new()
+        } else {
+            vec![rng.below(32) as u32]
+        }),
         GROUPS_BAD => match rng.below(4) {
             0 => groups.clear(),
             1 => {
@@ -303,7 +328,7 @@ fn bad_rows(rng: &mut Random, line: &mut Fields, place: usize, pins: usize, numb
             }
             _ => {
                 let at = rng.below(groups.len());
-                let row = groups[at][0];
+                let row = groups[at].first().copied().unwrap_or(0);
                 let rows = if rng.once_in(3) {
                     rng.within(17, 300)
                 } else {
@@ -314,6 +339,9 @@ fn bad_rows(rng: &mut Random, line: &mut Fields, place: usize, pins: usize, numb
         },
         BIT_ABOVE => {
             let at = rng.below(groups.len());
+            if groups[at].is_empty() {
+                groups[at].push(0);
+            }
             let row = rng.below(groups[at].len());
             // The lowest bit above the columns, or any that seven digits hold.
             let bit = if rng.once_in(2) {
@@ -325,6 +353,12 @@ fn bad_rows(rng: &mut Random, line: &mut Fields, place: usize, pins: usize, numb
             groups[at][row] = kept | 1 << bit;
         }
         _ => {
+            // A row where there was a Z, which would except the rows of the other group.
+            for group in &mut groups {
+                if group.is_empty() {
+                    group.push(rng.below(2) as u32);
+                }
+            }
             let at = rng.below(groups.len());
             let row = rng.below(groups[at].len());
             groups[at][row] = match (observe, rng.below(3)) {
@@ -432,8 +466,8 @@ fn place_of(rng: &mut Random, pair: &Pair, wanted: impl Fn(&Fields) -> bool) -> 
 fn wrong_count(rng: &mut Random, line: &mut Fields) {
     let pins = line.len() - 3;
     let wanted = match rng.below(4) {
-        0 => 0,
-        1 => pins - 1,
+        0 if pins > 0 => 0,
+        1 if pins > 0 => pins - 1,
         2 => pins + 1,
         _ => pins + rng.within(1, 300),
     };
@@ -524,7 +558,7 @@ fn one_rows_line(rng: &mut Random, pair: &mut Pair, lowest: &mut u32) -> Option<
     let line = &mut pair.lib.lines[at];
     // Where 8 and 7 fall on one row, only 7 is left of them.
     for number in [ROW_IDLE, BIT_ABOVE, GROUPS_BAD] {
-        if take(rng, lowest, number, false) {
+        if has_place(place, pins, number) && take(rng, lowest, number, false) {
             bad_rows(rng, line, place, pins, number);
         }
     }
@@ -599,7 +633,7 @@ pub fn overlong(rng: &mut Random, text: &mut Vec<u8>) {
 
 /// Blind damage of bytes, of which nothing is said beforehand.
 pub fn scramble(rng: &mut Random, text: &mut Vec<u8>) {
-    const TELLING: &[u8] = b"\n\n,,0017890MCSOEndNamegateinputoutput \r\0";
+    const TELLING: &[u8] = b"\n\n,,0017890MZCSOEndNamegateinputoutput \r\0";
     let length = text.len();
     if length == 0 {
         text.push(*rng.pick(TELLING));
@@ -660,7 +694,7 @@ pub fn scramble(rng: &mut Random, text: &mut Vec<u8>) {
 
 /// Words and signs of both texts in any order.
 pub fn babble(rng: &mut Random, pieces: usize) -> Vec<u8> {
-    const PIECES: [&str; 30] = [
+    const PIECES: [&str; 32] = [
         "Name",
         "CC",
         "CO",
@@ -668,6 +702,7 @@ pub fn babble(rng: &mut Random, pieces: usize) -> Vec<u8> {
         "SO",
         "End",
         "M",
+        "Z",
         "input",
         "output",
         "gate",
@@ -691,6 +726,7 @@ pub fn babble(rng: &mut Random, pieces: usize) -> Vec<u8> {
         "01",
         "input,1\n",
         "Name,A,1\nCC,3,5\nCO,41\nSC,2,4\nSO,40\nEnd\n",
+        "Name,B,0\nCC,1,Z\nCO\nSC,Z,0\nSO\nEnd\n",
     ];
     (0..pieces)
         .flat_map(|_| rng.pick(&PIECES).bytes())

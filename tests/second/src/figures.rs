@@ -111,6 +111,43 @@ line,cc0,cc1,sc0,sc1,co,so
 sweeps,1,1,1,1
 ";
 
+/// Cells that hold their output at 0 and at 1, and what an AND2 makes of both.
+pub const TIES: &str = "\
+Name,TIE0,0
+CC,1,Z
+CO
+SC,0,Z
+SO
+End
+Name,TIE1,0
+CC,Z,1
+CO
+SC,Z,0
+SO
+End
+Name,AND2,2
+CC,21,M,5,13
+CO,203,211
+SC,20,M,4,12
+SO,202,210
+End
+";
+
+pub const TIES_NET: &str = "\
+gate,TIE0,1
+gate,TIE1,2
+gate,AND2,3,1,2
+output,3
+";
+
+pub const TIES_REPORT: &str = "\
+line,cc0,cc1,sc0,sc1,co,so
+1,1,never,0,never,2,0
+2,never,1,never,0,never,never
+3,2,never,0,never,0,0
+sweeps,2,2,2,2
+";
+
 pub const EMPTY_REPORT: &str = "\
 line,cc0,cc1,sc0,sc1,co,so
 sweeps,1,1,1,1

@@ -60,6 +60,9 @@ pub const ENTRY: usize = 6;
 pub fn rows_line(word: &str, groups: &[Vec<u32>]) -> Fields {
     let mut line = vec![word.as_bytes().to_vec()];
     for group in groups {
+        if group.is_empty() {
+            line.push(b"Z".to_vec());
+        }
         for (place, row) in group.iter().enumerate() {
             if place > 0 {
                 line.push(b"M".to_vec());
@@ -77,6 +80,10 @@ pub fn groups_of(line: &Fields) -> Vec<Vec<u32>> {
     for field in &line[1..] {
         if field == b"M" {
             joined = true;
+            continue;
+        }
+        if field == b"Z" {
+            groups.push(Vec::new());
             continue;
         }
         let row = u32::from_str_radix(std::str::from_utf8(field).unwrap(), 8).unwrap();
@@ -102,6 +109,7 @@ pub fn fresh_name(rng: &mut Random, cells: &[CellForm]) -> Vec<u8> {
         let name = if rng.once_in(8) {
             rng.pick(&[
                 &b"M"[..],
+                b"Z",
                 b"END",
                 b"CC",
                 b"007",
@@ -182,8 +190,34 @@ fn carry(rng: &mut Random, pins: usize, lines: &mut [Vec<Vec<u32>>; 4]) {
     }
 }
 
+/// One or both groups of a CC or SC line made Z; the rows of the other may then name no pin.
+fn tie(rng: &mut Random, groups: &mut [Vec<u32>]) {
+    let at = rng.below(2);
+    groups[at].clear();
+    if rng.once_in(4) {
+        groups[1 - at].clear();
+    }
+    for row in &mut groups[1 - at] {
+        if rng.once_in(2) {
+            *row &= 1;
+        }
+    }
+}
+
+/// A CC or SC line of a cell without pins.
+fn tied(rng: &mut Random) -> Vec<Vec<u32>> {
+    let mut groups: Vec<Vec<u32>> = (0..2)
+        .map(|_| group(rng, Style::Any, |rng| rng.below(2) as u32))
+        .collect();
+    tie(rng, &mut groups);
+    groups
+}
+
 /// The four lines of rows of a cell.
 fn ways(rng: &mut Random, pins: usize, style: Style) -> [Vec<Vec<u32>>; 4] {
+    if pins == 0 {
+        return [tied(rng), Vec::new(), tied(rng), Vec::new()];
+    }
     if style != Style::Common {
         let set = |rng: &mut Random| -> Vec<Vec<u32>> {
             (0..2)
@@ -204,6 +238,16 @@ fn ways(rng: &mut Random, pins: usize, style: Style) -> [Vec<Vec<u32>>; 4] {
         let mut lines = [set(rng), observe(rng), set(rng), observe(rng)];
         if style == Style::Carrying {
             carry(rng, pins, &mut lines);
+        }
+        if style == Style::Any {
+            for (line, groups) in lines.iter_mut().enumerate() {
+                if line % 2 == 0 && rng.once_in(6) {
+                    tie(rng, groups);
+                }
+                if line % 2 == 1 && rng.once_in(6) {
+                    groups[rng.below(pins)].clear();
+                }
+            }
         }
         return lines;
     }
@@ -258,7 +302,7 @@ pub fn add_cells(rng: &mut Random, pair: &mut Pair, count: usize, style: Style) 
         let pins = match (style, rng.below(8)) {
             (Style::Largest, _) | (_, 0) => MOST_PINS,
             (_, 1..=3) => 2,
-            _ => rng.within(1, MOST_PINS),
+            _ => rng.within(0, MOST_PINS),
         };
         add_cell(rng, pair, pins, style);
     }

@@ -10,11 +10,17 @@ pub const MOST_CELLS: usize = 32;
 pub const MOST_PINS: usize = 8;
 pub const MOST_ROWS: usize = 16;
 
-/// The rows of a group: where they stand in the library's one list of rows.
+/// The rows of a group: where they stand in the library's one list of rows. A group may have none.
 #[derive(Clone, Copy, Default)]
 pub struct Group {
     start: u32,
     end: u32,
+}
+
+impl Group {
+    fn is_empty(&self) -> bool {
+        self.start == self.end
+    }
 }
 
 /// The numbers of one kind, combinational or sequential: how a cell's output is set to 0 and to 1,
@@ -127,7 +133,7 @@ fn name_line(line: &Line, library: &Library) -> Result<(Name, usize), u32> {
         return Err(NAME_USED);
     }
     let pins = pins as usize;
-    if pins < 1 || pins > MOST_PINS {
+    if pins > MOST_PINS {
         return Err(PINS_BAD);
     }
     if library.cells.len() == MOST_CELLS {
@@ -151,14 +157,22 @@ fn rows_line(
     if fields.next() != Some(word.as_bytes()) || !line.ended {
         return Err(LIBRARY_FORM);
     }
-    // An M joins the row after it to the group before it, so it needs both.
+    // An M joins the row after it to the group before it, so it needs both. A Z is a whole group.
     let mut joined = false;
     for field in fields {
         if field == b"M" {
-            if joined || groups.is_empty() {
+            if joined || groups.last().map_or(true, Group::is_empty) {
                 return Err(LIBRARY_FORM);
             }
             joined = true;
+            continue;
+        }
+        if field == b"Z" {
+            if joined {
+                return Err(LIBRARY_FORM);
+            }
+            let start = rows.len() as u32;
+            groups.push(Group { start, end: start });
             continue;
         }
         let row = text::octal(field).ok_or(LIBRARY_FORM)?;
@@ -193,8 +207,10 @@ fn rows_line(
     if rows.iter().any(|row| row >> (top + 1) != 0) {
         return Err(BIT_ABOVE);
     }
+    // Where one group of a CC or SC line is Z, the rows of the other need not name a pin.
+    let alone = groups.iter().any(Group::is_empty);
     let unnamed = |row: u32| match purpose {
-        Use::Set => row >> 1 == 0,
+        Use::Set => row >> 1 == 0 && !alone,
         Use::Observe => row >> top == 0,
     };
     if rows.iter().any(|&row| unnamed(row)) {

@@ -3,18 +3,19 @@
 
 /// a text has more than 65,535 bytes
 pub const TEXT_LONG: u32 = 2;
-/// bad form: a wrong word, a missing or empty field, a bad number or name, an `M` out of place, no
-/// byte 10 at the end, an entry broken off
+/// bad form: a wrong word, a missing or empty field, a bad number or name, an `M` or a `Z` out of
+/// place, no byte 10 at the end, an entry broken off
 pub const LIBRARY_FORM: u32 = 3;
 /// the name was used before
 pub const NAME_USED: u32 = 4;
-/// not 1 to 8 pins
+/// more than 8 pins
 pub const PINS_BAD: u32 = 5;
 /// a wrong count of groups, or a group of more than 16 rows
 pub const GROUPS_BAD: u32 = 6;
 /// a row has a bit above its columns
 pub const BIT_ABOVE: u32 = 7;
-/// a CC or SC row names no pin, or a CO or SO row does not observe the output
+/// a CC or SC row names no pin while the other group of its line has rows, or a CO or SO row does not
+/// observe the output
 pub const ROW_IDLE: u32 = 8;
 /// a 33rd entry
 pub const CELLS_MANY: u32 = 9;

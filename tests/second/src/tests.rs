@@ -53,6 +53,7 @@ fn whole_reports() {
     assert_eq!(report(C1130, C1130_NET), C1130_REPORT);
     assert_eq!(report(C1490, C1490_NET), C1490_REPORT);
     assert_eq!(report(NAND2, LATCH_NET), LATCH_REPORT);
+    assert_eq!(report(TIES, TIES_NET), TIES_REPORT);
     assert_eq!(report("", UNDRIVEN_NET), UNDRIVEN_REPORT);
     assert_eq!(report("", ""), EMPTY_REPORT);
     assert_eq!(report(NAND2, ""), EMPTY_REPORT);
@@ -246,7 +247,7 @@ fn library_form() {
 fn library_names_and_pins() {
     lib_refused(&format!("{NAND2}{NAND2}"), 4, 7);
     lib_refused(&format!("{NAND2}Name,NAND2,9\n"), 4, 7);
-    for pins in ["0", "9", "10", "99999"] {
+    for pins in ["9", "10", "99999"] {
         lib_refused(&format!("Name,A,{pins}\n"), 5, 1);
     }
     // Names that look like words or numbers are names.
@@ -268,6 +269,15 @@ fn library_rows() {
         ("CC,0,21", 8),
         ("CC,13,1", 8),
         ("CC,40", 6),
+        // A Z is a group by itself, and excepts the rows of the other group alone from 8.
+        ("CC,Z", 6),
+        ("CC,Z,Z,Z", 6),
+        ("CC,Z,M,13", 3),
+        ("CC,13,M,Z", 3),
+        ("CC,Z,M", 3),
+        ("CC,z,13", 3),
+        ("CC,Z,40", 7),
+        ("CC,0,M,13,21", 8),
     ] {
         lib_refused(&format!("Name,A,2\n{row}\n"), number, 2);
     }
@@ -279,6 +289,9 @@ fn library_rows() {
         ("CO,3,400", 7),
         ("CO,203,177", 8),
         ("CO,0,203", 8),
+        ("CO,Z,3", 8),
+        ("CO,Z", 6),
+        ("CO,Z,M,203", 3),
     ] {
         lib_refused(&format!("Name,A,2\nCC,13,21\n{row}\n"), number, 3);
         lib_refused(
@@ -300,6 +313,28 @@ fn library_rows() {
     lib_refused(&eight.replace("377777", "400000"), 7, 2);
     lib_refused(&eight.replacen("2000000", "4000000", 1), 7, 3);
     lib_refused(&eight.replacen("2000000", "1777777", 1), 8, 3);
+}
+
+/// Cells without pins, and groups without rows.
+#[test]
+fn ties() {
+    let rest = "\nCO\nSC,Z,Z\nSO\nEnd\n";
+    for row in ["CC,Z,Z", "CC,0,Z", "CC,Z,1", "CC,Z,0,M,1"] {
+        report(&format!("Name,A,0\n{row}{rest}"), "gate,A,7\n");
+    }
+    for (row, number) in [("CC,0,1", 8), ("CC,Z,2", 7), ("CC", 6)] {
+        lib_refused(&format!("Name,A,0\n{row}{rest}"), number, 2);
+    }
+    for (row, number) in [("CO,Z", 6), ("CO,", 3), ("CO,0", 6)] {
+        lib_refused(&format!("Name,A,0\nCC,Z,Z\n{row}\n"), number, 3);
+    }
+    // With pins the exception holds as well.
+    report(
+        "Name,A,1\nCC,0,Z\nCO,Z\nSC,Z,2,M,0\nSO,Z\nEnd\n",
+        "gate,A,1,1\n",
+    );
+    refused(TIES, "gate,TIE0,1,1\n", 13, 1);
+    refused(TIES, "gate,AND2,1\n", 13, 1);
 }
 
 #[test]

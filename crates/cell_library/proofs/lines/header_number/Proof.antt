@@ -32,21 +32,17 @@ returns c = rw (sym (told (c .before)) ∙ lt-ltb _ _ (c .if1 .taken))
 
 returns-2 : tie.Need-returns-2
 unfolding headerNumber pinsBad pick
-returns-2 c = rw (new (c .before), lt-leb 1 _ (c .if2 .taken))
+returns-2 c = rw (new (c .before), lt-ltb _ _ (c .if2 .taken))
 
 returns-3 : tie.Need-returns-3
 unfolding headerNumber pinsBad pick
-returns-3 c = rw (new (c .before .before), le-leb 1 _ (c .before .if2 .left), lt-leb _ _ (c .if3 .taken))
+returns-3 c = rw (new (c .before .before), le-ltb _ _ (c .before .if2 .left), ← c .before .before .before .before .count .ensures, le-leb _ _ (c .if3 .taken))
 
 returns-4 : tie.Need-returns-4
 unfolding headerNumber pinsBad pick
-returns-4 c = rw (new (c .before .before .before), le-leb 1 _ (c .before .before .if2 .left), le-leb _ _ (c .before .if3 .left), ← c .before .before .before .before .before .count .ensures, le-leb _ _ (c .if4 .taken))
-
-returns-5 : tie.Need-returns-5
-unfolding headerNumber pinsBad pick
-returns-5 c = rw (new (c .before .before .before), le-leb 1 _ (c .before .before .if2 .left), le-leb _ _ (c .before .if3 .left), ← c .before .before .before .before .before .count .ensures, lt-leb _ _ (c .if4 .left))
+returns-4 c = rw (new (c .before .before), le-ltb _ _ (c .before .if2 .left), ← c .before .before .before .before .count .ensures, lt-leb _ _ (c .if3 .left))
 
 pub header-number-spec : {M : Type 1} → statement M
 header-number-spec =
     tie.close
-    (tie.spec (λ c κs. search needs) (λ c κs. search needs) returns returns-2 returns-3 returns-4 returns-5)
+    (tie.spec (λ c κs. search needs) (λ c κs. search needs) returns returns-2 returns-3 returns-4)

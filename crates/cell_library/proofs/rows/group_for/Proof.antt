@@ -1,7 +1,7 @@
 -- `group_for` meets its contract. Assumes nothing.
 use borrow.Author.Tests.{eq-eqb, ne-eqb}
 use Rattle.reading.specs.Choice.{pick}
-use Rattle.cell_library.specs.Passes.{opened, groupFor}
+use Rattle.cell_library.specs.Passes.{groupFor}
 use borrow.Author.Needs.{needs}
 use Rattle.cell_library.proofs.rows.group_for.Statement.{statement}
 use Rattle.cell_library.proofs.rows.group_for.Tie as tie
@@ -11,10 +11,8 @@ unfolding groupFor pick
 returns c = rw (eq-eqb _ 2 (c .if1 .taken))
 
 returns-2 : tie.Need-returns-2
-unfolding groupFor opened pick
-returns-2 c = rw (ne-eqb _ 2 (c .before .before .before .if1 .left))
+unfolding groupFor pick
+returns-2 c = rw (ne-eqb _ 2 (c .before .if1 .left)) (c .opened .ensures)
 
 pub group-for-spec : {M : Type 1} → statement M
-group-for-spec =
-    tie.close
-    (tie.spec returns (λ c. search needs) (λ c. search needs) (λ c. search needs) (λ c. search needs) returns-2)
+group-for-spec = tie.close (tie.spec returns (λ c κs. search needs) returns-2)

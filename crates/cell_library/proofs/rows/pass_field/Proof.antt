@@ -1,10 +1,10 @@
--- `pass_field` meets its contract: an M, a row, or what is neither. Assumes nothing.
+-- `pass_field` meets its contract: an M, a Z, a row, or what is none of them. Assumes nothing.
 use mathlib.Core.Bool.{false}
-use mathlib.Core.Path.{_≡_, sym, _∙_}
+use mathlib.Core.Path.{_≡_, refl, sym, _∙_}
 use Prim.Native.Nat.{_≤_}
 use Rattle.sizes.specs.Sizes as Size
 use Rattle.reading.specs.Choice.{pick}
-use Rattle.cell_library.specs.Library.{isJoin}
+use Rattle.cell_library.specs.Library.{isJoin, isZ}
 use Rattle.cell_library.specs.Passes.{farthest, fieldPassed, fieldStored}
 use Rattle.cell_library.proofs.Passes.{value-row, bad-row, group-small}
 use native.Mathlib.Omega.{arith}
@@ -17,8 +17,14 @@ use Rattle.cell_library.proofs.rows.pass_field.Tie as tie
 abbrev begun : tie.After-is-join → tie.Start
 begun c = c .before .before .before
 
-abbrev other : tie.After-octal → tie.Else1
+abbrev other : tie.After-is-rowless → tie.Else1
 other c = c .before
+
+abbrev added : tie.After-put-rowless → tie.After-rowless-added
+added c = c .before .before
+
+abbrev unmarked : tie.After-octal → tie.Else2
+unmarked c = c .before
 
 abbrev read-as : tie.After-group-for → tie.After-octal
 read-as c = c .before .before .before .before
@@ -29,8 +35,11 @@ grouped c = c .before .before
 no-join : (c : tie.Else1) → isJoin (begun (c .before) .args .f .now) ≡ false
 no-join c = sym (c .before .is-join .ensures) ∙ c .if1 .left
 
+no-rowless : (c : tie.Else2) → isZ (begun (other (c .before) .before) .args .f .now) ≡ false
+no-rowless c = sym (c .before .is-rowless .ensures) ∙ c .if2 .left
+
 abbrev start : tie.After-group-for → tie.Start
-start c = begun (other (read-as c) .before)
+start c = begun (other (unmarked (read-as c) .before) .before)
 
 -- The group that the row goes into is small.
 small : (c : tie.After-group-for)
@@ -55,18 +64,26 @@ row-added-requires c κs = small (grouped (c .before .before)) .0
 returns-2 : tie.Need-returns-2
 unfolding fieldPassed fieldStored pick
 returns-2 c =
-    let put = c .before .before .before in
-    let g = grouped put in
-    let o = read-as g in
-    let row = value-row (o .octal .result) _ (start g .args .f .now) (o .octal .ensures) (g .before .before .v .given .1) in
-    rw (no-join (other o), row .0, row .1, ← g .group-for .ensures) (c .row-added .ensures, put .put-row .ensures)
+    let put = c .before .before in
+    let g = added put in
+    let t = g .before in
+    rw (no-join (other (t .before)), sym (t .before .is-rowless .ensures) ∙ t .if2 .taken, ← g .rowless-added .ensures) (refl, put .put-rowless .ensures)
 
 returns-3 : tie.Need-returns-3
 unfolding fieldPassed fieldStored pick
 returns-3 c =
+    let put = c .before .before .before in
+    let g = grouped put in
+    let o = read-as g in
+    let row = value-row (o .octal .result) _ (start g .args .f .now) (o .octal .ensures) (g .before .before .v .given .1) in
+    rw (no-join (other (unmarked o .before)), no-rowless (unmarked o), row .0, row .1, ← g .group-for .ensures) (c .row-added .ensures, put .put-row .ensures)
+
+returns-4 : tie.Need-returns-4
+unfolding fieldPassed fieldStored pick
+returns-4 c =
     let m = c .before .before in
     let o = m .before in
-    rw (no-join (other o), bad-row (o .octal .result) _ (o .octal .ensures) (c .before .enum-told .given .1)) (c .marked2 .ensures, search needs)
+    rw (no-join (other (unmarked o .before)), no-rowless (unmarked o), bad-row (o .octal .result) _ (o .octal .ensures) (c .before .enum-told .given .1)) (c .marked2 .ensures, search needs)
 
 pub pass-field-spec : {M : Type 1} → statement M
 pass-field-spec =
@@ -76,6 +93,11 @@ pass-field-spec =
     (λ c κs. search needs)
     returns
     (λ c κs. search needs)
+    (λ c κs. search needs)
+    (λ c κs. search needs)
+    (λ c. search needs)
+    returns-2
+    (λ c κs. search needs)
     (λ c. search needs)
     (λ c κs. search needs)
     put-row-requires
@@ -83,5 +105,5 @@ pass-field-spec =
     (λ c. search needs)
     (λ c κs. search needs)
     (λ c. search needs)
-    returns-2
-    returns-3)
+    returns-3
+    returns-4)
