@@ -34,7 +34,7 @@ use Rattle.gates.specs.Tables.{rowPlaces, rowWays, groupWays, groupVisit
 use Rattle.gates.specs.Fits.{GroupFits, GateFits, TablesFit}
 use Rattle.gates.proofs.Naming.{set-node, observe-node, linesOf, role-places}
 
-noRow : Row
+pub noRow : Row
 noRow = record { depth = 0; columns = 0 }
 
 pub noGate : Gate
@@ -123,7 +123,7 @@ module _ (cells : List Cell) (ss : List Statement) (sound : BothSound cells ss) 
     gate-number : (j : ℕ) → j < Size.gateWords → getD netlist (gatePlace i + j) 0 ≡ getD (gateWords gate) j 0
     gate-number j q = gate-word ss past noGate i j h few-gates q
 
-    cell-number : gateCell netlist i ≡ gate .cell
+    pub cell-number : gateCell netlist i ≡ gate .cell
     unfolding gateWords
     cell-number = let e : gatePlace i ≡ gatePlace i + 0 = omega arith in rw e (gate-number 0 (omega arith))
 
@@ -131,7 +131,7 @@ module _ (cells : List Cell) (ss : List Statement) (sound : BothSound cells ss) 
     unfolding cellOf
     pins-number = rw cell-number (cell-pins noCell cells behind (sound .library .few) (gate .cell) (sound-gate .known))
 
-    pins-most : cell .pins ≤ Size.pins
+    pub pins-most : cell .pins ≤ Size.pins
     pins-most = gate-cell sound gate listed .header .most-pins
 
     pub lines-are : gateLines netlist i ≡ linesOf gate
@@ -177,13 +177,13 @@ module _ (cells : List Cell) (ss : List Statement) (sound : BothSound cells ss) 
       unfolding cellOf
       group-number = rw (cell-number, ← same) (group-count noCell cells behind (sound .library .few) (gate .cell) (sound-gate .known) (roleGroup k role) low)
 
-      depth-number : (r : ℕ) → r < length rows → getD library (place + 1 + Size.rowWords * r) 0 ≡ (getD rows r noRow) .depth
+      pub depth-number : (r : ℕ) → r < length rows → getD library (place + 1 + Size.rowWords * r) 0 ≡ (getD rows r noRow) .depth
       unfolding cellOf
       depth-number r q =
           rw (cell-number, ← same)
           (row-depth noCell cells behind (sound .library .few) (gate .cell) (sound-gate .known) (roleGroup k role) low r noRow (rw same most) (rw same q))
 
-      columns-number : (r : ℕ) → r < length rows → getD library (place + 1 + Size.rowWords * r + 1) 0 ≡ (getD rows r noRow) .columns
+      pub columns-number : (r : ℕ) → r < length rows → getD library (place + 1 + Size.rowWords * r + 1) 0 ≡ (getD rows r noRow) .columns
       unfolding cellOf
       columns-number r q =
           let e : groupPlace (gate .cell) (roleGroup k role) + 1 + Size.rowWords * r + 1 ≡ groupPlace (gate .cell) (roleGroup k role) + 2 + Size.rowWords * r = omega arith in

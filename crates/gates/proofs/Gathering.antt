@@ -88,7 +88,7 @@ module _ {kind : ℕ} {lines : List ℕ} {pins : ℕ} {numbers : List ℕ} where
         go zero ih = ih
         go (suc r) ih = ap₂ (λ (a b : ℕ). a ⊕ b) (g .each first (omega arith)) ih
 
-    row-same : (columns : ℕ) → count ≤ 32 → columns < 2 ^ count → sums costs (namedColumns columns) ≡ sums numbers (rowPlaces kind lines pins columns)
+    pub row-same : (columns : ℕ) → count ≤ 32 → columns < 2 ^ count → sums costs (namedColumns columns) ≡ sums numbers (rowPlaces kind lines pins columns)
     unfolding namedColumns rowPlaces
     row-same columns few b =
         let s : 32 ≡ count + (32 - count) = omega arith in
@@ -98,7 +98,7 @@ module _ {kind : ℕ} {lines : List ℕ} {pins : ℕ} {numbers : List ℕ} where
         ∙ sym (ap (λ (k : ℕ). sums numbers (columnPlaces (columnPlace kind lines pins) k 0 columns)) s
         ∙ ap (sums numbers) (fewer-places (columnPlace kind lines pins) count (32 - count) 0 columns b))
 
-    rows-same : (library : List ℕ) (n place : ℕ) → count ≤ 32 → ((i : ℕ) → i < n → getD library (place + Size.rowWords * i + 1) 0 < 2 ^ count)
+    pub rows-same : (library : List ℕ) (n place : ℕ) → count ≤ 32 → ((i : ℕ) → i < n → getD library (place + Size.rowWords * i + 1) 0 < 2 ^ count)
         → least costs (columnWays library n place) ≡ least numbers (rowWays kind lines pins library n place)
     unfolding columnWays rowWays least way
     rows-same library zero place few b = refl

@@ -2,8 +2,8 @@
 // columns cost, and the row sums.
 //
 // For the crates above, each with what it asks of the tables (specs/Fits.antt), since the loop of the
-// sweeps tests no bounds: `least_sum`, `lesser_of` and `number_of` with the type `Sum`, `cell_place`,
-// `lines_of`, and modules `gather`, `kinds` and `visits`.
+// sweeps tests no bounds: `least_sum`, `lesser_of` and `number_of` with the type `Sum`, `row_number`,
+// `cell_place`, `lines_of`, and modules `gather`, `kinds` and `visits`.
 //
 // Modules `spatial` and `temporal` add up rows, each in costs of its own kind. All that does not add
 // goes by the kind's number, 0 combinational and 1 sequential.
@@ -85,6 +85,14 @@ fn lesser_row(costs: &[u32; sizes::COLUMNS], depth: u32, columns: u32, best: Sum
             Sum::Sequential(Temporal(depth).plus(sum).lesser(b))
         }
     }
+}
+
+// A row's sum, as the number that it would be stored as.
+pub fn row_number(kind: usize, costs: &[u32; sizes::COLUMNS], depth: u32, columns: u32) -> u32
+    requires { ⌜ (kind ≤ 1) × ColumnsFit columns (now costs) ⌝ }
+    ensures { λ r. ⌜ r ≡ rowSum (now (costs .entry)) depth columns ⌝ }
+{
+    number_of(lesser_row(costs, depth, columns, no_sum(kind)))
 }
 
 // "the least row sum of its group", over the costs of the columns.

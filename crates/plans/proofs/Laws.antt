@@ -30,9 +30,9 @@ use Rattle.plans.proofs.Replacing as Replacing
 use Rattle.plans.proofs.Bounds.{visited-rest, leads-rest}
 use Rattle.plans.proofs.Staging as Staging
 -- ---- tables, visits and sweeps, for the crates above
-pub use Rattle.plans.proofs.Table.{at-getD, at-set-same}
-pub use Rattle.plans.proofs.Falling.{never-above}
-pub use Rattle.plans.proofs.Keeping.{Stores, lower-stores, renew-stores, rule-other, sweep-append, sweep-length, sweep-other, settles-length}
+pub use Rattle.plans.proofs.Table.{at-getD, at-set-same, at-set-other}
+pub use Rattle.plans.proofs.Falling.{least-bound, way-same, lower-still, rests-least, never-above}
+pub use Rattle.plans.proofs.Keeping.{Stores, lower-stores, renew-stores, rule-length, rule-other, sweep-append, sweep-length, sweep-other, settles-length, settles-other}
 -- ---- visits that change nothing, as specs/Idle.antt states it; `idles-rest` and `asleep-settles`, the count, for a reader
 pub use Rattle.plans.proofs.Idling.{idles-rest, asleep-skipped, skipped-sweep, made-watched, asleep-settles}
 -- ---- runs one after the other, as specs/Stages.antt states them

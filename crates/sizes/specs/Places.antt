@@ -41,3 +41,9 @@ settingPlace kind l v = linePlace l + kind * Size.values + v
 
 abbrev pub observingPlace : ℕ → ℕ → ℕ
 observingPlace kind l = linePlace l + Size.observedAt + kind
+
+-- ---- the marks
+
+-- The first number of a line at a value.
+abbrev pub markPlace : ℕ → ℕ → ℕ
+markPlace l v = (l * Size.values + v) * Size.markWords

@@ -146,3 +146,13 @@ linePlaces = 1 + lines
 
 abbrev pub pinPlaces : ℕ
 pinPlaces = 1 + gates * pins
+
+-- ---- the marks of crate `trace`
+
+-- For each line, counted from 0, and each value: the visit, the depth and the columns of the row, and where the line of the gate's
+-- last pin stands in the netlist table.
+abbrev pub markWords : ℕ
+markWords = 4
+
+abbrev pub marks : ℕ
+marks = linePlaces * values * markWords

@@ -1,7 +1,7 @@
 // Goldstein's calculation, document 01, "Sweeps": the start, and sweeps until the first that changes
 // nothing, for CC, SC, CO and SO.
 //
-// For the crates above: `calculate`, over the library and the netlist table of accepted texts, which
+// For the crates above: `start`, and `calculate`, over the library and the netlist table of accepted texts, which
 // answers the type `Counts` of crate `calculation`. specs/Ready.antt says what it asks and what it
 // leaves. Starting and running stay apart: `start` lays the start, and each of the four runs goes on
 // from the numbers that stand there. No inner function tests a bound: what each asks of the tables
@@ -349,7 +349,7 @@ fn start_line(netlist: &[u32], numbers: &mut [u32; sizes::NUMBERS], line: usize)
 }
 
 // Lays the start of all numbers.
-fn start(netlist: &[u32], numbers: &mut [u32; sizes::NUMBERS])
+pub fn start(netlist: &[u32], numbers: &mut [u32; sizes::NUMBERS])
     requires { ⌜ (Size.netlist ≤ length (now netlist)) × (length (now numbers) ≡ Size.numbers) ⌝ }
     ensures { λ _. ⌜ now (numbers .exit) ≡ linesStart (now (netlist .entry)) Size.lines 1 ⌝ }
 {

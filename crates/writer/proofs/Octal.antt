@@ -27,8 +27,8 @@ pub octal-one : (n : ℕ) → n < 8 → octalBytes n ≡ (48 + n % 8) ∷ []
 unfolding octalBytes octalDigits pick
 octal-one n h = rw (lt-ltb n 8 h) refl
 
-pub octal-more : (n : ℕ) → 8 ≤ n → n < 8 ^ 11 → octalBytes n ≡ octalBytes (n / 8) ++ ((48 + n % 8) ∷ [])
+pub octal-more : (n : ℕ) → 8 ≤ n → n < 8 ^ 22 → octalBytes n ≡ octalBytes (n / 8) ++ ((48 + n % 8) ∷ [])
 unfolding octalBytes octalDigits pick
 octal-more n h q =
     rw (le-ltb n 8 h)
-    (ap (λ (f : List ℕ). f ++ ((48 + n % 8) ∷ [])) (sym (octal-longer 9 (n / 8) (eighth-below 9 n q))))
+    (ap (λ (f : List ℕ). f ++ ((48 + n % 8) ∷ [])) (sym (octal-longer 20 (n / 8) (eighth-below 20 n q))))

@@ -10,9 +10,9 @@ unfoldable pub octalDigits : ℕ → ℕ → List ℕ
 octalDigits zero n = (48 + n % 8) ∷ []
 octalDigits (suc more) n = pick (ltb n 8) ((48 + n % 8) ∷ []) (octalDigits more (n / 8) ++ ((48 + n % 8) ∷ []))
 
--- A number of 32 bits has eleven digits at the most.
+-- A number of 64 bits has twenty-two digits at the most.
 unfoldable pub octalBytes : ℕ → List ℕ
-octalBytes n = octalDigits 10 n
+octalBytes n = octalDigits 21 n
 
 -- Opens the page's definitions, where a figure computes with them.
 unfoldable pub octal-open : ℕ

@@ -136,7 +136,7 @@ pub fn put_decimal(buffer: &mut [u8], at: usize, n: u32) -> usize
 }
 
 // A number in octal: the digits above the last, the routine calling itself, and the last.
-pub fn put_octal(buffer: &mut [u8], at: usize, n: u32) -> usize
+pub fn put_octal(buffer: &mut [u8], at: usize, n: u64) -> usize
     ensures { λ r. ⌜ Put at (octalBytes n) (now (buffer .entry)) (now (buffer .exit)) r ⌝ }
 {
     let digit = ZERO + (n % 8) as u8;

@@ -1,0 +1,8 @@
+pub mod Tracing
+pub mod Rows
+pub mod Marking
+pub mod Visits
+pub mod Sweeping
+pub mod Framing
+pub mod Standing
+pub mod Running

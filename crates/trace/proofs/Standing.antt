@@ -1,0 +1,191 @@
+-- The sweeps of one kind from the start on: they rest after as many as document 01 allows, and their numbers are those reported.
+-- Assumes nothing.
+use mathlib.Core.List.{List, List·Memᴰ, Memᴰ·append-left, Memᴰ·append-right}
+use mathlib.Core.Path.{_≡_, refl, sym, ap, subst, _∙_}
+use Prim.Native.Nat.{ℕ, zero, suc, _+_, _*_, _-_, _≤_, _<_}
+use native.Mathlib.Nat.{le-refl}
+use native.Mathlib.Omega.{arith}
+use lib.ListN.{length}
+use Rattle.sizes.specs.Sizes as Size
+use Rattle.plans.specs.System.{Way, Visit, Offers}
+use Rattle.plans.specs.Sweep.{at, Rule, renew, lower, sweep, sweeps, Rests, Settles, Inside, Visited, Once, Above, Lowering, Lowering.keeps, Lowering.renews}
+use Rattle.plans.specs.Stages.{Stages, Stages.ended, Stages.stage, Left, Works}
+use Rattle.plans.specs.Statements.{SettlesWithin}
+use Rattle.plans.specs.Trace.{Trace, traceSweeps, untraced}
+use Rattle.plans.proofs.Laws.{rules-agree, traces-agree, traced-numbers, settles-once, settles-other, settles-length, renew-stores, lower-stores}
+use Rattle.cell_library.specs.Cells.{Cell, Column, pin, output}
+use Rattle.cell_library.specs.Cells as C
+use Rattle.netlist.specs.Netlist.{Gate, Statement, gatesOf}
+use Rattle.calculation.specs.Nodes.{Kind, combinational, sequential, Purpose, set, observe, node}
+use Rattle.calculation.specs.Ways.{cellOf, pinLine, asked, Role, setting, observing, purposeOf, settingVisits, observingVisits, asks}
+use Rattle.calculation.specs.Acceptance.{BothSound}
+use Rattle.calculation.specs.Calculation.{start, settingStage, stages, analysed}
+use Rattle.calculation.specs.Settled.{Settled}
+use Rattle.calculation.proofs.Placing.{Placed, node-inside, node-injective, start-length}
+use Rattle.calculation.proofs.Visiting.{Sets, Observes, MayName, visiting-node, Offer, offer, offer-need, setting-from, observing-from, sets-has, observes-has, asks-named}
+use Rattle.calculation.proofs.Accepting.{purpose-placed, asked-placed}
+use Rattle.calculation.proofs.Bounding.{works, settled}
+use Rattle.trace.specs.Lowered.{settingTrace}
+use Rattle.trace.proofs.Framing.{sweeps-rest, sweeps-add, Agree, Among, settles-agree}
+
+kind-clash : combinational ≡ sequential → ⊥
+kind-clash e = let z : _≡_ {A = ℕ} 0 1 = cc in omega arith
+
+set-observe : (l v m : ℕ) → set l v ≡ observe m → ⊥
+set-observe l v m e = let z : _≡_ {A = ℕ} 0 1 = cc in omega arith
+
+module _ (cells : List Cell) (ss : List Statement) (sound : BothSound cells ss) where
+  abbrev gs : List Gate
+  gs = gatesOf ss
+
+  left-same : (vs : List Visit) (xs : List ℕ) → Left vs xs xs
+  left-same vs xs = record { long = refl; below = λ n. le-refl (at xs n); kept = λ n v. refl }
+
+  stage-works : (k : Kind) → Works (settingStage k cells gs) (start ss)
+  stage-works combinational = works cells ss sound .0
+  stage-works sequential = works cells ss sound .1 .0
+
+  module _ (k : Kind) where
+    abbrev pub visits : List Visit
+    visits = settingVisits k cells gs
+
+    abbrev pub most-sweeps : ℕ
+    most-sweeps = 2 * length gs + 1
+
+    within : SettlesWithin renew visits (start ss) most-sweeps most-sweeps
+    within = stage-works k .within (start ss) (left-same visits (start ss))
+
+    lowering : Lowering renew visits (start ss)
+    lowering = stage-works k .lowering (start ss) (left-same visits (start ss))
+
+    -- By the second rule the sweeps remember the same.
+    pub trace-lower : settingTrace k cells ss ≡ traceSweeps lower visits most-sweeps (untraced (start ss))
+    unfolding settingTrace
+    trace-lower = by lowering
+      where
+        by : Lowering renew visits (start ss) → traceSweeps renew visits most-sweeps (untraced (start ss)) ≡ traceSweeps lower visits most-sweeps (untraced (start ss))
+        by (keeps e) = ap (λ (rule : Rule). traceSweeps rule visits most-sweeps (untraced (start ss))) e
+        by (renews e once above) = traces-agree visits most-sweeps (start ss) once above
+
+    settles : (count : ℕ) × (ys : List ℕ) × Settles renew visits (start ss) count ys × (count ≤ most-sweeps)
+    settles = (_, _, within .0, within .1)
+
+    -- Where the sweeps have settled they stay.
+    reached : (count : ℕ) (ys : List ℕ) → Settles renew visits (start ss) count ys → count ≤ most-sweeps → sweeps renew visits most-sweeps (start ss) ≡ ys
+    reached count ys s h =
+        let e : most-sweeps ≡ s .changes + (most-sweeps - s .changes) = omega (arith, s .counted) in
+        ap (λ (n : ℕ). sweeps renew visits n (start ss)) e
+        ∙ sweeps-add renew visits (s .changes) (most-sweeps - s .changes) (start ss)
+        ∙ rw (s .reached) (sweeps-rest renew visits (most-sweeps - s .changes) ys (s .rests))
+
+    same-numbers : sweeps renew visits most-sweeps (start ss) ≡ sweeps lower visits most-sweeps (start ss)
+    same-numbers = by lowering
+      where
+        by : Lowering renew visits (start ss) → sweeps renew visits most-sweeps (start ss) ≡ sweeps lower visits most-sweeps (start ss)
+        by (keeps e) = ap (λ (rule : Rule). sweeps rule visits most-sweeps (start ss)) e
+        by (renews e once above) = rules-agree visits most-sweeps (start ss) once above .0
+
+    pub rests : Rests lower visits (sweeps lower visits most-sweeps (start ss))
+    unfolding sweeps
+    rests = by lowering
+      where
+        ys : List ℕ
+        ys = sweeps lower visits most-sweeps (start ss)
+
+        renewed : Rests renew visits ys
+        renewed = let e = reached _ _ (within .0) (within .1) in rw (← same-numbers, e) (within .0 .rests)
+
+        by : Lowering renew visits (start ss) → Rests lower visits ys
+        by (keeps e) = subst (λ (rule : Rule). Rests rule visits ys) e renewed
+        by (renews e once above) =
+            let a = rules-agree visits most-sweeps (start ss) once above .1 in
+            sym (rules-agree visits 1 ys once a .0) ∙ renewed
+
+    pub trace-numbers : settingTrace k cells ss .numbers ≡ sweeps lower visits most-sweeps (start ss)
+    trace-numbers = ap (λ (t : Trace). t .numbers) trace-lower ∙ traced-numbers lower visits most-sweeps (start ss)
+
+    -- ---- the numbers reported
+
+    -- A node of the kind that sets a line.
+    abbrev Own : ℕ → Type 0
+    Own n = (l : ℕ) × (v : ℕ) × Placed (set l v) × (n ≡ node k (set l v))
+
+    pub visits-inside : Inside visits (start ss)
+    visits-inside v m =
+        let t = setting-from k cells gs v m in
+        rw (start-length ss, visiting-node t) (node-inside k (purposeOf (t .gate) (t .role)) (purpose-placed sound (t .gate) (t .listed) (t .role) (sets-has (cellOf cells (t .gate)) (t .role) (t .allowed))))
+
+    own-purpose : (g : Gate) → List·Memᴰ g gs → (role : Role) → Sets (cellOf cells g) role → Own (node k (purposeOf g role))
+    unfolding purposeOf
+    own-purpose g m (setting e) h = (g .line, e, purpose-placed sound g m (setting e) h, refl)
+    own-purpose g m (observing i) h = absurd h
+
+    own-asked : (g : Gate) → List·Memᴰ g gs → (role : Role) → Sets (cellOf cells g) role → (c : Column) → MayName (cellOf cells g .pins) role c → Own (node k (asked g c))
+    unfolding asked
+    own-asked g m role s (pin i v) h = (pinLine g i, v, asked-placed sound g m role (pin i v) h, refl)
+    own-asked g m (setting e) s (output v) h = absurd h
+    own-asked g m (observing i) s (output v) h = absurd s
+    own-asked g m (setting e) s C.observe h = absurd h
+    own-asked g m (observing i) s C.observe h = absurd s
+
+    own-visit : (v : Visit) → List·Memᴰ v visits → Among Own v
+    own-visit v m =
+        let t = setting-from k cells gs v m in
+        record {
+          visited = rw (visiting-node t) (own-purpose (t .gate) (t .listed) (t .role) (t .allowed));
+          needed = λ w i n j.
+              let o : Offer Sets k cells gs (v .node) w = offer (record { visit = v; listed = m; same = refl; among = i }) t in
+              let f = offer-need o n j in
+              rw (← f .2) (own-asked (o .gate) (o .listed) (o .role) (o .allowed) (f .0) (asks-named (cellOf cells (o .gate)) (o .role) (o .row) (f .0) (f .1)));
+        }
+
+    -- ---- what the other runs leave
+
+    module _ (l v : ℕ) (placed : Placed (set l v)) where
+      abbrev here : ℕ
+      here = node k (set l v)
+
+      other-kind : (j : Kind) → (j ≡ k → ⊥) → Visited (settingVisits j cells gs) here → ⊥
+      other-kind j h x =
+          let t = setting-from j cells gs (x .visit) (x .listed) in
+          h (node-injective j k (purposeOf (t .gate) (t .role)) (set l v) (purpose-placed sound (t .gate) (t .listed) (t .role) (sets-has (cellOf cells (t .gate)) (t .role) (t .allowed))) placed
+          (sym (visiting-node t) ∙ x .same) .0)
+
+      observed-not : (g : Gate) (role : Role) → Observes (cellOf cells g) role → purposeOf g role ≡ set l v → ⊥
+      unfolding purposeOf
+      observed-not g (setting e) h q = absurd h
+      observed-not g (observing i) h q = set-observe l v (pinLine g i) (sym q)
+
+      not-observed : (j : Kind) → Visited (observingVisits j cells gs) here → ⊥
+      not-observed j x =
+          let t = observing-from j cells gs (x .visit) (x .listed) in
+          observed-not (t .gate) (t .role) (t .allowed)
+          (node-injective j k (purposeOf (t .gate) (t .role)) (set l v) (purpose-placed sound (t .gate) (t .listed) (t .role) (observes-has (cellOf cells (t .gate)) (t .role) (t .allowed))) placed
+          (sym (visiting-node t) ∙ x .same) .1)
+
+  -- ---- the numbers reported are those of the sweeps of their kind alone
+
+  module _ (l v : ℕ) (placed : Placed (set l v)) where
+    alone : (k : Kind) (zs counts : List ℕ) → Stages (stages cells gs) (start ss) counts zs → at zs (node k (set l v)) ≡ at (sweeps renew (visits k) (most-sweeps k) (start ss)) (node k (set l v))
+    alone combinational zs counts (stage {ys = y1} s1 (stage {ys = y2} s2 (stage {ys = y3} s3 (stage {ys = y4} s4 (ended e))))) =
+        let n = node combinational (set l v) in
+        ap (λ (ws : List ℕ). at ws n) e
+        ∙ settles-other lower lower-stores s4 n (not-observed combinational l v placed sequential)
+        ∙ settles-other lower lower-stores s3 n (not-observed combinational l v placed combinational)
+        ∙ settles-other renew renew-stores s2 n (other-kind combinational l v placed sequential (λ q. kind-clash (sym q)))
+        ∙ ap (λ (ws : List ℕ). at ws n) (settles-once renew (visits combinational) (start ss) y1 _ _ _ s1 (within combinational .0) .1 ∙ sym (reached combinational _ _ (within combinational .0) (within combinational .1)))
+    alone sequential zs counts (stage {ys = y1} s1 (stage {ys = y2} s2 (stage {ys = y3} s3 (stage {ys = y4} s4 (ended e))))) =
+        let n = node sequential (set l v) in
+        let long : length y1 ≡ length (start ss) = settles-length renew renew-stores s1 in
+        ap (λ (ws : List ℕ). at ws n) e
+        ∙ settles-other lower lower-stores s4 n (not-observed sequential l v placed sequential)
+        ∙ settles-other lower lower-stores s3 n (not-observed sequential l v placed combinational)
+        ∙ settles-agree (Own sequential) (λ u m. rw long (visits-inside sequential u m)) long (own-visit sequential)
+        (λ j o. rw (o .3) (settles-other renew renew-stores s1 (node sequential (set (o .0) (o .1))) (other-kind sequential (o .0) (o .1) (o .2) combinational kind-clash)))
+        s2 (within sequential .0) n (l, v, placed, refl)
+        ∙ ap (λ (ws : List ℕ). at ws n) (sym (reached sequential _ _ (within sequential .0) (within sequential .1)))
+
+    pub reported : (k : Kind) → at (analysed cells ss .numbers) (node k (set l v)) ≡ at (settingTrace k cells ss .numbers) (node k (set l v))
+    reported k =
+        alone k (analysed cells ss .numbers) _ (settled cells ss sound)
+        ∙ ap (λ (ws : List ℕ). at ws (node k (set l v))) (same-numbers k ∙ sym (trace-numbers k))

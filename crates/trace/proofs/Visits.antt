@@ -1,0 +1,119 @@
+-- A visit out of the tables, from what the parts of `visit` read and store.
+-- Assumes nothing.
+use mathlib.Core.Bool.{true, false}
+use mathlib.Core.List.{List, [], _∷_}
+use mathlib.Core.Path.{_≡_, refl, sym, ap, subst, _∙_}
+use Prim.Native.Nat.{ℕ, suc, _+_, _*_, _≤_, _<_}
+use native.Mathlib.Omega.{arith}
+use lib.ListN.{length, getD, set, length-set}
+use lib.Seq.{sets, length-sets}
+use Rattle.sizes.specs.Sizes as Size
+use Rattle.sizes.specs.Places.{groupPlace, settingPlace, markPlace}
+use Rattle.reading.specs.Choice.{pick}
+use Rattle.plans.specs.System.{Visit}
+use Rattle.plans.specs.Sweep.{at, least, lower}
+use Rattle.plans.specs.Trace.{firstPlace, Trace, traceVisit, traceSweep}
+use Rattle.plans.proofs.Laws.{at-getD}
+use Rattle.gates.specs.Tables.{gateCell, gatePins, gateLines, byRole, roleColumns, visitGroup, visitPlace, groupVisit, gateVisit}
+use Rattle.gates.specs.Fits.{LinesFit, Gathered, GatherFits, GroupFits, GateFits, SumFits}
+use Rattle.gates.proofs.Gathering.{group-same, group-wider}
+use Rattle.sweep.proofs.Visits.{visit-is}
+use Rattle.sweep.proofs.Turning.{gather-first, rows-same}
+use Rattle.trace.specs.declared.Least.{Least}
+use Rattle.trace.specs.Marks.{rowPlace, lastPin, Stands}
+use Rattle.trace.specs.Runs.{LeastOf, Fits, turnVisit, Traced}
+use Rattle.trace.proofs.Marking.{stands-still, stands-lowered}
+use Rattle.trace.proofs.Rows.{first-same}
+
+module _ (kind : ℕ) (library netlist numbers marks : List ℕ) (fits : Fits kind library netlist numbers marks) (g e : ℕ) (inside : g < getD netlist 0 0) (value : e ≤ 1)
+    (lines : List ℕ) (pins group : ℕ) (lines-are : lines ≡ gateLines netlist g) (pins-are : pins ≡ gatePins library netlist g)
+    (group-is : group ≡ groupPlace (gateCell netlist g) (visitGroup 0 kind e)) where
+  gate-fits : GateFits library netlist g
+  gate-fits = fits .tablesFit .gates g inside
+
+  pub lines-fit : LinesFit lines pins
+  lines-fit = rw (lines-are, pins-are) (gate-fits .lines)
+
+  few-columns : roleColumns 0 pins ≤ Size.columns
+  unfolding byRole pick
+  few-columns = omega (arith, lines-fit .count)
+
+  rows-fit : GroupFits library group (roleColumns 0 pins)
+  unfolding byRole pick
+  rows-fit = rows-same 0 group-is pins-are (gate-fits .groups 0 kind e (omega arith) (fits .kindFits) (omega arith))
+
+  pub rows-room : group + 1 + Size.rowWords * getD library group 0 ≤ length library
+  rows-room = rows-fit .room
+
+  pub sum-fits : (costs : List ℕ) → length costs ≡ Size.columns → SumFits kind library group costs
+  sum-fits costs size = record { kindFits = fits .kindFits; groupFits = group-wider few-columns rows-fit; size = size }
+
+  pub gather-fits : (costs : List ℕ) → length costs ≡ Size.columns → GatherFits true 0 kind lines pins numbers costs
+  gather-fits costs size = gather-first 0 (fits .kindFits) lines-fit (fits .size) size
+
+  module _ (place : ℕ) (place-is : place ≡ visitPlace 0 kind lines e) where
+    pub place-inside : place < Size.numbers
+    unfolding byRole pick
+    place-inside = rw place-is (omega (arith, fits .kindFits, lines-fit .least 0 (omega arith), lines-fit .most 0 (omega arith)))
+
+    abbrev here : Visit
+    here = groupVisit kind lines pins library group place
+
+    same-visit : here ≡ turnVisit kind library netlist g e
+    same-visit = visit-is 0 kind library netlist g e group place pins lines lines-are pins-are group-is place-is
+
+    module _ (costs : List ℕ) (gathered : Gathered (roleColumns 0 pins) kind lines pins numbers costs) (said : Least) (leastOf : LeastOf library group costs said) where
+      least-is : said .number ≡ least numbers (here .ways)
+      unfolding groupVisit
+      least-is = leastOf .number ∙ group-same gathered library group few-columns rows-fit
+
+      row-is : said .row ≡ firstPlace numbers (here .ways)
+      unfolding groupVisit
+      row-is = leastOf .row ∙ first-same gathered library group few-columns rows-fit
+
+      number-is : at numbers (here .node) ≡ getD numbers place 0
+      unfolding groupVisit
+      number-is = at-getD numbers place 0 (omega (arith, fits .size, place-inside))
+
+      pub traced-still : (clock : ℕ) → getD numbers place 0 ≤ said .number
+          → Traced kind library netlist (turnVisit kind library netlist g e ∷ []) clock numbers marks numbers marks false
+      unfolding traceSweep
+      traced-still clock h =
+          rw (← same-visit)
+          (record {
+            stands = λ t q s. stands-still kind library netlist t numbers marks s here (omega (arith, number-is, least-is));
+            still = λ q. refl;
+            long = refl;
+            marksLong = refl;
+          })
+
+      node-is : here .node ≡ settingPlace kind (getD lines 0 0) e
+      unfolding groupVisit byRole pick
+      node-is = place-is
+
+      noted : (t : Trace) (line clock depth columns last : ℕ) → t .time ≡ clock → line ≡ getD lines 0 0
+          → depth ≡ getD library (rowPlace kind netlist g e (said .row)) 0 → columns ≡ getD library (rowPlace kind netlist g e (said .row) + 1) 0
+          → last ≡ lastPin library netlist g → said .number < getD numbers place 0
+          → Stands kind library netlist t numbers marks
+          → Stands kind library netlist (traceVisit lower t here) (set numbers (here .node) (said .number)) (sets marks (markPlace line e) ((clock + 1) ∷ depth ∷ columns ∷ last ∷ []))
+      noted t line clock depth columns last q l d c p h s =
+          let time : clock + 1 ≡ suc (t .time) = omega arith in
+          rw (time, l, d, c, p)
+          (stands-lowered kind library netlist t numbers marks s here g (getD lines 0 0) e node-is inside
+          (ap (λ (ls : List ℕ). getD ls 0 0) (sym lines-are)) (fits .kindFits) (lines-fit .least 0 (omega arith)) (lines-fit .most 0 (omega arith)) value (fits .marksSize)
+          (said .number) (said .row) least-is row-is (omega (arith, number-is, least-is)))
+
+      pub traced-lowered : (line clock depth columns last : ℕ) → line ≡ getD lines 0 0
+          → depth ≡ getD library (rowPlace kind netlist g e (said .row)) 0 → columns ≡ getD library (rowPlace kind netlist g e (said .row) + 1) 0
+          → last ≡ lastPin library netlist g → said .number < getD numbers place 0
+          → (marks′ : List ℕ) → marks′ ≡ sets marks (markPlace line e) ((clock + 1) ∷ depth ∷ columns ∷ last ∷ [])
+          → Traced kind library netlist (turnVisit kind library netlist g e ∷ []) clock numbers marks (set numbers place (said .number)) marks′ true
+      unfolding traceSweep groupVisit
+      traced-lowered line clock depth columns last l d c p h marks′ m =
+          rw (← same-visit)
+          (record {
+            stands = λ t q s. rw m (noted t line clock depth columns last q l d c p h s);
+            still = λ q. let z : _≡_ {A = ℕ} 0 1 = cc in absurd (omega arith);
+            long = length-set numbers place (said .number);
+            marksLong = ap length m ∙ length-sets marks (markPlace line e) ((clock + 1) ∷ depth ∷ columns ∷ last ∷ []);
+          })

@@ -1,0 +1,3 @@
+pub mod Lowered
+pub mod Marks
+pub mod Runs

@@ -1,0 +1,54 @@
+-- What the functions of this crate ask and leave.
+-- Assumes nothing.
+use mathlib.Core.Bool.{Bool, false}
+use mathlib.Core.List.{List, _++_}
+use mathlib.Core.Path.{_≡_}
+use Prim.Native.Nat.{ℕ, _+_, _*_, _^_, _≤_, _<_}
+use lib.ListN.{length, getD, replicate}
+use Rattle.sizes.specs.Sizes as Size
+use Rattle.plans.specs.System.{Visit}
+use Rattle.plans.specs.Sweep.{least, lower}
+use Rattle.plans.specs.Trace.{firstPlace, Trace, traceSweep}
+use Rattle.cell_library.specs.Cells.{Cell}
+use Rattle.netlist.specs.Netlist.{Statement}
+use Rattle.calculation.specs.Nodes.{Kind, kindNumber}
+use Rattle.gates.specs.Tables.{groupColumns, gateVisit}
+use Rattle.gates.specs.Fits.{TablesFit}
+use Rattle.sweep.specs.Ready.{Holds}
+use Rattle.trace.specs.declared.Least.{Least}
+use Rattle.trace.specs.Lowered.{settingTrace}
+use Rattle.trace.specs.Marks.{AllNoted, Stands}
+
+-- The least row sum of a group over the costs of its columns, and the first row that comes to it.
+pub record LeastOf (library : List ℕ) (group : ℕ) (costs : List ℕ) (said : Least) : Type 0 where
+  pub number : said .number ≡ least costs (groupColumns library group)
+  pub row : said .row ≡ firstPlace costs (groupColumns library group)
+  pub few : said .row ≤ getD library group 0
+
+-- The tables and the arrays beside them.
+pub record Fits (kind : ℕ) (library netlist : List ℕ) (numbers marks : List ℕ) : Type 0 where
+  pub kindFits : kind ≤ 1
+  pub tablesFit : TablesFit library netlist
+  pub few : getD netlist 0 0 ≤ Size.gates
+  pub size : length numbers ≡ Size.numbers
+  pub marksSize : length marks ≡ Size.marks
+
+-- The visit of a gate's output at a value, of the visits by turn.
+abbrev pub turnVisit : ℕ → List ℕ → List ℕ → ℕ → ℕ → Visit
+turnVisit kind library netlist g v = gateVisit 0 kind library netlist g v
+
+-- Visits made at a time leave what they remember, and say whether a number changed.
+pub record Traced (kind : ℕ) (library netlist : List ℕ) (vs : List Visit) (clock : ℕ) (numbers marks numbers′ marks′ : List ℕ) (said : Bool) : Type 0 where
+  pub stands : (t : Trace) → t .time ≡ clock → Stands kind library netlist t numbers marks
+      → Stands kind library netlist (traceSweep lower vs t) numbers′ marks′
+  pub still : said ≡ false → numbers′ ≡ numbers
+  pub long : length numbers′ ≡ length numbers
+  pub marksLong : length marks′ ≡ length marks
+
+-- The tables hold accepted cells and statements, and nothing is marked.
+pub record Traceable (kind : ℕ) (library netlist marks : List ℕ) : Type 0 where
+  pub kindFits : kind ≤ 1
+  pub cells : List Cell
+  pub statements : List Statement
+  pub holds : Holds library netlist cells statements
+  pub unmarked : marks ≡ replicate Size.marks 0

@@ -1,0 +1,190 @@
+// The sweeps that set lines, of one kind, once more: with marks of the visit at which each number was
+// last lowered and of the row by which it was. A cheapest plan is read off from them.
+//
+// For the crates above: `trace`, over the library and the netlist table of accepted texts. specs/Lowered.antt has what
+// the sweeps remember, specs/Marks.antt how it stands in the table of marks.
+//
+// This run stands by itself, so that the sweeps of an analysis, which need no marks, pay nothing for them. It goes gate
+// by gate in netlist order. A visit that does not lower its number leaves it: where lines are set that comes to the same
+// as "becomes the least row sum" (`traces-agree` of crate `plans`).
+use cost::NEVER;
+use gates::cell_place;
+use gates::gather::column_costs;
+use gates::kinds::wide;
+use gates::lines_of;
+use gates::row_number;
+use gates::visits::SETTING;
+use gates::visits::visit_group;
+use gates::visits::visit_place;
+use sweep::start;
+use table::word;
+ghost use mathlib.Core.List.{List, [], _∷_};
+ghost use mathlib.Core.Path.{_≡_};
+ghost use Prim.Native.Nat.{_+_, _*_, _^_, _≤_, _<_};
+ghost use lib.ListN.{length, getD, replicate};
+ghost use lib.Seq.{sets};
+ghost use Rattle.sizes.specs.Sizes as Size;
+ghost use Rattle.sizes.specs.Places.{markPlace};
+ghost use Rattle.cell_library.specs.Cells.{Cell};
+ghost use Rattle.netlist.specs.Netlist.{Statement};
+ghost use Rattle.calculation.specs.Nodes.{Kind, kindNumber};
+ghost use Rattle.gates.specs.Fits.{SumFits};
+ghost use Rattle.sweep.specs.Order.{sweepVisits};
+ghost use Rattle.sweep.specs.Ready.{Holds};
+ghost use Rattle.trace.specs.Lowered.{settingTrace};
+ghost use Rattle.trace.specs.Marks.{AllNoted};
+ghost use Rattle.trace.specs.Runs.{LeastOf, Fits, turnVisit, Traced, Traceable};
+
+// The least row sum of a group, and the first of its rows, from 0, that comes to it.
+pub struct Least {
+    pub number: u32,
+    pub row: usize,
+}
+
+// From the last row to the first, so that the first among equals stays.
+fn least_row(kind: usize, library: &[u32], group: usize, costs: &[u32; sizes::COLUMNS]) -> Least
+    requires { ⌜ SumFits kind (now library) group (now costs) ⌝ }
+    ensures { λ r. ⌜ LeastOf (now (library .entry)) group (now (costs .entry)) r ⌝ }
+{
+    let mut number = NEVER;
+    let mut first = wide(library[group]);
+    let mut row = first;
+    while 0 < row {
+        row -= 1;
+        let at = group + 1 + sizes::ROW_WORDS * row;
+        let sum = row_number(kind, costs, library[at], library[at + 1]);
+        if sum <= number {
+            number = sum;
+            first = row;
+        }
+    }
+    Least { number, row: first }
+}
+
+// Notes the visit of a line at a value, with the row that it took.
+fn note(
+    marks: &mut [u32; sizes::MARKS],
+    line: u32,
+    value: usize,
+    visit: u32,
+    depth: u32,
+    columns: u32,
+    last: u32,
+)
+    requires { ⌜ (line ≤ Size.lines) × (value ≤ 1) × (length (now marks) ≡ Size.marks) ⌝ }
+    ensures { λ _.
+        ⌜ now (marks .exit) ≡ sets (now (marks .entry)) (markPlace line value)
+        (visit ∷ depth ∷ columns ∷ last ∷ []) ⌝ }
+{
+    let at = (wide(line) * sizes::VALUES + value) * sizes::MARK_WORDS;
+    marks[at] = visit;
+    marks[at + 1] = depth;
+    marks[at + 2] = columns;
+    marks[at + 3] = last;
+}
+
+// A visit to a gate's output at a value, at a time: lowers its number to the least row sum, and notes
+// the row. Whether it was lowered.
+fn visit(
+    kind: usize,
+    library: &[u32],
+    netlist: &[u32],
+    gate: usize,
+    value: usize,
+    clock: u32,
+    numbers: &mut [u32; sizes::NUMBERS],
+    marks: &mut [u32; sizes::MARKS],
+) -> bool
+    requires { ⌜ Fits kind (now library) (now netlist) (now numbers) (now marks)
+        × (gate < getD (now netlist) 0 0) × (value ≤ 1) × (clock + 1 < 2 ^ 32) ⌝ }
+    ensures { λ r.
+        ⌜ Traced kind (now (library .entry)) (now (netlist .entry))
+        (turnVisit kind (now (library .entry)) (now (netlist .entry)) gate value ∷ []) clock
+        (now (numbers .entry)) (now (marks .entry)) (now (numbers .exit)) (now (marks .exit)) r ⌝ }
+{
+    let cell = cell_place(netlist, gate);
+    let pins = wide(library[cell + sizes::PINS_AT]);
+    let lines = lines_of(netlist, gate);
+    let mut costs = [0u32; sizes::COLUMNS];
+    column_costs(true, SETTING, kind, &lines, pins, numbers, &mut costs);
+    let group = cell + sizes::GROUPS_AT + visit_group(SETTING, kind, value) * sizes::GROUP_WORDS;
+    let place = visit_place(SETTING, kind, &lines, pins, value);
+    let least = least_row(kind, library, group, &costs);
+    if numbers[place] <= least.number {
+        return false;
+    }
+    numbers[place] = least.number;
+    let row = group + 1 + sizes::ROW_WORDS * least.row;
+    let last = sizes::GATES_AT + gate * sizes::GATE_WORDS + 1 + pins;
+    note(
+        marks,
+        lines[0],
+        value,
+        clock + 1,
+        word(library, row),
+        word(library, row + 1),
+        last as u32,
+    );
+    true
+}
+
+// One sweep that begins at a time, "for each the output's 0 before its 1"; whether a number changed.
+fn one_sweep(
+    kind: usize,
+    library: &[u32],
+    netlist: &[u32],
+    clock: u32,
+    numbers: &mut [u32; sizes::NUMBERS],
+    marks: &mut [u32; sizes::MARKS],
+) -> bool
+    requires { ⌜ Fits kind (now library) (now netlist) (now numbers) (now marks)
+        × (clock + 2 * Size.gates < 2 ^ 32) ⌝ }
+    ensures { λ r.
+        ⌜ Traced kind (now (library .entry)) (now (netlist .entry))
+        (sweepVisits 0 kind (now (library .entry)) (now (netlist .entry))) clock
+        (now (numbers .entry)) (now (marks .entry)) (now (numbers .exit)) (now (marks .exit)) r ⌝ }
+{
+    let turns = sizes::VALUES * wide(netlist[0]);
+    let mut changed = false;
+    let mut turn = 0;
+    while turn < turns {
+        let time = clock + turn as u32;
+        let lowered = visit(
+            kind,
+            library,
+            netlist,
+            turn / 2,
+            turn % 2,
+            time,
+            numbers,
+            marks,
+        );
+        changed = changed | lowered;
+        turn += 1;
+    }
+    changed
+}
+
+// The sweeps from the start on, until the first that changes nothing. The marks are all 0 before.
+pub fn trace(kind: usize, library: &[u32], netlist: &[u32], marks: &mut [u32; sizes::MARKS])
+    requires { ⌜ Traceable kind (now library) (now netlist) (now marks) ⌝ }
+    ensures { λ _.
+        ⌜ ((k : Kind) (cells : List Cell) (ss : List Statement) → kindNumber k ≡ kind
+        → Holds (now (library .entry)) (now (netlist .entry)) cells ss
+        → AllNoted kind (now (library .entry)) (now (netlist .entry)) (settingTrace k cells ss .marks)
+        (now (marks .exit))) ⌝ }
+{
+    let gates = wide(netlist[0]);
+    let mut numbers = [0u32; sizes::NUMBERS];
+    start(netlist, &mut numbers);
+    let mut clock: u32 = 0;
+    let mut left = 2 * gates + 1;
+    while 0 < left {
+        let changed = one_sweep(kind, library, netlist, clock, &mut numbers, marks);
+        if !changed {
+            return;
+        }
+        clock += 2 * gates as u32;
+        left -= 1;
+    }
+}
