@@ -98,7 +98,7 @@ module _ (cells : List Cell) (ss : List Statement) (sound : BothSound cells ss) 
   values-are k i h =
       rw (visit-is cells ss sound behind past i h k (setting 0) (omega arith), visit-is cells ss sound behind past i h k (setting 1) (omega arith))
 
-  pin-visit : (k : Kind) (i : ℕ) (h : i < length (gatesOf ss)) (p : ℕ) → p < cellOf cells (gate i) .pins → gateVisit 1 (kindNumber k) library netlist i p ≡ visit k cells (gate i) (observing (1 + p))
+  pub pin-visit : (k : Kind) (i : ℕ) (h : i < length (gatesOf ss)) (p : ℕ) → p < cellOf cells (gate i) .pins → gateVisit 1 (kindNumber k) library netlist i p ≡ visit k cells (gate i) (observing (1 + p))
   unfolding groupIndex
   pin-visit k i h p b =
       let z : p ≡ 1 + p - 1 = omega arith in

@@ -1,6 +1,6 @@
 -- The lines of the gates, at the tables of accepted cells and statements: which gates need a line, for the arrays that tell it.
 -- Assumes nothing.
-use mathlib.Core.List.{List, [], _∷_, _++_, List·Memᴰ, Memᴰ·of-map}
+use mathlib.Core.List.{List, [], _∷_, _++_, List·Memᴰ, Memᴰ·map, Memᴰ·of-map}
 use mathlib.Core.Path.{_≡_, refl, sym, ap, _∙_, subst}
 use Prim.Native.Nat.{ℕ, zero, suc, _+_, _-_, _≤_, _<_}
 use native.Mathlib.Decide.{decLt}
@@ -12,9 +12,9 @@ use Rattle.sizes.specs.Places.{gatePlace, settingPlace, observingPlace}
 use Rattle.reading.specs.Choice.{pick}
 use Rattle.reading.proofs.Laws.{each-at}
 use Rattle.table.proofs.Places.{getD-fitted}
-use Rattle.plans.specs.System.{Visit}
+use Rattle.plans.specs.System.{Way, Visit}
 use Rattle.plans.specs.Idle.{Needs}
-use Rattle.cell_library.specs.Cells.{Cell}
+use Rattle.cell_library.specs.Cells.{Row, Cell, Column}
 use Rattle.cell_library.specs.Layout.{libraryWords}
 use Rattle.netlist.specs.Netlist.{Gate, Statement, gatesOf}
 use Rattle.netlist.specs.Layout.{netlistWords}
@@ -23,19 +23,19 @@ use Rattle.netlist.proofs.Laws.{gate-sound, driven-once}
 use Rattle.netlist.proofs.Places.{netlist-count}
 use Rattle.calculation.specs.Acceptance.{BothSound}
 use Rattle.calculation.specs.Nodes.{Kind, kindNumber, set, observe, node}
-use Rattle.calculation.specs.Ways.{cellOf, pinLine, Role, setting, observing, visit, valueRoles, pinRoles}
+use Rattle.calculation.specs.Ways.{cellOf, pinLine, asked, needs, Role, setting, observing, groupOf, asks, wayOf, waysOf, visit, valueRoles, pinRoles}
 use Rattle.calculation.specs.Ways as W
-use Rattle.calculation.proofs.Accepting.{gate-cell, gate-pin}
+use Rattle.calculation.proofs.Accepting.{row-observes, gate-cell, gate-pin, role-row}
 use Rattle.calculation.proofs.Needing.{setting-reads, observing-drives}
-use Rattle.calculation.proofs.Visiting.{getD-listed, Sets, value-from, pins-from}
+use Rattle.calculation.proofs.Visiting.{getD-listed, Sets, value-from, pins-from, asks-observe}
 use Rattle.awake.specs.Lines.{gateLine, LinesStand, Chained, Driven}
-use Rattle.gates.specs.Tables.{byRole, gatePins, gateLines, visitCount, visitPlace}
+use Rattle.gates.specs.Tables.{byRole, gatePins, gateLines, visitCount, visitPlace, gateVisit}
 use Rattle.gates.proofs.Bridge.{noGate, netlist-room, pins-number, lines-are}
 use Rattle.gates.proofs.Naming.{set-node, observe-node, linesOf}
 use Rattle.sweep.specs.Order.{gateVisits}
 use Rattle.sweep.specs.Waking.{NeedsLine, visitLine, Linked}
 use Rattle.sweep.specs.Waking as Table
-use Rattle.sweep.proofs.Bridge.{values-are, pins-are}
+use Rattle.sweep.proofs.Bridge.{values-are, pin-visit, pins-are}
 
 -- No two places of the list have gates that drive one line.
 once-at : (gs : List Gate) → DrivenOnce gs → (i j : ℕ) → i < length gs → j < length gs → (getD gs i noGate) .line ≡ (getD gs j noGate) .line → i ≡ j
@@ -170,10 +170,46 @@ module _ (cells : List Cell) (ss : List Statement) (sound : BothSound cells ss) 
         place : visitPlace 1 (kindNumber k) (gateLines netlist h) i ≡ node k (observe (getD (gate h .pins) i 0))
         place = ap (observingPlace (kindNumber k)) read ∙ observe-node k (getD (gate h .pins) i 0)
 
+  -- ---- what each way of a gate needs, where lines are observed
+
+  module _ (k : Kind) (g p : ℕ) (a : g < getD netlist 0 0) (b : p < cellOf cells (gate g) .pins) where
+    row-needs : (w : Way) → List·Memᴰ w (visit k cells (gate g) (observing (1 + p)) .ways) → List·Memᴰ (node k (observe (gate g .line))) (w .needs)
+    unfolding visit waysOf wayOf needs asked
+    row-needs w m =
+        let c : Cell = cellOf cells (gate g) in
+        let role = observing (1 + p) in
+        let r : (r : Row) × List·Memᴰ r (groupOf k c role) × (wayOf k (gate g) c role r ≡ w) =
+        Memᴰ·of-map (wayOf k (gate g) c role) (groupOf k c role) m in
+        let e : w .needs ≡ needs k (gate g) (asks c role (r .0)) = ap (λ (x : Way). x .needs) (sym (r .2)) in
+        rw e (Memᴰ·map (λ (d : Column). node k (asked (gate g) d))
+        (asks-observe c (1 + p) (r .0) (row-observes k (1 + p) (c .pins) _ (r .0)
+        (role-row sound (gate g) (listed g a) k role (omega arith, omega arith) (r .0) (r .1)))))
+
+    output-needed : (w : Way) → List·Memᴰ w (gateVisit 1 (kindNumber k) library netlist g p .ways)
+        → List·Memᴰ (observingPlace (kindNumber k) (getD (gateLines netlist g) 0 0)) (w .needs)
+    output-needed w m =
+        let place : observingPlace (kindNumber k) (getD (gateLines netlist g) 0 0) ≡ node k (observe (gate g .line)) =
+        ap (observingPlace (kindNumber k)) (line-at netlist g 0 (omega arith) ∙ own-line g a) ∙ observe-node k (gate g .line) in
+        rw place (row-needs w (subst (λ (v : Visit). List·Memᴰ w (v .ways)) (pin-visit cells ss sound behind past k g (inside g a) p b) m))
+
   pub reads-linked : (k : Kind) {first next driver : List ℕ} → Chained netlist (getD netlist 0 0) first next → Driven netlist (getD netlist 0 0) driver → Linked 0 (kindNumber k) library netlist first next driver
   unfolding byRole pick
-  reads-linked k c d = record { chained = c; driven = d; once = once; needs = λ g h i a b t v m n. reads k g h i a b t v m n }
+  reads-linked k c d =
+      record {
+        chained = c;
+        driven = d;
+        once = once;
+        needs = λ g h i a b t v m n. reads k g h i a b t v m n;
+        leads = λ g i a b r. absurd (r refl);
+      }
 
   pub drives-linked : (k : Kind) {first next driver : List ℕ} → Chained netlist (getD netlist 0 0) first next → Driven netlist (getD netlist 0 0) driver → Linked 1 (kindNumber k) library netlist first next driver
   unfolding byRole pick
-  drives-linked k c d = record { chained = c; driven = d; once = once; needs = λ g h i a b t v m n. drives k g h i a b t v m n }
+  drives-linked k c d =
+      record {
+        chained = c;
+        driven = d;
+        once = once;
+        needs = λ g h i a b t v m n. drives k g h i a b t v m n;
+        leads = λ g i a b r. output-needed k g i a (rw (pins-number cells ss sound behind past g (inside g a)) at b);
+      }

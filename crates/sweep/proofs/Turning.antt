@@ -1,22 +1,26 @@
 -- A gate's visits, turn by turn: what one asks of the costs of its columns, and what it leaves of them to the next.
 -- Assumes nothing.
 use mathlib.Core.Bool.{Bool, true, false}
-use mathlib.Core.List.{List}
-use mathlib.Core.Path.{_≡_, sym, _∙_}
+use mathlib.Core.List.{List, List·Memᴰ}
+use mathlib.Core.Path.{_≡_, sym, ap, _∙_}
 use Prim.Native.Nat.{ℕ, _+_, _*_, _≤_, _<_}
 use native.Mathlib.Decide.{ℕ-discrete}
 use native.Mathlib.Omega.{arith}
-use lib.ListN.{length}
+use lib.ListN.{length, getD}
 use Rattle.sizes.specs.Sizes as Size
-use Rattle.plans.specs.System.{Visit}
+use Rattle.sizes.specs.Places.{observingPlace}
+use Rattle.plans.specs.System.{Way, Visit}
+use Rattle.plans.specs.Sweep.{at}
+use Rattle.plans.proofs.Laws.{at-getD}
 use Rattle.calculation.proofs.Sweeping.{unaltered}
 use Rattle.gates.specs.Tables.{roleColumns}
 use Rattle.gates.specs.Fits.{LinesFit, Gathered, GatherFits, GroupFits}
 use Rattle.gates.proofs.Gathering.{group-wider}
+use Rattle.gates.proofs.Rows.{observe-column}
 use Rattle.gates.proofs.Roles.{role-set, role-observed}
 use Rattle.sweep.specs.Fits.{VisitFits, CostsOf}
 use Rattle.sweep.specs.Order.{ruleOf}
-use Rattle.sweep.specs.Runs.{Renewed}
+use Rattle.sweep.specs.Runs.{Led, Renewed}
 use Rattle.sweep.proofs.Visits.{rule-stores}
 
 columns-few : (role : ℕ) {lines : List ℕ} {pins : ℕ} → LinesFit lines pins → roleColumns role pins ≤ Size.columns
@@ -42,14 +46,29 @@ module _ (role : ℕ) {kind : ℕ} {lines : List ℕ} {pins : ℕ} (kinds : kind
         fresh = λ t. let z : _≡_ {A = ℕ} 0 1 = cc in absurd (omega arith);
       }
 
+  -- Where the ways of a visit need the gate's output observed, its cost is the last that was gathered.
+  pub led : {ys costs : List ℕ} {u v : Visit} → u ≡ v → Gathered (roleColumns role pins) kind lines pins ys costs
+      → ((role ≡ 0 → ⊥) → (w : Way) → List·Memᴰ w (v .ways) → List·Memᴰ (observingPlace kind (getD lines 0 0)) (w .needs))
+      → Led role (getD costs (2 * pins + 2) 0) ys u
+  led {ys} {costs} {u} {v} same g needed h =
+      let few = fit .count in
+      let all : roleColumns role pins ≡ 2 * pins + 3 = role-observed role (2 * pins) (2 * pins + 3) h in (
+        observingPlace kind (getD lines 0 0),
+        sym (at-getD costs (2 * pins + 2) 0 (omega (arith, g .size)))
+            ∙ g .each (2 * pins + 2) (omega (arith, all))
+            ∙ ap (at ys) (observe-column kind lines pins (2 * pins + 2) (omega arith)),
+        rw same (needed h),
+      )
+
   -- At a turn the costs are those of the present numbers `ys`.
   module _ {library : List ℕ} {group : ℕ} (rows : GroupFits library group (roleColumns role pins)) {ys costs : List ℕ} (n : length ys ≡ Size.numbers) (g : Gathered (roleColumns role pins) kind lines pins ys costs) where
-    pub visit-fits : {place : ℕ} → place < Size.numbers → VisitFits kind library group costs ys place
+    pub visit-fits : {place : ℕ} → place < Size.numbers → VisitFits kind library group costs ys place pins
     visit-fits inside =
         record {
           sumFits = record { kindFits = kinds; groupFits = group-wider (columns-few role fit) rows; size = g .size };
           size = n;
           placeFits = inside;
+          pinsFit = fit .count;
         }
 
     pub costs-of : CostsOf kind library group lines pins ys costs

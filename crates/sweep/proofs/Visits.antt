@@ -1,26 +1,28 @@
 -- Visits one after the other: what a visit leaves, a gate's visits, and the sweeps that are made of them.
 -- Assumes nothing.
 use mathlib.Core.Bool.{Bool, false, not, _||_, or-false}
-use mathlib.Core.List.{List, [], _∷_, _++_}
+use mathlib.Core.List.{List, [], _∷_, _++_, List·Memᴰ, List·Memᴰ·head, List·Memᴰ·tail}
 use mathlib.Core.Path.{_≡_, refl, sym, ap, _∙_}
-use Prim.Native.Nat.{ℕ, _+_, _-_, _<_}
+use Prim.Native.Nat.{ℕ, _+_, _-_, _≤_, _<_}
 use native.Mathlib.Decide.{ℕ-discrete}
 use native.Mathlib.Numerals.{add-one}
 use native.Mathlib.Omega.{arith}
 use lib.Dec.{eqb}
 use lib.ListN.{length, getD, set}
+use lib.Seq.{set-getD}
 use Rattle.sizes.specs.Places.{groupPlace}
-use Rattle.cost.specs.Cost.{lesser}
-use Rattle.plans.specs.System.{Visit}
-use Rattle.plans.specs.Sweep.{at, least, Rule, renew, lower, sweep}
+use Rattle.cost.specs.Cost.{never, counted, capped, lesser}
+use Rattle.cost.proofs.Laws.{sum-left, sum-right}
+use Rattle.plans.specs.System.{Way, Visit}
+use Rattle.plans.specs.Sweep.{at, sums, way, least, Rule, renew, lower, sweep}
 use Rattle.plans.proofs.Laws.{at-getD, sweep-append, sweep-length, Stores, renew-stores, lower-stores}
 use Rattle.calculation.specs.Changes.{alters, changes}
-use Rattle.calculation.proofs.Sweeping.{alters-lower, alters-renew, changes-append}
+use Rattle.calculation.proofs.Sweeping.{alters-lower, alters-renew, same-alters, changes-append}
 use Rattle.gates.specs.Tables.{groupVisit, gateCell, gatePins, gateLines, byRole, visitGroup, visitPlace, gateVisit}
 use Rattle.gates.proofs.Roles.{role-set, role-observed}
 use Rattle.sweep.specs.Order.{ruleOf, gateOfTurn}
 use Rattle.plans.specs.Idle.{inTurn}
-use Rattle.sweep.specs.Runs.{Stored, Renewed, Swept}
+use Rattle.sweep.specs.Runs.{Stored, Led, Renewed, Swept}
 
 -- ---- one number
 module _ (v : Visit) (xs : List ℕ) (inside : v .node < length xs) {number : ℕ} {ys : List ℕ} {changed : Bool} (s : Stored (v .node) number xs ys changed) where
@@ -47,6 +49,37 @@ module _ (v : Visit) (xs : List ℕ) (inside : v .node < length xs) {number : �
       go : Dec (role ≡ 0) → Renewed (ruleOf role) v xs ys changed
       go (yes h) = rw (role-set role renew lower h) (renewed (e ∙ role-set role _ _ h))
       go (no h) = rw (role-observed role renew lower h) (lowered (e ∙ role-observed role _ _ h ∙ rw (at-getD xs (v .node) 0 inside)))
+
+-- ---- a visit that can change nothing
+
+module _ (xs : List ℕ) (o a : ℕ) (b : a ≤ never) (l : a ≤ at xs o) where
+  -- A sum is at least each of its terms.
+  sums-least : (ns : List ℕ) → List·Memᴰ o ns → a ≤ sums xs ns
+  unfolding sums
+  sums-least (n ∷ ns) (List·Memᴰ·head e) = rw (← e) (omega (arith, sum-left (at xs o) (sums xs ns)))
+  sums-least (n ∷ ns) (List·Memᴰ·tail m) = omega (arith, sum-right (at xs n) (sums xs ns), sums-least ns m)
+
+  least-least : (ws : List Way) → ((w : Way) → List·Memᴰ w ws → List·Memᴰ o (w .needs)) → a ≤ least xs ws
+  unfolding least way lesser counted
+  least-least [] h = b
+  least-least (w ∷ ws) h =
+      let first : a ≤ way xs w = omega (arith, sum-right (capped (w .depth)) (sums xs (w .needs)), sums-least (w .needs) (h w (List·Memᴰ·head refl))) in
+      let others : a ≤ least xs ws = least-least ws (λ u m. h u (List·Memᴰ·tail m)) in
+      omega arith
+
+-- The number is not above one that each way needs.
+pub led-still : (role : ℕ) (v : Visit) (xs : List ℕ) {number observed : ℕ} → v .node < length xs → number ≡ getD xs (v .node) 0 → Led role observed xs v
+    → (role ≡ 0 → ⊥) × (number ≤ observed) × (number ≤ never) → Renewed (ruleOf role) v xs xs false
+unfolding lower lesser counted at
+led-still role v xs {number} {observed} inside e led t =
+    let d = led (t .0) in
+    let n : number ≡ at xs (v .node) = e ∙ sym (at-getD xs (v .node) 0 inside) in
+    let b : at xs (v .node) ≤ never = rw (← n) (t .2) in
+    let l : at xs (v .node) ≤ least xs (v .ways) = least-least xs (d .0) (at xs (v .node)) b (rw (← n, ← d .1) (t .1)) (v .ways) (d .2) in
+    let kept : lesser (at xs (v .node)) (least xs (v .ways)) ≡ at xs (v .node) = omega arith in
+    let same : lower xs v ≡ xs = ap (set xs (v .node)) kept ∙ set-getD xs (v .node) never in
+    rw (role-observed role renew lower (t .0))
+    (record { numbers = sym same; flag = sym (same-alters lower v xs (ap (λ (zs : List ℕ). at zs (v .node)) same)) })
 
 -- A visit by the numbers that the tables give is the gate's.
 pub visit-is : (role kind : ℕ) (library netlist : List ℕ) (g i group place pins : ℕ) (lines : List ℕ)

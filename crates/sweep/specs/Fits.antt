@@ -12,11 +12,12 @@ use Rattle.sweep.specs.Order.{ruleOf, sweepVisits}
 use Rattle.sweep.specs.Runs.{Runs}
 use Rattle.sweep.specs.Waking.{Linked, Resting}
 
--- One visit: a group, the costs of its columns, and the place of its number.
-pub record VisitFits (kind : ℕ) (library : List ℕ) (group : ℕ) (costs numbers : List ℕ) (place : ℕ) : Type 0 where
+-- One visit: a group, the costs of its columns, the place of its number, and the pins of its cell.
+pub record VisitFits (kind : ℕ) (library : List ℕ) (group : ℕ) (costs numbers : List ℕ) (place pins : ℕ) : Type 0 where
   pub sumFits : SumFits kind library group costs
   pub size : length numbers ≡ Size.numbers
   pub placeFits : place < Size.numbers
+  pub pinsFit : pins ≤ Size.pins
 
 -- Costs are those of the columns which the rows of a group name, at a gate with these lines.
 pub record CostsOf (kind : ℕ) (library : List ℕ) (group : ℕ) (lines : List ℕ) (pins : ℕ) (numbers costs : List ℕ) : Type 0 where

@@ -1,13 +1,13 @@
 -- What the calls that visit, sweep and run leave in the numbers and say.
 -- Assumes nothing.
 use mathlib.Core.Bool.{Bool, false, not}
-use mathlib.Core.List.{List}
+use mathlib.Core.List.{List, List·Memᴰ}
 use mathlib.Core.Logic.{_↔_}
 use mathlib.Core.Path.{_≡_}
 use Prim.Native.Nat.{ℕ, _^_, _<_}
 use lib.Dec.{eqb}
 use lib.ListN.{set}
-use Rattle.plans.specs.System.{Visit}
+use Rattle.plans.specs.System.{Way, Visit}
 use Rattle.plans.specs.Sweep.{at, Rule, sweep, Rests}
 use Rattle.plans.specs.Statements.{SettlesWithin}
 use Rattle.calculation.specs.Changes.{alters, changes}
@@ -16,6 +16,10 @@ use Rattle.calculation.specs.Changes.{alters, changes}
 pub record Stored (place number : ℕ) (xs ys : List ℕ) (changed : Bool) : Type 0 where
   pub numbers : ys ≡ set xs place number
   pub flag : changed ≡ not (eqb number (at xs place))
+
+-- Where lines are observed, each way of a visit needs a node that has this number: its gate's output observed.
+abbrev pub Led : ℕ → ℕ → List ℕ → Visit → Type 0
+Led role number xs v = (role ≡ 0 → ⊥) → (o : ℕ) × (number ≡ at xs o) × ((w : Way) → List·Memᴰ w (v .ways) → List·Memᴰ o (w .needs))
 
 -- From the numbers `xs`, a visit by this rule left `ys`, and said whether it changed a number.
 pub record Renewed (rule : Rule) (v : Visit) (xs ys : List ℕ) (changed : Bool) : Type 0 where

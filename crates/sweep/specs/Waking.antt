@@ -7,12 +7,13 @@ use mathlib.Core.Path.{_≡_}
 use Prim.Native.Nat.{ℕ, zero, suc, _+_, _≤_, _<_}
 use lib.ListN.{length, getD}
 use Rattle.sizes.specs.Sizes as Size
-use Rattle.plans.specs.System.{Visit}
+use Rattle.sizes.specs.Places.{observingPlace}
+use Rattle.plans.specs.System.{Way, Visit}
 use Rattle.plans.specs.Sweep.{at, Lowering}
 use Rattle.plans.specs.Idle.{Needs, Watched}
 use Rattle.awake.specs.Turns.{bitAt}
 use Rattle.awake.specs.Lines.{gateLine, Chained, Driven}
-use Rattle.gates.specs.Tables.{byRole, gatePins, gateLines, visitCount, visitPlace}
+use Rattle.gates.specs.Tables.{byRole, gatePins, gateLines, visitCount, visitPlace, gateVisit}
 use Rattle.sweep.specs.Order.{ruleOf, gateOfTurn, gateVisits, turnVisits, sweepVisits}
 
 -- The turn is not awake.
@@ -42,6 +43,9 @@ pub record Linked (role kind : ℕ) (library netlist first next driver : List �
   pub needs : (g h i : ℕ) → g < getD netlist 0 0 → h < getD netlist 0 0 → i < visitCount role (gatePins library netlist h)
       → (v : Visit) → List·Memᴰ v (gateVisits role kind library netlist g) → Needs v (visitPlace role kind (gateLines netlist h) i)
       → NeedsLine role netlist g (visitLine role (gateLines netlist h) i)
+  -- where lines are observed, each way of a visit of gate g needs the gate's output observed
+  pub leads : (g i : ℕ) → g < getD netlist 0 0 → i < visitCount role (gatePins library netlist g) → (role ≡ 0 → ⊥)
+      → (w : Way) → List·Memᴰ w (gateVisit role kind library netlist g i .ways) → List·Memᴰ (observingPlace kind (getD (gateLines netlist g) 0 0)) (w .needs)
 
 -- After a number of the line changed, if it did, every gate that needs numbers of the line is awake. No turn was put to rest.
 pub record LineWoken (role : ℕ) (netlist : List ℕ) (gates line : ℕ) (changed : Bool) (before after : List ℕ) : Type 0 where

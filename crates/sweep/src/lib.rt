@@ -38,13 +38,13 @@ use gates::visits::visit_count;
 use gates::visits::visit_group;
 use gates::visits::visit_place;
 ghost use mathlib.Core.Path.{_≡_};
-ghost use mathlib.Core.Bool.{_||_};
+ghost use mathlib.Core.Bool.{true, _||_};
 ghost use mathlib.Core.List.{List, _++_};
 ghost use Prim.Native.Nat.{ℕ, _+_, _*_, _-_, _≤_, _<_};
-ghost use lib.ListN.{length, drop};
+ghost use lib.ListN.{length, getD, drop};
 ghost use lib.Seq.{sets};
 ghost use Rattle.sizes.specs.Sizes as Size;
-ghost use Rattle.cost.specs.Cost.{lesser};
+ghost use Rattle.cost.specs.Cost.{never, lesser};
 ghost use Rattle.plans.specs.Sweep.{at, Settles};
 ghost use Rattle.cell_library.specs.Cells.{Cell};
 ghost use Rattle.netlist.specs.Netlist.{Statement};
@@ -55,7 +55,7 @@ ghost use Rattle.awake.specs.Lines.{Chained, Driven};
 ghost use Rattle.sweep.specs.Fits.{VisitFits, CostsOf, WakeFits, GateVisitsFit, SweepFits, RunFits, FreshFits};
 ghost use Rattle.sweep.specs.Order.{ruleOf, gateVisits, gateOfTurn, sweepVisits};
 ghost use Rattle.sweep.specs.Ready.{Holds, Ready, Calculated, whole};
-ghost use Rattle.sweep.specs.Runs.{Stored, Renewed, Swept};
+ghost use Rattle.sweep.specs.Runs.{Stored, Led, Renewed, Swept};
 ghost use Rattle.sweep.specs.Start.{startNumber, lineStart, linesStart};
 ghost use Rattle.sweep.specs.Waking.{visitLine, LineWoken, ChangesWoken, Resting, DrivenOnce};
 
@@ -89,8 +89,25 @@ fn renewal(role: usize, number: u32, sum: Sum) -> Sum
     }
 }
 
+// Whether no row sum is below a number: where lines are observed, the cost of the gate's output observed
+// is a term of each.
+fn lowest_already(role: usize, number: u32, observed: u32) -> bool
+    ensures { λ r. ⌜ (r ≡ true → (role ≡ 0 → ⊥) × (number ≤ observed) × (number ≤ never)) ⌝ }
+{
+    if role == SETTING {
+        return false;
+    }
+    if NEVER < number {
+        return false;
+    }
+    if number <= observed {
+        return true;
+    }
+    false
+}
+
 // Renews the number at a place by the row sums of a group, over the costs of its columns; whether it
-// changed.
+// changed. Sums that cannot be below the number are not taken.
 fn visit(
     role: usize,
     kind: usize,
@@ -99,14 +116,20 @@ fn visit(
     costs: &[u32; sizes::COLUMNS],
     numbers: &mut [u32; sizes::NUMBERS],
     place: usize,
+    pins: usize,
 ) -> bool
-    requires { ⌜ VisitFits kind (now library) group (now costs) (now numbers) place ⌝ }
+    requires { ⌜ VisitFits kind (now library) group (now costs) (now numbers) place pins ⌝ }
     ensures { λ r.
-        ⌜ ((lines : List ℕ) (pins : ℕ) → CostsOf kind (now (library .entry)) group lines pins
-        (now (numbers .entry)) (now (costs .entry)) → Renewed (ruleOf role)
+        ⌜ ((lines : List ℕ) → CostsOf kind (now (library .entry)) group lines pins
+        (now (numbers .entry)) (now (costs .entry))
+        → Led role (getD (now (costs .entry)) (2 * pins + 2) 0) (now (numbers .entry))
         (groupVisit kind lines pins (now (library .entry)) group place)
+        → Renewed (ruleOf role) (groupVisit kind lines pins (now (library .entry)) group place)
         (now (numbers .entry)) (now (numbers .exit)) r) ⌝ }
 {
+    if lowest_already(role, numbers[place], costs[2 * pins + 2]) {
+        return false;
+    }
     let least = least_sum(kind, library, group, costs);
     let sum = renewal(role, numbers[place], least);
     store(numbers, place, number_of(sum))
@@ -190,7 +213,7 @@ fn visit_gate(
         column_costs(stale, role, kind, &lines, pins, numbers, &mut costs);
         let group = cell + sizes::GROUPS_AT + visit_group(role, kind, i) * sizes::GROUP_WORDS;
         let place = visit_place(role, kind, &lines, pins, i);
-        stale = visit(role, kind, library, group, &costs, numbers, place);
+        stale = visit(role, kind, library, group, &costs, numbers, place, pins);
         let line = visit_line(role, &lines, i);
         wake_needing(role, stale, line, gates, first, next, driver, awake);
         changed = either(changed, stale);

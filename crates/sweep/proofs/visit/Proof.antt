@@ -1,13 +1,17 @@
 -- `visit` stores what the least row sum comes to by the role. Assumes nothing.
-use mathlib.Core.Path.{_∙_}
+use mathlib.Core.Path.{refl, _∙_}
 use Prim.Native.Nat.{_<_}
+use native.Mathlib.Omega.{arith}
 use lib.ListN.{length}
 use borrow.Author.Needs.{needs}
 use Rattle.gates.specs.Tables.{groupVisit}
 use Rattle.gates.proofs.Gathering.{group-same}
-use Rattle.sweep.proofs.Visits.{visited}
+use Rattle.sweep.proofs.Visits.{visited, led-still}
 use Rattle.sweep.proofs.visit.Statement.{statement}
 use Rattle.sweep.proofs.visit.Tie as tie
+
+abbrev began : tie.After-lowest-already → tie.Start
+began c = c .before .before .before .before
 
 abbrev summed : tie.After-store → tie.After-least-sum
 summed c = c .before .before .before .before .before
@@ -15,24 +19,41 @@ summed c = c .before .before .before .before .before
 abbrev renewed : tie.After-store → tie.After-renewal
 renewed c = c .before .before .before
 
+-- No sum can be below the number.
 returns : tie.Need-returns
 unfolding groupVisit
-returns c lines pins o =
-    let s = summed c .before .before in
+returns c lines o led =
+    let s = began (c .before) in
+    let a = s .args in
+    let inside : a .place < length (a .numbers .now) = rw (s .pre .size) (s .pre .placeFits) in
+    led-still (a .role) (groupVisit (a .kind) lines (a .pins) (a .library .now) (a .group) (a .place)) (a .numbers .now) inside refl led (c .before .lowest-already .ensures (c .if1 .taken))
+
+returns-2 : tie.Need-returns-2
+unfolding groupVisit
+returns-2 c lines o led =
+    let s = began (summed c .before .before) in
     let a = s .args in
     let inside : a .place < length (a .numbers .now) = rw (s .pre .size) (s .pre .placeFits) in
     let sum = group-same (o .gathered) (a .library .now) (a .group) (o .few) (o .groupFits) in
-    visited (groupVisit (a .kind) lines pins (a .library .now) (a .group) (a .place)) (a .numbers .now) inside (c .store .ensures) (a .role)
+    visited (groupVisit (a .kind) lines (a .pins) (a .library .now) (a .group) (a .place)) (a .numbers .now) inside (c .store .ensures) (a .role)
     (c .before .number-of .ensures ∙ renewed c .renewal .ensures ∙ rw (summed c .least-sum .ensures ∙ sum))
 
 pub visit-spec : {M : Type 1} → statement M
 visit-spec =
     tie.close
     (tie.spec
+    (λ c. search needs)
+    (λ c. search needs)
+    (λ c. omega (arith, c .before .before .pre .pinsFit))
+    (λ c. omega (arith, c .before .before .pre .pinsFit))
+    (λ c. omega (arith, c .before .before .pre .pinsFit))
+    (λ c. omega (arith, c .before .before .pre .pinsFit))
+    (λ c κs. search needs)
+    returns
     (λ c κs. search needs)
     (λ c. search needs)
     (λ c. search needs)
     (λ c κs. search needs)
     (λ c κs. search needs)
     (λ c κs. search needs)
-    returns)
+    returns-2)

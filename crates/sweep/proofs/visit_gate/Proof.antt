@@ -15,7 +15,7 @@ use Rattle.sweep.specs.Order.{ruleOf, firstVisits}
 use Rattle.plans.specs.Idle.{inTurn}
 use Rattle.sweep.specs.Runs.{Renewed, Swept}
 use Rattle.sweep.specs.Waking.{visitLine, DrivenOnce, ChangesWoken}
-use Rattle.sweep.proofs.Turning.{rows-same, gather-first, visit-fits, costs-of, gather-next}
+use Rattle.sweep.proofs.Turning.{rows-same, gather-first, led, visit-fits, costs-of, gather-next}
 use Rattle.sweep.proofs.Waking.{line-inside, visit-few, woken-same, changes-none, changes-on}
 use Rattle.sweep.proofs.Visits.{swept-none, swept-one, swept-length, next-turn, visit-is}
 use Rattle.sweep.proofs.visit_gate.Statement.{statement}
@@ -131,8 +131,10 @@ made v =
     let this =
     visit-is (a .role) (a .kind) (a .library .now) (a .netlist .now) (a .gate) (l .before .loop .i) (groupAt g) (p .visit-place .result) (d .before .before .wide2 .result) (d .before .lines-of .result)
     (d .before .lines-of .ensures) (pins-are d) (group-stands g) (p .visit-place .ensures) in
-    rw this at (v .visit .ensures (d .before .lines-of .result) (d .before .before .wide2 .result)
-    (costs-of (a .role) (s .pre .linksFit .kindFits) (lines-fit d) (rows-fit g) (numbers-length l) (g .before .column-costs .ensures)))
+    rw this at (v .visit .ensures (d .before .lines-of .result)
+    (costs-of (a .role) (s .pre .linksFit .kindFits) (lines-fit d) (rows-fit g) (numbers-length l) (g .before .column-costs .ensures))
+    (led (a .role) (s .pre .linksFit .kindFits) (lines-fit d) this (g .before .column-costs .ensures)
+    (λ h. rw (← d .before .lines-of .ensures) at (s .pre .linksFit .linked .leads (a .gate) (l .before .loop .i) (s .pre .inside) (subst (λ (n : ℕ). l .before .loop .i < visitCount (a .role) n) (pins-are d) (turn l)) h))))
 
 -- The arrays, for the count of gates that was read.
 chained : (c : tie.After-visit-count Inv-loop μ-loop) → let a = began c .args in Chained (a .netlist .now) (gatesRead c .wide .result) (a .first .now) (a .next .now)
