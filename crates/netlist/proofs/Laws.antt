@@ -9,11 +9,12 @@ use Prim.Native.Nat.{ℕ, suc, _+_, _≤_, _<_}
 use native.Mathlib.Omega.{arith}
 use lib.Dec.{eqb}
 use lib.ListN.{length, getD, length-append}
-use borrow.Author.Tests.{eq-eqb, ne-eqb, eqb-true, eqb-false, leb-false, not-false}
+use borrow.Author.Tests.{eq-eqb, ne-eqb, eqb-true, eqb-false, leb-false, lt-leb, not-false}
 use Rattle.sizes.specs.Sizes as Size
 use Rattle.text.specs.Lines.{lines}
 use Rattle.reading.specs.Choice.{pick}
 use Rattle.reading.specs.Each.{Each}
+use Rattle.reading.specs.Numbers as No
 use Rattle.reading.specs.Refusal.{Read, refused, read}
 use Rattle.reading.proofs.Laws.{by-test, clash, or-left, or-right, or-cases, each-member, each-append, each-map, refused-read}
 use Rattle.cell_library.specs.Cells.{Cell}
@@ -70,6 +71,7 @@ use Rattle.netlist.proofs.Causes.{
   causes-counted,
   pinsAt-cell,
 }
+use Rattle.netlist.proofs.Counting.{gates-few}
 use Rattle.netlist.proofs.Reading.{admitted-more, admitted-refused}
 
 -- ---- lists of lines
@@ -224,6 +226,76 @@ module _ (cells : List Cell) where
       let z = eqb-true (refusalOf cells ss w) 0 t in
       admitted-sound (suc line) (extended ss w) ws rs (sound-next ss w so z) (sym (admitted-more line cells ss w ws z) ∙ e))
       (λ t. refused-read (sym (admitted-refused line cells ss w ws (eqb-false (refusalOf cells ss w) 0 t)) ∙ e))
+
+  -- ---- 16 is never met
+
+  -- A gate on good lines that nothing drives before it finds less than 1,000 gates.
+  gate-space : (ss : List Statement) (s : Statement) → Sound cells ss → anyLineBad (linesOf s) ≡ false
+      → drivenBefore ss s ≡ false → gateTooMany ss s ≡ false
+  unfolding gateTooMany
+  gate-space ss (mark m l) so good free = refl
+  gate-space ss (gate g) so good free =
+      let s = gate g in
+      let ranges : Each LinesInRange (ss ++ (s ∷ [])) = unfold Each LinesInRange in
+      each-append LinesInRange ss (s ∷ []) (so .lines) (in-range (linesOf s) good, tt)
+      in
+      let apart : Apart (drivenLines (ss ++ (s ∷ []))) = unfold drivenLines drivenBefore in
+      rw (one-more linesDriven ss s)
+      (apart-append (drivenLines ss) (linesDriven s) (so .driven) (lone-driven s) free)
+      in
+      let count : length (gatesOf (ss ++ (s ∷ []))) ≡ length (gatesOf ss) + 1 = unfold gatesOf gatesIn in
+      rw (one-more gatesIn ss s) (length-append (gatesOf ss) (g ∷ []))
+      in
+      lt-leb Size.gates (length (gatesOf ss)) (omega (arith, count, gates-few (ss ++ (s ∷ [])) ranges apart))
+
+  -- Where the lowest cause is 16, those before it do not hold, and it does.
+  last-cause : (a b c d e f : Bool)
+      → lowest
+      ((No.lineBad, a)
+      ∷ (No.cellUnknown, b)
+      ∷ (No.pinsDiffer, c)
+      ∷ (No.drivenBefore, d)
+      ∷ (No.markedBefore, e)
+      ∷ (No.gatesMany, f)
+      ∷ [])
+      ≡ No.gatesMany
+      → (a ≡ false) × (d ≡ false) × (f ≡ true)
+  unfolding lowest pick
+  last-cause true b c d e f h = absurd (omega arith)
+  last-cause false true c d e f h = absurd (omega arith)
+  last-cause false false true d e f h = absurd (omega arith)
+  last-cause false false false true e f h = absurd (omega arith)
+  last-cause false false false false true f h = absurd (omega arith)
+  last-cause false false false false false true h = (refl, refl, refl)
+  last-cause false false false false false false h = absurd (omega arith)
+
+  statement-not-many : (ss : List Statement) (w : Option Statement) → Sound cells ss → refusalOf cells ss w ≡ No.gatesMany → ⊥
+  unfolding refusalOf causes
+  statement-not-many ss none so h = omega arith
+  statement-not-many ss (some s) so h =
+      let last = last-cause _ _ _ _ _ _ h in
+      clash (gateTooMany ss s) (last .2) (gate-space ss s so (last .0) (last .1))
+
+  -- So no list of statements, of a text or of records, is refused by 16, whatever the library has.
+  pub admitted-not-many : (line : ℕ) (ss : List Statement) (ws : List (Option Statement)) (at : ℕ) → Sound cells ss
+      → admitted line cells ss ws ≡ refused No.gatesMany at → ⊥
+  unfolding admitted
+  admitted-not-many line ss [] at so e = refused-read (sym e)
+  admitted-not-many line ss (w ∷ ws) at so e =
+      by-test (eqb (refusalOf cells ss w) 0)
+      (λ t.
+      let z = eqb-true (refusalOf cells ss w) 0 t in
+      admitted-not-many (suc line) (extended ss w) ws at (sound-next ss w so z)
+      (sym (admitted-more line cells ss w ws z) ∙ e))
+      (λ t.
+      let same : _≡_ {A = Read (List Statement)} (refused (refusalOf cells ss w) line) (refused No.gatesMany at) =
+      sym (admitted-refused line cells ss w ws (eqb-false (refusalOf cells ss w) 0 t)) ∙ e
+      in
+      statement-not-many ss w so cc)
+
+  pub netlist-not-many : (text : List ℕ) (at : ℕ) → netlist cells text ≡ refused No.gatesMany at → ⊥
+  unfolding netlist
+  netlist-not-many text at e = admitted-not-many 1 [] (lineForms cells (lines text)) at sound-none e
 
   -- The facts of every netlist text that is read.
   pub netlist-sound : (text : List ℕ) (ss : List Statement) → netlist cells text ≡ read ss → Sound cells ss

@@ -1,5 +1,6 @@
 pub mod Bounds
 pub mod Causes
+pub mod Counting
 pub mod Entering
 pub mod Forms
 pub mod Laws

@@ -15,6 +15,7 @@ use borrow.Author.Tests.{ne-eqb, le-ltb, eqb-true, eqb-false}
 use Rattle.sizes.specs.Sizes as Size
 use Rattle.table.specs.Blocks.{fitted}
 use Rattle.reading.specs.Choice.{pick}
+use Rattle.reading.specs.Numbers as No
 use Rattle.reading.specs.Refusal.{refused, read}
 use Rattle.reading.proofs.Laws.{by-test, clash, refused-read}
 use Rattle.cell_library.specs.Cells.{Cell}
@@ -23,6 +24,7 @@ use Rattle.netlist.specs.declared.RawStatement.{RawStatement}
 use Rattle.netlist.specs.Netlist.{Statement, lineBad, anyLineBad, admitted}
 use Rattle.netlist.specs.Layout.{netlistWords, NetlistHolds}
 use Rattle.netlist.specs.Admitting.{StandsFor, Admits, refusalOf, extended, wordsAfter}
+use Rattle.netlist.proofs.Laws.{sound-none, admitted-not-many}
 use Rattle.netlist.proofs.Reading.{admitted-more, admitted-refused}
 use Rattle.outcome.specs.declared.Progress.{Progress}
 use Rattle.outcome.specs.declared.Progress.the-variants.{Unrefused, AtEntry, Later}
@@ -132,6 +134,13 @@ module _ (rec : Record) (p : RawStatement) (line : p .line ≡ rec .line) where
       (λ o.
       let high : ltb (rec .kind) 2 ≡ false = le-ltb (rec .kind) 2 (omega (arith, eqb-false (rec .kind) 0 z, eqb-false (rec .kind) 1 o)) in
       rw (z, o, ne-eqb (rec .kind) 2 k) (inl (form ∙ ap (λ (b : Bool). (b && eqb (rec .cell) 0) && allZero (rec .pins)) high))))
+
+-- ---- 16 is never met
+
+-- No list of records is refused by 16, whatever the library has.
+records-not-many : (rs : List Record) (cells : List Cell) (at : ℕ) → fromRecords rs cells ≡ refused No.gatesMany at → ⊥
+unfolding fromRecords
+records-not-many rs cells at e = admitted-not-many cells 1 [] (recordForms rs) at (sound-none cells) e
 
 -- ---- one step
 
