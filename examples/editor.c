@@ -81,8 +81,6 @@ static const char *reason(unsigned number)
         return "the line is driven already";
     case SCOAP_OUTPUT_TWICE:
         return "the line is marked output already";
-    case SCOAP_GATES:
-        return "a netlist has at most 1,000 gates";
     case SCOAP_REPORT_TOO_LONG:
         return "the report is longer than its buffer";
     default:
@@ -115,7 +113,7 @@ int main(int argc, char **argv)
         return 0;
     }
     unsigned number = scoap_number(answer);
-    if (number >= SCOAP_NETLIST_FORM && number <= SCOAP_GATES) {
+    if (number >= SCOAP_NETLIST_FORM && number <= SCOAP_OUTPUT_TWICE) {
         printf("netlist, line %u: ", scoap_line(answer));
     } else if (number >= SCOAP_LIBRARY_FORM && number <= SCOAP_ENTRIES) {
         printf("library, line %u: ", scoap_line(answer));

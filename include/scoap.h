@@ -37,7 +37,7 @@ extern "C" {
 
 /*
  * Why a pair of texts is refused, in the words of README's table, to which tests/refusals holds them. The
- * number 1 needs a lent table and can't come from here.
+ * number 1 needs a lent table and can't come from here; 16 is unused.
  */
 enum scoap_refusal {
     /* a text has more than 65,535 bytes */
@@ -72,8 +72,6 @@ enum scoap_refusal {
     SCOAP_DRIVEN_TWICE = 14,
     /* the line is marked output already */
     SCOAP_OUTPUT_TWICE = 15,
-    /* a 1,001st gate (14 or 11 comes first, so it is never met) */
-    SCOAP_GATES = 16,
 
     /* the report is longer than its buffer */
     SCOAP_REPORT_TOO_LONG = 17
@@ -91,7 +89,7 @@ enum scoap_refusal {
  *
  * Answers the report's length, which is below SCOAP_REFUSED, where the pair is accepted. Otherwise
  * it answers the refusal's number times 1,000,000 plus the line, from 1 in the text that the number
- * belongs to: 3 to 9 the library, 10 to 16 the netlist; 2 and 17 have line 0. The library is read
+ * belongs to: 3 to 9 the library, 10 to 15 the netlist; 2 and 17 have line 0. The library is read
  * first; the topmost bad line counts, and within it the lowest number.
  *
  * The buffer afterwards:

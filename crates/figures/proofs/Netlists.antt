@@ -1,6 +1,5 @@
 -- Figures of document 01 "Netlist" and "Where a text stops", by computation: the NAND2 latch of "Figures to hold" reads to
--- its statements, and a text for each refusal 10 to 15 is refused by its number at its line. 16 cannot be met: 11 or 14 comes
--- first. Assumes nothing.
+-- its statements, and a text for each refusal 10 to 15 is refused by its number at its line. Assumes nothing.
 use mathlib.Core.List.{List, [], _∷_}
 use mathlib.Core.Path.{_≡_, refl}
 use Prim.Native.Nat.{ℕ}

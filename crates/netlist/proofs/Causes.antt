@@ -19,8 +19,8 @@ use Rattle.cell_library.specs.Cells.{Cell}
 use Rattle.netlist.specs.Lowest.{lowest}
 use Rattle.netlist.specs.Netlist.{Gate, Mark, input, output, Statement, mark, gate, member, linesOf, linesMarked}
 use Rattle.netlist.specs.Netlist.{linesDriven, markedLines, drivenLines, isMarked, isInput}
-use Rattle.netlist.specs.Netlist.{isOutput, driven, gatesOf, lineBad, anyLineBad, unknownCell, pinsAt, countDiffers}
-use Rattle.netlist.specs.Netlist.{anyMember, drivenBefore, markedBefore, gateTooMany, causes}
+use Rattle.netlist.specs.Netlist.{isOutput, driven, lineBad, anyLineBad, unknownCell, pinsAt, countDiffers}
+use Rattle.netlist.specs.Netlist.{anyMember, drivenBefore, markedBefore, causes}
 use Rattle.netlist.specs.Layout.{driverWord, outputWord}
 use Rattle.netlist.specs.Admitting.{gateCause, markNumber}
 use Rattle.netlist.proofs.Weighing.{Counted, lowest-append}
@@ -137,15 +137,15 @@ causes-counted cells ss s = search needs
 module _ (cells : List Cell) (ss : List Statement) where
   pub mark-cause : (m : Mark) (l : ℕ)
       → lowest (causes cells ss (mark m l)) ≡ pick (lineBad l) No.lineBad (pick (taken m ss l) (markNumber m) 0)
-  unfolding lowest causes linesOf linesMarked linesDriven anyLineBad unknownCell countDiffers anyMember drivenBefore markedBefore gateTooMany taken isMarked driven pick
+  unfolding lowest causes linesOf linesMarked linesDriven anyLineBad unknownCell countDiffers anyMember drivenBefore markedBefore taken isMarked driven pick
   mark-cause input l = rw (or-false (lineBad l), or-false (member l (drivenLines ss)))
   mark-cause output l = rw (or-false (lineBad l), or-false (member l (markedLines output ss)))
 
   -- a gate's own causes come first
   pub gate-causes : (g : Gate) → lowest (causes cells ss (gate g))
       ≡ pick (eqb (gateCause cells g) 0)
-      (pick (driven (g .line) ss) No.drivenBefore (pick (leb Size.gates (length (gatesOf ss))) No.gatesMany 0)) (gateCause cells g)
-  unfolding causes gateCause lowest linesMarked linesDriven anyMember drivenBefore markedBefore gateTooMany driven pick Each
+      (pick (driven (g .line) ss) No.drivenBefore 0) (gateCause cells g)
+  unfolding causes gateCause lowest linesMarked linesDriven anyMember drivenBefore markedBefore driven pick Each
   gate-causes g =
       lowest-append
       ((No.lineBad, anyLineBad (linesOf (gate g)))
@@ -154,7 +154,6 @@ module _ (cells : List Cell) (ss : List Statement) where
       ∷ [])
       ((No.drivenBefore, drivenBefore ss (gate g))
       ∷ (No.markedBefore, markedBefore ss (gate g))
-      ∷ (No.gatesMany, gateTooMany ss (gate g))
       ∷ [])
       (search needs)
       ∙ rw (or-false (member (g .line) (drivenLines ss)))

@@ -1,31 +1,18 @@
 -- How many gates there can be: each drives a line of its own, and there are 1,000 lines.
 -- Assumes nothing.
-use mathlib.Core.Bool.{Bool, true, false, _||_}
-use mathlib.Core.List.{List, [], _∷_, _++_, flatMap}
-use mathlib.Core.Path.{_≡_, refl, sym}
-use Prim.Native.Nat.{ℕ, zero, suc, _+_, _≤_}
+use mathlib.Core.Bool.{true, false}
+use mathlib.Core.List.{List, [], _∷_, flatMap}
+use mathlib.Core.Path.{_≡_, refl}
+use Prim.Native.Nat.{ℕ, zero, suc, _≤_}
 use native.Mathlib.Omega.{arith}
 use lib.Dec.{eqb}
-use lib.ListN.{length, length-append}
+use lib.ListN.{length}
 use borrow.Author.Tests.{eqb-true, eqb-false}
 use Rattle.sizes.specs.Sizes as Size
 use Rattle.reading.specs.Choice.{pick}
 use Rattle.reading.specs.Each.{Each}
 use Rattle.reading.proofs.Laws.{by-test, or-left, or-right, each-append}
-use Rattle.netlist.specs.Netlist.{
-  Statement,
-  Mark,
-  input,
-  output,
-  mark,
-  gate,
-  member,
-  linesOf,
-  linesDriven,
-  gatesIn,
-  drivenLines,
-  gatesOf,
-}
+use Rattle.netlist.specs.Netlist.{Statement, input, output, mark, gate, member, linesOf, linesDriven, gatesIn, drivenLines, gatesOf}
 use Rattle.netlist.specs.Sound.{InRange, LinesInRange, Apart}
 
 -- ---- as many different numbers from 1 to n as n, at most

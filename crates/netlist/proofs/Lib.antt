@@ -7,5 +7,6 @@ pub mod Laws
 pub mod Outcomes
 pub mod Places
 pub mod Reading
+pub mod Sounding
 pub mod Storing
 pub mod Weighing

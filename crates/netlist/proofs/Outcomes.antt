@@ -5,14 +5,14 @@ use mathlib.Core.List.{List, [], _∷_, _++_}
 use mathlib.Core.Logic.{inl, inr, ⊎-elim}
 use mathlib.Core.Option.{Option, none, some}
 use mathlib.Core.Path.{_≡_, refl, sym, ap, _∙_}
-use Prim.Native.Nat.{ℕ, zero, suc, _+_, _≤_, _<_, min}
+use Prim.Native.Nat.{ℕ, zero, suc, _+_, _%_, _≤_, _<_, min}
 use native.Mathlib.Nat.{not-suc-le-zero, le-of-suc-le-suc}
 use native.Mathlib.Omega.{arith}
 use lib.Dec.{leb, eqb}
 use lib.ListN.{length, getD, set, take}
 use lib.Seq.{take-all}
 use borrow.Author.Needs.{needs}
-use borrow.Author.Tests.{le-leb, lt-leb, eq-eqb, ne-eqb, eqb-true, eqb-false, leb-false, not-true, not-false}
+use borrow.Author.Tests.{eq-eqb, ne-eqb, eqb-true, eqb-false, leb-false, not-true, not-false}
 use Rattle.sizes.specs.Places.{driverPlace, mentionPlace}
 use Rattle.sizes.specs.Sizes as Size
 use Rattle.table.specs.Blocks.{fitted}
@@ -37,12 +37,15 @@ use Rattle.netlist.specs.Netlist.{
   gateKind,
   driven,
   linesOf,
+  linesDriven,
   gatesOf,
   lineBad,
   anyLineBad,
   unknownCell,
   pinsAt,
   countDiffers,
+  anyMember,
+  drivenBefore,
 }
 use Rattle.netlist.specs.Layout.{gateWords, netlistWords, NetlistHolds}
 use Rattle.netlist.specs.Admitting.{
@@ -60,9 +63,11 @@ use Rattle.netlist.specs.Admitting.{
   gateStored,
   gateAdded,
 }
+use Rattle.netlist.specs.Sound.{Sound}
 use Rattle.netlist.proofs.Places.{netlist-count, driver-word, output-word}
 use Rattle.netlist.proofs.Weighing.{lowest-none}
 use Rattle.netlist.proofs.Causes.{lineBad-range, taken, markWord, word-taken, mark-cause, gate-causes}
+use Rattle.netlist.proofs.Sounding.{gate-space}
 use Rattle.netlist.proofs.Storing.{stored-mark, stored-gate}
 
 number-some : (m : Mark) → markNumber m ≡ 0 → ⊥
@@ -205,21 +210,20 @@ module _ (cells : List Cell) {table : List ℕ} {ss : List Statement} (holds : N
       unfolding taken
       undriven = is-free cells holds input (g .line) good free
 
+      free-before : drivenBefore ss (gate g) ≡ false
+      unfolding drivenBefore linesDriven anyMember driven
+      free-before = rw undriven
+
       count : getD table 0 0 ≡ length (gatesOf ss)
       count = rw (holds .words) (netlist-count ss (holds .past))
 
-      pub gate-many : Size.gates ≤ getD table 0 0 → Decided cells ss (some (gate g)) (holds .past) No.gatesMany table
-      unfolding refusalOf pick
-      gate-many h =
-          refuses cells holds (some (gate g)) No.gatesMany (λ e. omega arith)
-          (rw (gate-causes cells ss g, ← none, undriven, le-leb Size.gates (length (gatesOf ss)) (rw count at h)))
-
-      pub gate-admitted : (p : RawStatement) → IsGate g p → Fits cells → getD table 0 0 < Size.gates
+      pub gate-admitted : (p : RawStatement) → IsGate g p → Fits cells → Sound cells ss
           → Decided cells ss (some (gate g)) (holds .past) 0 (gateAdded (getD table 0 0) p table)
       unfolding refusalOf gateAdded gateStored gateWords pick
-      gate-admitted p is fits few =
+      gate-admitted p is fits so =
           let n = length (g .pins) in
-          let space : length (gatesOf ss) < Size.gates = rw count at few in
+          let space : length (gatesOf ss) < Size.gates = gate-space cells ss g so (unfold linesOf in whole .lines) free-before in
+          let one : (length (gatesOf ss) + 1) % 4294967296 ≡ length (gatesOf ss) + 1 = omega (arith, space) in
           let narrow : n ≤ Size.pins = rw (whole .count) (pinsAt-few cells (g .cell) (fits .narrow)) in
           let all : min (p .count) Size.pins ≡ n = omega (arith, is .count) in
           let pins : take (min (p .count) Size.pins) (p .pins) ≡ g .pins =
@@ -229,8 +233,8 @@ module _ (cells : List Cell) {table : List ℕ} {ss : List Statement} (holds : N
           rw (is .pins) (take-all Size.pins (fitted 0 Size.pins (g .pins)) (omega (arith, length-fitted 0 Size.pins (g .pins))))
           in
           admits cells holds (gate g) _
-          (rw (gate-causes cells ss g, ← none, undriven, lt-leb Size.gates (length (gatesOf ss)) space))
-          (rw (count, is .cell, is .line, pins, kept, holds .words)
+          (rw (gate-causes cells ss g, ← none, undriven))
+          (rw (count, one, is .cell, is .line, pins, kept, holds .words)
           (stored-gate ss (holds .past) g (whole .lines) undriven space))
 
 -- ---- which statement the numbers stand for

@@ -27,9 +27,11 @@ use Rattle.netlist.specs.Netlist.{isMarked, driven, causes, admit, admit
 use Rattle.netlist.specs.Layout.{gateWords, driverWord, outputWord, mentionWord, lineParts, lineWords}
 use Rattle.netlist.specs.Layout.{netlistWords, NetlistHolds, netlistAfter}
 use Rattle.netlist.specs.Admitting.{refusalOf, extended, Decided, wordsAfter, ReadsLines}
+use Rattle.netlist.specs.Sound.{Sound}
 use Rattle.netlist.proofs.Weighing.{weigh-lowest}
 use Rattle.netlist.proofs.Causes.{causes-counted}
 use Rattle.netlist.proofs.Places.{length-netlistWords}
+use Rattle.netlist.proofs.Sounding.{sound-none, sound-next}
 
 -- ---- one statement of a list
 
@@ -102,17 +104,19 @@ pub line-ended : (text : List ℕ) (at next : ℕ) → at ≤ length text → ne
     → next ≤ length text → at + length (part 10 text at) < length text
 line-ended text at next h e q = omega (arith, nextAfter-within text at (part 10 text at) h)
 
--- What is read so far: the statements, which the table holds, and the lines from the cursor on still to be read.
+-- What is read so far: the statements, which were admitted and which the table holds, and the lines from the cursor on still
+-- to be read.
 pub record Reading (cells : List Cell) (text : List ℕ) (at number : ℕ) (table past : List ℕ) : Type 0 where
   pub statements : List Statement
   pub rest : netlist cells text ≡ admitted number cells statements (lineForms cells (linesFrom text at))
+  pub sound : Sound cells statements
   pub held : table ≡ netlistWords statements ++ past
 
 pub reading-start : (cells : List Cell) (text before : List ℕ) → Size.netlist ≤ length before
     → Reading cells text 0 1 (cleared Size.netlist before) (drop Size.netlist (cleared Size.netlist before))
 unfolding netlist
 reading-start cells text before h =
-    record { statements = []; rest = rw (linesFrom-start text); held = rw (cleared-past before h) (cleared-empty before h) }
+    record { statements = []; rest = rw (linesFrom-start text); sound = sound-none cells; held = rw (cleared-past before h) (cleared-empty before h) }
 
 module _ {cells : List Cell} {text : List ℕ} {at number : ℕ} {table past : List ℕ}
     (so-far : Reading cells text at number table past) where
@@ -143,6 +147,7 @@ module _ {cells : List Cell} {text : List ℕ} {at number : ℕ} {table past : L
                 so-far .rest
                 ∙ rw (moved, line-here, add-one number)
                 (admitted-more number cells (so-far .statements) here behind (sym (decided .answers) ∙ z));
+            sound = sound-next cells (so-far .statements) here (so-far .sound) (sym (decided .answers) ∙ z);
             held = decided .leaves ∙ rw z;
           }
 

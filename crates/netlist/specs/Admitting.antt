@@ -5,7 +5,7 @@ use mathlib.Core.List.{List, [], _∷_, _++_}
 use mathlib.Core.Logic.{_⊎_}
 use mathlib.Core.Option.{Option, none, some}
 use mathlib.Core.Path.{_≡_}
-use Prim.Native.Nat.{ℕ, _+_, _≤_, _<_, min}
+use Prim.Native.Nat.{ℕ, _+_, _%_, _≤_, _<_, min}
 use lib.Dec.{eqb, ltb}
 use lib.ListN.{length, set, take}
 use lib.Seq.{sets}
@@ -25,6 +25,7 @@ use Rattle.netlist.specs.Lowest.{lowest}
 use Rattle.netlist.specs.Netlist.{Gate, Mark, input, output, Statement, mark, gate, kindOf, gateKind, linesOf, anyLineBad}
 use Rattle.netlist.specs.Netlist.{unknownCell, countDiffers, causes, netlist}
 use Rattle.netlist.specs.Layout.{netlistWords, NetlistHolds, netlistAfter}
+use Rattle.netlist.specs.Sound.{Sound}
 
 -- ---- pins
 
@@ -92,10 +93,11 @@ pub record Decided (cells : List Cell) (ss : List Statement) (w : Option Stateme
   pub answers : number ≡ refusalOf cells ss w
   pub leaves : after ≡ wordsAfter number ss w ++ past
 
--- So a statement is decided after those, whatever they are, that the table holds.
+-- So a statement is decided after those that the table holds, whatever they are, if they were admitted so themselves: what
+-- `Sound` says of them leaves a place for each gate, since 16 is not asked for.
 abbrev pub Admits : List Cell → Option Statement → List ℕ → ℕ → List ℕ → Type 0
 Admits cells w before number after =
-    (ss : List Statement) (h : NetlistHolds before ss) → Decided cells ss w (h .past) number after
+    (ss : List Statement) → Sound cells ss → (h : NetlistHolds before ss) → Decided cells ss w (h .past) number after
 
 -- ---- stores
 
@@ -117,12 +119,16 @@ mentionAll (l ∷ ls) table = mentionAll ls (set table (mentionPlace l) 1)
 unfoldable pub gateStored : ℕ → ℕ → ℕ → List ℕ → List ℕ → List ℕ
 gateStored g cell line pins table = sets table (gatePlace g) (cell ∷ (line ∷ take Size.pins pins))
 
+-- The count of gates with one more, as the 32 bits of a number have it.
+abbrev pub oneMore : ℕ → ℕ
+oneMore g = (g + 1) % 4294967296
+
 -- All that a gate leaves behind `g` others: its driver, the lines that it mentions, its numbers, the count.
 unfoldable pub gateAdded : ℕ → RawStatement → List ℕ → List ℕ
 gateAdded g s table =
     let l = s .line in
     let pins = take (min (s .count) Size.pins) (s .pins) in
-    set (gateStored g (s .cell) l (s .pins) (mentionAll (l ∷ pins) (set table (driverPlace l) 2))) 0 (g + 1)
+    set (gateStored g (s .cell) l (s .pins) (mentionAll (l ∷ pins) (set table (driverPlace l) 2))) 0 (oneMore g)
 
 -- ---- the text
 

@@ -136,7 +136,7 @@ isOutput l ss = isMarked output l ss
 unfoldable pub driven : ℕ → List Statement → Bool
 driven l ss = member l (drivenLines ss)
 
--- ---- refusals 11 to 16, of a statement after those before it
+-- ---- refusals 11 to 15, of a statement after those before it
 
 -- "Line numbers run from 1 to 1,000."
 unfoldable pub lineBad : ℕ → Bool
@@ -175,11 +175,6 @@ drivenBefore ss s = anyMember (linesDriven s) (drivenLines ss)
 unfoldable pub markedBefore : List Statement → Statement → Bool
 markedBefore ss s = anyMember (linesMarked output s) (markedLines output ss)
 
--- "16 a 1,001st gate"
-unfoldable pub gateTooMany : List Statement → Statement → Bool
-gateTooMany ss (mark m l) = false
-gateTooMany ss (gate g) = leb Size.gates (length (gatesOf ss))
-
 -- The causes for which a statement is refused, in the numbers' order, each with whether it holds.
 unfoldable pub causes : List Cell → List Statement → Statement → List (ℕ × Bool)
 causes cells ss s =
@@ -188,7 +183,6 @@ causes cells ss s =
     ∷ (No.pinsDiffer, countDiffers cells s)
     ∷ (No.drivenBefore, drivenBefore ss s)
     ∷ (No.markedBefore, markedBefore ss s)
-    ∷ (No.gatesMany, gateTooMany ss s)
     ∷ []
 
 unfoldable pub admit : ℕ → List Cell → List Statement → Statement → Read (Unit {0})
@@ -216,5 +210,5 @@ netlist cells t = admitted 1 cells [] (lineForms cells (lines t))
 
 -- Opens the page's definitions, where a figure computes with them.
 unfoldable pub netlist-open : ℕ
-unfolding bytes-open lines-open numeral-open refusal-open library-open flatMap with decimals lone markOf drivenBy gateOf statementOf linesOf linesMarked linesDriven gatesIn mentionedLines markedLines drivenLines gatesOf member mentioned isMarked driven lineBad anyLineBad unknownCell pinsAt countDiffers anyMember drivenBefore markedBefore gateTooMany causes admit admitted lineForm lineForms netlist
+unfolding bytes-open lines-open numeral-open refusal-open library-open flatMap with decimals lone markOf drivenBy gateOf statementOf linesOf linesMarked linesDriven gatesIn mentionedLines markedLines drivenLines gatesOf member mentioned isMarked driven lineBad anyLineBad unknownCell pinsAt countDiffers anyMember drivenBefore markedBefore causes admit admitted lineForm lineForms netlist
 netlist-open = 0

@@ -1,4 +1,4 @@
-// The netlist: the netlist text read into the netlist table, refusals 10 to 16.
+// The netlist: the netlist text read into the netlist table, refusals 10 to 15.
 //
 // Open to others: `read_netlist`, which has no condition on its input, and `line_bad`. For the crates above,
 // which have statements as plain numbers, as records are: `admit` over a `RawStatement`.
@@ -18,7 +18,7 @@ ghost use Rattle.cell_library.specs.Cells.{Cell};
 ghost use Rattle.cell_library.specs.Layout.{LibraryHolds};
 ghost use Rattle.netlist.specs.Lowest.{lowest};
 ghost use Rattle.netlist.specs.Netlist.{Gate, Mark, Statement, mark, gate, kindOf, lone, markOf, gateOf, statementOf, decimals, lineBad};
-ghost use Rattle.netlist.specs.Admitting.{PinsRead, IsMark, IsGate, StandsFor, gateCause, Admits, markPlace, markNumber, mentionAll, gateStored, gateAdded, netlistEntry, ReadsLines, ReadsNetlist};
+ghost use Rattle.netlist.specs.Admitting.{PinsRead, IsMark, IsGate, StandsFor, gateCause, Admits, markPlace, markNumber, mentionAll, gateStored, oneMore, gateAdded, netlistEntry, ReadsLines, ReadsNetlist};
 use cell_library::cells::count;
 use cell_library::cells::find;
 use cell_library::cells::pins_of;
@@ -164,9 +164,16 @@ fn gate_cause(library: &[u32], s: RawStatement) -> u32
     lowest(bad, unknown, differs)
 }
 
+// A count of gates with one more. A netlist has at most as many gates as lines; in a table that holds none any count may
+// stand, and the highest is followed by 0.
+fn one_more(g: u32) -> u32
+    ensures { λ r. ⌜ r ≡ oneMore g ⌝ }
+{
+    ((g as u64 + 1) % 4294967296) as u32
+}
+
 // Stores a gate behind those before it.
 fn store_gate(table: &mut [u32], g: u32, s: RawStatement)
-    requires { ⌜ g < Size.gates ⌝ }
     ensures { λ _. ⌜ now (table .exit) ≡ gateAdded g s (now (table .entry)) ⌝ }
 {
     let l = s.line;
@@ -175,7 +182,7 @@ fn store_gate(table: &mut [u32], g: u32, s: RawStatement)
     mention(table, l);
     mention_pins(table, pins, s.count);
     put_gate(table, g, s.cell, l, pins);
-    put(table, 0, g + 1);
+    put(table, 0, one_more(g));
 }
 
 fn admit_gate(table: &mut [u32], library: &[u32], s: RawStatement) -> u32
@@ -190,15 +197,12 @@ fn admit_gate(table: &mut [u32], library: &[u32], s: RawStatement) -> u32
         return reading::DRIVEN_BEFORE;
     }
     let g = word(table, 0);
-    if sizes::GATES <= g as usize {
-        return reading::GATES_MANY;
-    }
     store_gate(table, g, s);
     0
 }
 
 // Checks one statement after those that the table holds, and admits it: 0, or the lowest number that
-// refuses it, 10 to 16, with the table as it was. A kind that is not known is bad form, 10.
+// refuses it, 10 to 15, with the table as it was. A kind that is not known is bad form, 10.
 pub fn admit(table: &mut [u32], library: &[u32], s: RawStatement) -> u32
     ensures { λ r. ⌜ ((cells : List Cell) (w : Option Statement) → LibraryHolds (now (library .entry)) cells
         → StandsFor s w → Admits cells w (now (table .entry)) r (now (table .exit))) ⌝ }

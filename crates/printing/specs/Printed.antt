@@ -17,7 +17,7 @@ use Rattle.outcome.specs.Demands.{Promised}
 use Rattle.outcome.specs.Outcome.{Lent, textLong, reportOf, left, givenTexts}
 use Rattle.analysis.specs.Own.{ownTables}
 
--- What two texts come to: a report, or a refusal, 2 to 16. "Table sizes published are those of the tables that `scoap` itself
+-- What two texts come to: a report, or a refusal, 2 to 15. "Table sizes published are those of the tables that `scoap` itself
 -- lends", so that 1 cannot arise, and "a report buffer of 65,536 bytes" has room for every report, so that 17 cannot.
 unfoldable pub reported : List ℕ → List ℕ → Read (List ℕ)
 reported lib net =

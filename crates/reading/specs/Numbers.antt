@@ -40,7 +40,7 @@ abbrev pub cellsMany : ℕ
 cellsMany = 9
 
 -- "netlist line": "10 form; 11 line number not 1 to 1,000; 12 unknown cell; 13 pin count differs; 14 line driven before (input
--- or gate); 15 line marked output before; 16 a 1,001st gate"
+-- or gate); 15 line marked output before". 16 is unused (K9): each gate drives a line of its own.
 abbrev pub netlistForm : ℕ
 netlistForm = 10
 
@@ -58,9 +58,6 @@ drivenBefore = 14
 
 abbrev pub markedBefore : ℕ
 markedBefore = 15
-
-abbrev pub gatesMany : ℕ
-gatesMany = 16
 
 -- "report (line 0)": "17 report longer than its buffer"
 abbrev pub reportLong : ℕ

@@ -50,7 +50,5 @@ pub const DRIVEN_BEFORE: u32 = 14;
 
 pub const MARKED_BEFORE: u32 = 15;
 
-pub const GATES_MANY: u32 = 16;
-
-// Of the report.
+// Of the report. 16 is unused: a 1,001st gate is refused by 11 or 14 (K9).
 pub const REPORT_LONG: u32 = 17;

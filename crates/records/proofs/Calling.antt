@@ -15,7 +15,8 @@ use Rattle.reading.proofs.Bounds.{Within, textNumber}
 use Rattle.cell_library.specs.Library.{library}
 use Rattle.cell_library.proofs.Laws.{sound-fits}
 use Rattle.netlist.proofs.Bounds.{admitted-within}
-use Rattle.netlist.proofs.Laws.{admitted-sound, sound-none}
+use Rattle.netlist.proofs.Laws.{admitted-sound}
+use Rattle.netlist.proofs.Sounding.{sound-none}
 use Rattle.sweep.specs.Ready.{Ready}
 use Rattle.outcome.specs.declared.Progress.{Progress}
 use Rattle.outcome.specs.declared.Progress.the-variants.{Unrefused}

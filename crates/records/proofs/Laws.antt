@@ -15,7 +15,6 @@ use borrow.Author.Tests.{ne-eqb, le-ltb, eqb-true, eqb-false}
 use Rattle.sizes.specs.Sizes as Size
 use Rattle.table.specs.Blocks.{fitted}
 use Rattle.reading.specs.Choice.{pick}
-use Rattle.reading.specs.Numbers as No
 use Rattle.reading.specs.Refusal.{refused, read}
 use Rattle.reading.proofs.Laws.{by-test, clash, refused-read}
 use Rattle.cell_library.specs.Cells.{Cell}
@@ -24,8 +23,8 @@ use Rattle.netlist.specs.declared.RawStatement.{RawStatement}
 use Rattle.netlist.specs.Netlist.{Statement, lineBad, anyLineBad, admitted}
 use Rattle.netlist.specs.Layout.{netlistWords, NetlistHolds}
 use Rattle.netlist.specs.Admitting.{StandsFor, Admits, refusalOf, extended, wordsAfter}
-use Rattle.netlist.proofs.Laws.{sound-none, admitted-not-many}
 use Rattle.netlist.proofs.Reading.{admitted-more, admitted-refused}
+use Rattle.netlist.proofs.Sounding.{sound-none, sound-next}
 use Rattle.outcome.specs.declared.Progress.{Progress}
 use Rattle.outcome.specs.declared.Progress.the-variants.{Unrefused, AtEntry, Later}
 use Rattle.outcome.specs.Progress.{progressOf}
@@ -135,13 +134,6 @@ module _ (rec : Record) (p : RawStatement) (line : p .line ≡ rec .line) where
       let high : ltb (rec .kind) 2 ≡ false = le-ltb (rec .kind) 2 (omega (arith, eqb-false (rec .kind) 0 z, eqb-false (rec .kind) 1 o)) in
       rw (z, o, ne-eqb (rec .kind) 2 k) (inl (form ∙ ap (λ (b : Bool). (b && eqb (rec .cell) 0) && allZero (rec .pins)) high))))
 
--- ---- 16 is never met
-
--- No list of records is refused by 16, whatever the library has.
-records-not-many : (rs : List Record) (cells : List Cell) (at : ℕ) → fromRecords rs cells ≡ refused No.gatesMany at → ⊥
-unfolding fromRecords
-records-not-many rs cells at e = admitted-not-many cells 1 [] (recordForms rs) at (sound-none cells) e
-
 -- ---- one step
 
 module _ (lib : List ℕ) (place : ℕ) (s : Progress) (rec : Record) (ts : List ℕ) where
@@ -155,8 +147,8 @@ module _ (lib : List ℕ) (place : ℕ) (s : Progress) (rec : Record) (ts : List
   unfolding RecordChecked
   stepped-checks p number r us z said e ensures = record {
     stays = λ n. absurd (n z);
-    checks = λ _ cells held ss start.
-        let h = ensures cells (recordForm rec) held said ss start in
+    checks = λ _ cells held ss so start.
+        let h = ensures cells (recordForm rec) held said ss so start in
         (e ∙ ap (λ (k : ℕ). progressAfter k place) (h .answers), h .leaves ∙ ap (λ (k : ℕ). wordsAfter k ss (recordForm rec) ++ start .past) (h .answers));
   }
 
@@ -167,7 +159,7 @@ pub walked-start : (lib : List ℕ) (s : Progress) (ts : List ℕ) → Walked li
 unfolding WalkReached fromRecords
 walked-start lib s ts = record {
   stays = λ n. (refl, refl);
-  reaches = λ z cells held start. rw z (record { statements = []; rest = λ more. refl; held = start .words });
+  reaches = λ z cells held start. rw z (record { statements = []; rest = λ more. refl; sound = sound-none cells; held = start .words });
 }
 
 module _ (cells : List Cell) (tail : List ℕ) (done : List Record) (rec : Record) where
@@ -193,6 +185,7 @@ module _ (cells : List Cell) (tail : List ℕ) (done : List Record) (rec : Recor
             ∙ a .rest (rec ∷ more)
             ∙ admitted-more (length done + 1) cells (a .statements) (recordForm rec) (recordForms more) (eqb-true number 0 t)
             ∙ ap (λ (k : ℕ). admitted k cells (extended (a .statements) (recordForm rec)) (recordForms more)) next;
+        sound = sound-next cells (a .statements) (recordForm rec) (a .sound) (eqb-true number 0 t);
         held = rw t at (h .1);
       }))
       (λ t.
@@ -219,7 +212,7 @@ walked-more lib s₀ ts₀ done rec s r ts us h w =
     go : (cells : List Cell) (tail : List ℕ) → LibraryHolds lib cells → (x : Progress) → s ≡ x
         → WalkReached cells tail done x ts → WalkReached cells tail (done ++ (rec ∷ [])) r us
     go cells tail held Unrefused e a =
-        reached-more cells tail done rec r ts us a (h .checks e cells held (a .statements) (record { past = tail; words = a .held }))
+        reached-more cells tail done rec r ts us a (h .checks e cells held (a .statements) (a .sound) (record { past = tail; words = a .held }))
     go cells tail held (AtEntry x) e a = absurd a
     go cells tail held (Later x) e a =
         rw (h .stays (λ o. later-shut x (sym e ∙ o)) .0 ∙ e) (λ more. after-one cells tail done rec more ∙ a (rec ∷ more))

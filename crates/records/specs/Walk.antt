@@ -12,6 +12,7 @@ use Rattle.cell_library.specs.Layout.{LibraryHolds}
 use Rattle.netlist.specs.Netlist.{Statement, admitted}
 use Rattle.netlist.specs.Layout.{netlistWords, NetlistHolds}
 use Rattle.netlist.specs.Admitting.{refusalOf, wordsAfter}
+use Rattle.netlist.specs.Sound.{Sound}
 use Rattle.outcome.specs.declared.Progress.{Progress}
 use Rattle.outcome.specs.declared.Progress.the-variants.{Unrefused, AtEntry, Later}
 use Rattle.records.specs.declared.Record.{Record}
@@ -33,7 +34,7 @@ RecordChecked cells ss tail place rec r us =
 -- One step: once a refusal stands it stays, and so does the table; else the record is checked.
 pub record Stepped (lib : List ℕ) (place : ℕ) (s : Progress) (rec : Record) (ts : List ℕ) (r : Progress) (us : List ℕ) : Type 0 where
   pub stays : (s ≡ Unrefused → ⊥) → (r ≡ s) × (us ≡ ts)
-  pub checks : s ≡ Unrefused → (cells : List Cell) → LibraryHolds lib cells → (ss : List Statement) (h : NetlistHolds ts ss)
+  pub checks : s ≡ Unrefused → (cells : List Cell) → LibraryHolds lib cells → (ss : List Statement) → Sound cells ss → (h : NetlistHolds ts ss)
       → RecordChecked cells ss (h .past) place rec r us
 
 -- ---- the list
@@ -42,6 +43,7 @@ pub record Stepped (lib : List ℕ) (place : ℕ) (s : Progress) (rec : Record) 
 pub record Admitted (cells : List Cell) (tail : List ℕ) (done : List Record) (ts : List ℕ) : Type 0 where
   pub statements : List Statement
   pub rest : (more : List Record) → fromRecords (done ++ more) cells ≡ admitted (length done + 1) cells statements (recordForms more)
+  pub sound : Sound cells statements
   pub held : ts ≡ netlistWords statements ++ tail
 
 -- What a walk that nothing stopped at its start has come to: all are admitted, or one is refused, whatever is still to come.

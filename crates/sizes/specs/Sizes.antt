@@ -11,7 +11,7 @@ textBytes = 65535
 abbrev pub reportBytes : ℕ
 reportBytes = 65536
 
--- "Line numbers run from 1 to 1,000." "16 a 1,001st gate"
+-- "Line numbers run from 1 to 1,000." Each gate drives a line of its own.
 abbrev pub lines : ℕ
 lines = 1000
 

@@ -2,14 +2,13 @@
 
 use crate::library::{Library, MOST_PINS};
 use crate::refusal::{
-    CELL_UNKNOWN, DRIVEN_BEFORE, GATES_MANY, LINE_BAD, MARKED_BEFORE, NETLIST_FORM, PINS_DIFFER,
+    CELL_UNKNOWN, DRIVEN_BEFORE, LINE_BAD, MARKED_BEFORE, NETLIST_FORM, PINS_DIFFER,
 };
 use crate::text::{self, Line, Lines};
 use crate::Refusal;
 
 /// Line numbers run from 1 to this one.
 pub const MOST_LINES: usize = 1_000;
-pub const MOST_GATES: usize = 1_000;
 
 pub struct Gate {
     pub cell: usize,
@@ -121,10 +120,6 @@ impl Netlist {
             return Err(DRIVEN_BEFORE);
         }
         marks.driven = true;
-        // Never met: as many driven lines come before it as there are lines.
-        if self.gates.len() == MOST_GATES {
-            return Err(GATES_MANY);
-        }
         let mut lines = [0; MOST_PINS + 1];
         for pin in 0..pins {
             lines[pins - 1 - pin] = read[pin];

@@ -31,7 +31,5 @@ pub const PINS_DIFFER: u32 = 13;
 pub const DRIVEN_BEFORE: u32 = 14;
 /// the line is marked output already
 pub const MARKED_BEFORE: u32 = 15;
-/// a 1,001st gate (14 or 11 comes first, so it is never met)
-pub const GATES_MANY: u32 = 16;
 /// the report is longer than its buffer
 pub const REPORT_LONG: u32 = 17;

@@ -27,32 +27,32 @@ formed : (c : tie.Else1) → given c .form ≡ true
 formed c = not-false (given c .form) (c .if1 .left)
 
 returns : tie.Need-returns
-returns c cells w lib is ss h =
+returns c cells w lib is ss so h =
     let s = c .before .before .before .args .s in
     rw (formless s w is (not-true (s .form) (c .if1 .taken))) (form-bad cells h)
 
 returns-2 : tie.Need-returns-2
-returns-2 c cells w lib is ss h =
+returns-2 c cells w lib is ss so h =
     let t = first c in
     rw (kind-mark (given (t .before)) (formed (t .before)) input w is (t .if2 .taken))
-    (c .before .before .admit-mark .ensures cells input refl refl ss h)
+    (c .before .before .admit-mark .ensures cells input refl refl ss so h)
 
 returns-3 : tie.Need-returns-3
-returns-3 c cells w lib is ss h =
+returns-3 c cells w lib is ss so h =
     let t = second c in
     let e = t .before .before in
     rw (kind-mark (given e) (formed e) output w is (t .if3 .taken))
-    (c .before .before .admit-mark2 .ensures cells output refl refl ss h)
+    (c .before .before .admit-mark2 .ensures cells output refl refl ss so h)
 
 returns-4 : tie.Need-returns-4
-returns-4 c cells w lib is ss h =
+returns-4 c cells w lib is ss so h =
     let t = third c in
     let e = t .before .before .before in
     let found = kind-gate (given e) (formed e) w is (t .if4 .taken) in
-    rw (found .1) (c .before .before .admit-gate .ensures cells (found .0) lib (found .2) ss h)
+    rw (found .1) (c .before .before .admit-gate .ensures cells (found .0) lib (found .2) ss so h)
 
 returns-5 : tie.Need-returns-5
-returns-5 c cells w lib is ss h =
+returns-5 c cells w lib is ss so h =
     rw (kind-unknown (given (c .before .before .before)) w is marks (c .if4 .left)) (form-bad cells h)
   where
     marks : (m : Mark) → given (c .before .before .before) .kind ≡ kindOf m → ⊥

@@ -1,16 +1,13 @@
 -- `admit_gate` checks a gate and admits it. Assumes nothing.
 use mathlib.Core.List.{List}
 use mathlib.Core.Path.{_≡_, sym, _∙_}
-use Prim.Native.Nat.{_<_}
-use native.Mathlib.Omega.{arith}
 use lib.ListN.{getD}
 use Rattle.sizes.specs.Places.{driverPlace}
-use Rattle.sizes.specs.Sizes as Size
 use Rattle.cell_library.specs.Cells.{Cell}
 use Rattle.netlist.specs.Netlist.{Gate}
 use Rattle.netlist.specs.Admitting.{IsGate, gateCause}
 use Rattle.cell_library.specs.Layout.{LibraryHolds}
-use Rattle.netlist.proofs.Outcomes.{gate-own, gate-driven, gate-many, gate-admitted}
+use Rattle.netlist.proofs.Outcomes.{gate-own, gate-driven, gate-admitted}
 use borrow.Author.Needs.{needs}
 use Rattle.netlist.proofs.admit_gate.Statement.{statement}
 use Rattle.netlist.proofs.admit_gate.Tie as tie
@@ -27,7 +24,7 @@ abbrev undriven : tie.After-word2 → tie.Else2
 undriven c = c .before .before
 
 abbrev counted : tie.After-store-gate → tie.After-word2
-counted c = c .before .before .before
+counted c = c .before .before
 
 own : {cells : List Cell} {g : Gate} (c : tie.Else1)
     → LibraryHolds (begun c .args .library .now) cells → IsGate g (begun c .args .s) → 0 ≡ gateCause cells g
@@ -39,25 +36,19 @@ free : {g : Gate} (c : tie.Else2)
 free c is = rw (← is .line) (sym (c .before .word .ensures) ∙ c .if2 .left)
 
 returns : tie.Need-returns
-returns c cells g lib is ss h = gate-own cells h g _ (c .before .gate-cause .ensures cells g lib is) (c .if1 .taken)
+returns c cells g lib is ss so h = gate-own cells h g _ (c .before .gate-cause .ensures cells g lib is) (c .if1 .taken)
 
 returns-2 : tie.Need-returns-2
-returns-2 c cells g lib is ss h =
+returns-2 c cells g lib is ss so h =
     gate-driven cells h g (own (uncaused (c .before)) lib is) (λ e. c .if2 .taken (c .before .word .ensures ∙ rw (is .line) e))
 
 returns-3 : tie.Need-returns-3
-returns-3 c cells g lib is ss h =
-    let e = undriven (c .before) in
-    gate-many cells h g (own (uncaused (e .before)) lib is) (free e is) (omega (arith, c .before .word2 .ensures))
-
-returns-4 : tie.Need-returns-4
-returns-4 c cells g lib is ss h =
+returns-3 c cells g lib is ss so h =
     let last = c .before .before in
     let n = counted last in
     let e = undriven n in
     let a = begun (uncaused (e .before)) .args in
-    let few : getD (a .table .now) 0 0 < Size.gates = omega (arith, n .word2 .ensures) in
-    let done = gate-admitted cells h g (own (uncaused (e .before)) lib is) (free e is) (a .s) is (lib .fits) few in
+    let done = gate-admitted cells h g (own (uncaused (e .before)) lib is) (free e is) (a .s) is (lib .fits) so in
     record { answers = done .answers; leaves = last .store-gate .ensures ∙ rw (n .word2 .ensures) (done .leaves) }
 
 pub admit-gate-spec : {M : Type 1} → statement M
@@ -71,9 +62,6 @@ admit-gate-spec =
     (λ c. search needs)
     returns-2
     (λ c κs. search needs)
-    (λ c. search needs)
-    (λ c. search needs)
-    returns-3
     (λ c κs. search needs)
     (λ c. search needs)
-    returns-4)
+    returns-3)

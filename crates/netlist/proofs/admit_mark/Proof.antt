@@ -26,15 +26,15 @@ good : (c : tie.Else1) → lineBad (begun c .args .l) ≡ false
 good c = sym (c .before .line-bad .ensures) ∙ c .if1 .left
 
 returns : tie.Need-returns
-returns c cells m place second ss h = mark-bad cells h m _ (sym (c .before .line-bad .ensures) ∙ c .if1 .taken)
+returns c cells m place second ss so h = mark-bad cells h m _ (sym (c .before .line-bad .ensures) ∙ c .if1 .taken)
 
 returns-2 : tie.Need-returns-2
-returns-2 c cells m place second ss h =
+returns-2 c cells m place second ss so h =
     rw second
     (mark-second cells h m _ (good (in-range (c .before))) (λ e. c .if2 .taken (c .before .word .ensures ∙ rw place e)))
 
 returns-3 : tie.Need-returns-3
-returns-3 c cells m place second ss h =
+returns-3 c cells m place second ss so h =
     let last = c .before .before in
     let put = stored last in
     let free = put .before .before in

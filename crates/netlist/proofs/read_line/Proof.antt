@@ -4,9 +4,9 @@ use Rattle.netlist.proofs.read_line.Statement.{statement}
 use Rattle.netlist.proofs.read_line.Tie as tie
 
 returns : tie.Need-returns
-returns c cells lib ss h =
+returns c cells lib ss so h =
     let admitted = c .before .before in
-    admitted .admit .ensures cells _ lib (admitted .before .before .statement-of .ensures cells lib) ss h
+    admitted .admit .ensures cells _ lib (admitted .before .before .statement-of .ensures cells lib) ss so h
 
 pub read-line-spec : {M : Type 1} → statement M
 read-line-spec = tie.close (tie.spec (λ c κs. search needs) (λ c κs. search needs) (λ c. search needs) returns)

@@ -94,7 +94,7 @@ decided c cells lib =
     let w = walking (ended c .before) in
     let so-far = w .loop .inv .3 cells lib in
     rw (← ended c .before .before .line .ensures)
-    (c .read-line .ensures cells lib (so-far .statements) (holding so-far))
+    (c .read-line .ensures cells lib (so-far .statements) (so-far .sound) (holding so-far))
 
 loop-holds : tie.Need-loop-holds Inv-loop μ-loop
 loop-holds c =

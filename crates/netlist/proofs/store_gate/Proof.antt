@@ -1,11 +1,11 @@
 -- `store_gate` stores a gate behind those before it. Assumes nothing.
 use mathlib.Core.List.{List}
 use mathlib.Core.Path.{ap, _∙_}
-use Prim.Native.Nat.{ℕ, _+_, min}
+use Prim.Native.Nat.{ℕ, min}
 use lib.ListN.{set, take}
 use Rattle.sizes.specs.Places.{mentionPlace}
 use Rattle.sizes.specs.Sizes as Size
-use Rattle.netlist.specs.Admitting.{mentionAll, gateStored, gateAdded}
+use Rattle.netlist.specs.Admitting.{mentionAll, gateStored, oneMore, gateAdded}
 use borrow.Author.Needs.{needs}
 use Rattle.netlist.proofs.store_gate.Statement.{statement}
 use Rattle.netlist.proofs.store_gate.Tie as tie
@@ -24,21 +24,26 @@ mentioned c = c .before .before .before .before
 abbrev read : tie.After-put-gate → tie.After-mention-pins
 read c = c .before .before .before .before
 
-abbrev stored : tie.After-put2 → tie.After-put-gate
+abbrev counted : tie.After-put2 → tie.After-one-more
+counted c = c .before
+
+abbrev stored : tie.After-one-more → tie.After-put-gate
 stored c = c .before .before .before .before
 
 returns : tie.Need-returns
 unfolding gateAdded mentionAll
 returns c =
     let counts = c .before .before in
-    let gates = stored counts in
+    let more = counted counts in
+    let gates = stored more in
     let pins = read gates in
     let lines = mentioned pins in
     let drives = driven lines in
     let g = begun drives .args .g in
     let s = begun drives .args .s in
     counts .put2 .ensures
-    ∙ ap (λ (t : List ℕ). set t 0 (g + 1))
+    ∙ ap (set (gates .put-gate .last .0) 0) (more .one-more .ensures)
+    ∙ ap (λ (t : List ℕ). set t 0 (oneMore g))
     (gates .put-gate .ensures
     ∙ ap (gateStored g (s .cell) (s .line) (s .pins))
     (pins .mention-pins .ensures
@@ -54,7 +59,7 @@ store-gate-spec =
     (λ c κs. search needs)
     (λ c κs. search needs)
     (λ c κs. search needs)
-    (λ c. search needs)
+    (λ c κs. search needs)
     (λ c κs. search needs)
     (λ c. search needs)
     returns)

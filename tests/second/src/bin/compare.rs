@@ -31,8 +31,8 @@ const CANARY: usize = 64;
 /// Failures told in full.
 const TOLD: u64 = 10;
 
-/// The answers that the C entry can give; 0 stands for acceptance. Number 1 needs a lent table and
-/// 16 a 1,001st gate, which 14 comes before.
+/// The answers that the C entry can give; 0 stands for acceptance. Number 1 needs a lent table, and
+/// 16 is unused.
 const ANSWERS: [usize; 16] = [0, 2, 3, 4, 5, 6, 7, 8, 9, 10, 11, 12, 13, 14, 15, 17];
 
 /// What the reports of accepted pairs must have shown: at least so often in random pairs, and in
