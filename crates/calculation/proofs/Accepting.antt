@@ -36,9 +36,9 @@ unfolding wordOf excepted C.bitOf
 row-observes combinational i n all r s = CO-observes n r (s .useful refl)
 row-observes sequential i n all r s = SO-observes n r (s .useful refl)
 
--- What sums ask of a depth: that it is a figure.
-pub row-depth : {w : Word} {n : ℕ} {all : List Group} {r : Row} → SoundRow w n all r → r .depth ≤ most
-row-depth s = omega (arith, s .depth)
+-- What sums ask of a depth, and all that is known of it here: that it is a figure.
+pub depth-figure : {w : Word} {n : ℕ} {all : List Group} {r : Row} → SoundRow w n all r → r .depth ≤ most
+depth-figure s = omega (arith, s .depth)
 
 -- The count of the groups of a role's word tells that the cell has the role.
 index-has : (k : Kind) (c : Cell) (e : ℕ) → groupIndex (setting e) < groupCount (wordOf k (setting e)) (c .pins) → Has c (setting e)

@@ -5,7 +5,7 @@ use mathlib.Core.List.{List, [], _∷_, _++_, map}
 use Prim.Native.Nat.{ℕ, zero, suc, _-_}
 use lib.ListN.{getD}
 use Rattle.plans.specs.System.{Way, Visit}
-use Rattle.cell_library.specs.Cells.{Row, Group, Cell, Column, pin, output, observe, settingColumns, observingColumns, named, cells-open}
+use Rattle.cell_library.specs.Cells.{plain, Row, Group, Cell, Column, pin, output, observe, settingColumns, observingColumns, named, cells-open}
 use Rattle.cell_library.specs.Library.{Word, CC, CO, SC, SO, wordGroups}
 use Rattle.netlist.specs.Netlist.{Gate}
 use Rattle.calculation.specs.Nodes.{Kind, combinational, sequential, Purpose, node, nodes-open}
@@ -13,7 +13,7 @@ use Rattle.calculation.specs.Nodes as N
 
 -- A gate's cell; one without rows where the index names none, which 12 refuses.
 unfoldable pub noCell : Cell
-noCell = record { name = []; pins = 0; cc = []; co = []; sc = []; so = [] }
+noCell = record { name = []; pins = 0; heading = plain; cc = []; co = []; sc = []; so = [] }
 
 unfoldable pub cellOf : List Cell → Gate → Cell
 cellOf cells g = getD cells (g .cell) noCell

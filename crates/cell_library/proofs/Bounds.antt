@@ -11,7 +11,7 @@ use Rattle.reading.specs.Refusal.{read, weigh, form}
 use Rattle.reading.proofs.Bounds.{Within, textNumber, within-bind, within-then, within-form, within-weigh}
 use Rattle.text.specs.Lines.{lines}
 use Rattle.text.proofs.Laws.{length-lines}
-use Rattle.cell_library.specs.Cells.{Cell}
+use Rattle.cell_library.specs.Cells.{Heading, Cell}
 use Rattle.cell_library.specs.Library.{Fields, Word, Wanted, wordLine, endLine, Place, outside, inside, Reading, rowsAfter, rowLine, nameAfter, nameLine, endAfter, libraryLine, libraryEnd, libraryFrom, library}
 
 module _ (n : ℕ) where
@@ -19,10 +19,10 @@ module _ (n : ℕ) where
     well-formed : {A : Type 0} (o : Option A) → Within textNumber n (form No.libraryForm line o)
     well-formed o = within-form textNumber n No.libraryForm line o refl k
 
-    row-within : (w : Word) (pins : ℕ) (fs : Fields) → Within textNumber n (rowLine line w pins fs)
+    row-within : (h : Heading) (w : Word) (pins : ℕ) (fs : Fields) → Within textNumber n (rowLine line h w pins fs)
     unfolding rowLine
-    row-within w pins fs =
-        within-bind textNumber n (form No.libraryForm line (rowsAfter w fs)) _ (well-formed (rowsAfter w fs))
+    row-within h w pins fs =
+        within-bind textNumber n (form No.libraryForm line (rowsAfter h w fs)) _ (well-formed (rowsAfter h w fs))
         (λ gs. within-then textNumber n (weigh line _) (read gs) (within-weigh textNumber n line _ k refl) tt)
 
     name-within : (cells : List Cell) (fs : Fields) → Within textNumber n (nameLine line cells fs)
@@ -34,7 +34,7 @@ module _ (n : ℕ) where
     line-within : (cells : List Cell) (p : Place) (fs : Fields) → Within textNumber n (libraryLine line cells p fs)
     unfolding libraryLine
     line-within cells outside fs = within-bind textNumber n (nameLine line cells fs) _ (name-within cells fs) (λ h. tt)
-    line-within cells (inside (wordLine w) c) fs = within-bind textNumber n (rowLine line w (c .pins) fs) _ (row-within w (c .pins) fs) (λ gs. tt)
+    line-within cells (inside (wordLine w) c) fs = within-bind textNumber n (rowLine line (c .heading) w (c .pins) fs) _ (row-within (c .heading) w (c .pins) fs) (λ gs. tt)
     line-within cells (inside endLine c) fs = within-then textNumber n (form No.libraryForm line (endAfter fs)) _ (well-formed (endAfter fs)) tt
 
     end-within : (cells : List Cell) (p : Place) → Within textNumber n (libraryEnd line cells p)

@@ -16,17 +16,17 @@ use Rattle.reading.specs.Refusal.{Read, refused, read, _>>=_, _>>_, form}
 use Rattle.reading.proofs.Laws.{by-test, and-right}
 use Rattle.text.specs.Lines.{sameBytes}
 use Rattle.text.proofs.Laws.{nameForm-length}
-use Rattle.cell_library.specs.Cells.{Group, Cell}
+use Rattle.cell_library.specs.Cells.{Heading, Group, Cell}
 use Rattle.cell_library.specs.Library.{Fields, holds, rowsAfter, nameLine, word, rowsForm, anyOf, aboveRows, groupsOf, Word, CC, CO, SC, SO, wordBytes, wordLine, endLine, lineAfter, Place, outside, inside, Reading, begun, wordGroups, withGroups, rowLine, libraryLine}
-use Rattle.cell_library.specs.Layout.{libraryWords, LibraryHolds}
-use Rattle.cell_library.specs.Passes.{headerPut, askedOf, nonePassed, stored, wordAt, rowNumber, headerNumber, endFormed}
+use Rattle.cell_library.specs.Layout.{headingNumber, libraryWords, LibraryHolds}
+use Rattle.cell_library.specs.Passes.{numberHeading, headerPut, askedOf, nonePassed, stored, wordAt, rowNumber, headerNumber, endFormed}
 use Rattle.cell_library.specs.Sound.{SoundGroup, wordNumber, endNumber, wantedNumber, SoundEntry, SoundPlace, SoundReading}
-use Rattle.cell_library.specs.Walk.{placeCells, countedWords, readingWords, placeNumber, placePins, StateFits, Shows, Leaves}
+use Rattle.cell_library.specs.Walk.{placeCells, countedWords, readingWords, placeNumber, placePins, placeHeading, StateFits, Shows, Leaves}
 use Rattle.cell_library.specs.declared.lines.State.{State}
 use Rattle.cell_library.proofs.Laws.{rowLine-sound, libraryLine-sound, sound-fits}
-use Rattle.cell_library.proofs.Passes.{rowLine-number, pinsOf, nameAfter-none, nameLine-number, endAfter-formed, row-formed}
+use Rattle.cell_library.proofs.Passes.{rowLine-number, headingNo, pinsOf, headerIn, pins-form, heading-number, number-heading, nameAfter-none, nameLine-number, endAfter-formed, row-formed}
 use Rattle.cell_library.proofs.Places.{space, within-space}
-use Rattle.cell_library.proofs.Stores.{partTable, line-stored, same-pins, header-stored, count-stored}
+use Rattle.cell_library.proofs.Stores.{partTable, line-stored, same-pins, same-heading, header-stored, count-stored}
 
 -- ---- what is left, by what the line comes to
 
@@ -132,29 +132,33 @@ module _ (fs : Fields) (r : Reading) (past : List ℕ) (n : ℕ) (s : State) (ta
         (leaves-refused n t after past (libraryLine n (r .cells) outside fs)
         (rw (nameLine-number n (r .cells) table outside-holds fs pins p, ← e, ne-eqb (t .number) 0 h)) h)
 
-    pub name-read : (after : List ℕ) → headerNumber (getD fs 1 []) pins table ≡ 0 → after ≡ headerPut (s .cells) (getD fs 1 []) pins table
-        → Leaves n (libraryLine n (r .cells) (r .place) fs) (record { place = 1; cells = s .cells; pins = pins; number = 0 }) after past
-    unfolding readingWords placeCells placeNumber placePins SoundPlace begun libraryLine _>>=_ pick
-    name-read after zeroed stored-as =
-        let c : Cell = begun (record { name = getD fs 1 []; pins = pins }) in
+    pub name-read : (k : ℕ) → k ≡ headingNo fs → (after : List ℕ) → headerNumber (getD fs 1 []) pins table ≡ 0 → after ≡ headerPut (s .cells) (getD fs 1 []) pins k table
+        → Leaves n (libraryLine n (r .cells) (r .place) fs) (record { place = 1; cells = s .cells; pins = pins; heading = k; number = 0 }) after past
+    unfolding readingWords placeCells placeNumber placePins placeHeading SoundPlace begun libraryLine _>>=_ pick
+    name-read k told after zeroed stored-as =
+        let c : Cell = begun (headerIn fs pins) in
+        let same : k ≡ headingNumber (numberHeading (headingNo fs)) = told ∙ sym (heading-number (headingNo fs) (pins-form _ (headingNo fs) (getD fs 1 []) (getD fs 2 []) pins p .0)) in
         let next : Reading = record { cells = r .cells; place = inside (wordLine CC) c } in
         let reads : libraryLine n (r .cells) outside fs ≡ read next = rw (nameLine-number n (r .cells) table outside-holds fs pins p, eq-eqb (headerNumber (getD fs 1 []) pins table) 0 zeroed) in
         let known : SoundReading next = libraryLine-sound n (r .cells) outside fs next (shows .sound .cells) tt reads in
         let short : length (getD fs 1 []) ≤ Size.nameBytes = nameForm-length (getD fs 1 []) (known .entry .header .form) .1 in
         let words : after ≡ countedWords (length (r .cells)) (r .cells ++ (c ∷ [])) ++ past =
-        stored-as ∙ rw (outside-words, shows .cells) (header-stored (r .cells) past (getD fs 1 []) pins (known .entry .space) short) in
+        stored-as
+        ∙ rw (outside-words, shows .cells)
+        (ap (λ (j : ℕ). headerPut (length (r .cells)) (getD fs 1 []) pins j (libraryWords (r .cells) ++ past)) same
+        ∙ header-stored (r .cells) past (getD fs 1 []) pins (numberHeading (headingNo fs)) (known .entry .space) short) in
         rw is-outside
         (leaves-read n _ after past (libraryLine n (r .cells) outside fs) next reads
-        (record { place = refl; cells = shows .cells; pins = refl; accepted = refl; words = words; sound = known }))
+        (record { place = refl; cells = shows .cells; pins = refl; heading = same; accepted = refl; words = words; sound = known }))
 
 -- ---- the row lines
 
-number-formed : (w : Word) (n : ℕ) (fs : Fields) → 0 < length fs → rowNumber w n fs ≡ 0 → rowsForm word (drop 1 fs) ≡ true
+number-formed : (h : Heading) (w : Word) (n : ℕ) (fs : Fields) → 0 < length fs → rowNumber h w n fs ≡ 0 → rowsForm h word (drop 1 fs) ≡ true
 unfolding rowNumber pick
-number-formed w n fs h e =
+number-formed h w n fs k e =
     let s = sameBytes (getD fs 0 []) (wordBytes w) in
-    by-test (holds (rowsAfter w fs))
-    (λ t. and-right s (rowsForm word (drop 1 fs)) (sym (row-formed w fs h) ∙ t))
+    by-test (holds (rowsAfter h w fs))
+    (λ t. and-right s (rowsForm h word (drop 1 fs)) (sym (row-formed h w fs k) ∙ t))
     (λ t. let three : No.libraryForm ≡ 0 = rw t at e in absurd (omega arith))
 
 no-long : (w : Word) (n : ℕ) (all gs : List Group) → Each (SoundGroup w n all) gs → anyOf aboveRows gs ≡ false
@@ -172,20 +176,24 @@ without n SO c e = rw (← e .so)
 
 -- A row line of word `w` behind so many cells, of cell `c`.
 module _ (n : ℕ) (cells : List Cell) (w : Word) (c : Cell) (fs : Fields) where
-  entry-line : rowNumber w (c .pins) fs ≡ 0 → rowLine n w (c .pins) fs ≡ read (groupsOf (drop 1 fs))
-  unfolding pick
-  entry-line e = rowLine-number n w (c .pins) fs ∙ rw (eq-eqb (rowNumber w (c .pins) fs) 0 e)
+  abbrev heading : Heading
+  heading = c .heading
 
-  entry-stored : (past : List ℕ) → 0 < length fs → rowNumber w (c .pins) fs ≡ 0 → SoundEntry (length cells) (wordLine w) c
-      → stored (askedOf (length cells) w (c .pins)) nonePassed (drop 1 fs) (countedWords (length cells) (cells ++ (c ∷ [])) ++ past)
-      ≡ countedWords (length cells) (cells ++ (withGroups w (groupsOf (drop 1 fs)) c ∷ [])) ++ past
-  unfolding partTable
+  entry-line : rowNumber heading w (c .pins) fs ≡ 0 → rowLine n heading w (c .pins) fs ≡ read (groupsOf heading (drop 1 fs))
+  unfolding pick
+  entry-line e = rowLine-number n heading w (c .pins) fs ∙ rw (eq-eqb (rowNumber heading w (c .pins) fs) 0 e)
+
+  entry-stored : (past : List ℕ) → 0 < length fs → rowNumber heading w (c .pins) fs ≡ 0 → SoundEntry (length cells) (wordLine w) c
+      → stored (askedOf (length cells) (headingNumber heading) w (c .pins)) nonePassed (drop 1 fs) (countedWords (length cells) (cells ++ (c ∷ [])) ++ past)
+      ≡ countedWords (length cells) (cells ++ (withGroups w (groupsOf heading (drop 1 fs)) c ∷ [])) ++ past
+  unfolding partTable askedOf
   entry-stored past some-field e known =
       let rows = drop 1 fs in
-      let groups = rowLine-sound w (c .pins) n fs (groupsOf rows) (entry-line e) in
-      let fits : length (groupsOf rows) ≤ space w = omega (arith, groups .count, within-space w (c .pins) (known .header .most-pins)) in
-      ap (λ (x : Cell). stored (askedOf (length cells) w (c .pins)) nonePassed rows (countedWords (length cells) (cells ++ (x ∷ [])) ++ past)) (sym (without (length cells) w c known))
-      ∙ line-stored (length cells) cells w c past (known .space) rows (number-formed w (c .pins) fs some-field e) fits (no-long w (c .pins) (groupsOf rows) (groupsOf rows) (groups .groups))
+      let groups = rowLine-sound w (c .pins) n heading fs (groupsOf heading rows) (entry-line e) in
+      let fits : length (groupsOf heading rows) ≤ space w = omega (arith, groups .count, within-space w (c .pins) (known .header .most-pins)) in
+      let stores = line-stored (length cells) cells w c past (known .space) rows in
+      ap (λ (x : Cell). stored (askedOf (length cells) (headingNumber heading) w (c .pins)) nonePassed rows (countedWords (length cells) (cells ++ (x ∷ [])) ++ past)) (sym (without (length cells) w c known))
+      ∙ (rw (number-heading heading) at stores) (number-formed heading w (c .pins) fs some-field e) fits (no-long w (c .pins) (groupsOf heading rows) (groupsOf heading rows) (groups .groups))
 
 module _ (fs : Fields) (some-field : 0 < length fs) (r : Reading) (past : List ℕ) (n : ℕ) (s : State) (table : List ℕ) (shows : Shows r s table past) (at : AtWord (r .place)) where
   abbrev w : Word
@@ -205,26 +213,34 @@ module _ (fs : Fields) (some-field : 0 < length fs) (r : Reading) (past : List �
   unfolding placePins
   these-pins = shows .pins ∙ ap placePins (at .same)
 
+  this-heading : s .heading ≡ headingNumber (c .heading)
+  unfolding placeHeading
+  this-heading = shows .heading ∙ ap placeHeading (at .same)
+
+  read-by : numberHeading (s .heading) ≡ c .heading
+  read-by = ap numberHeading this-heading ∙ number-heading (c .heading)
+
   known : SoundEntry (length (r .cells)) (wordLine w) c
   unfolding SoundPlace
   known = rw (at .same) at (shows .sound .entry)
 
-  pub row-refused : (t : State) (after : List ℕ) → t .number ≡ rowNumber (wordAt (s .place)) (s .pins) fs → (t .number ≡ 0 → ⊥)
+  pub row-refused : (t : State) (after : List ℕ) → t .number ≡ rowNumber (numberHeading (s .heading)) (wordAt (s .place)) (s .pins) fs → (t .number ≡ 0 → ⊥)
       → Leaves n (libraryLine n (r .cells) (r .place) fs) t after past
   unfolding libraryLine _>>=_ pick
   row-refused t after e h =
-      let number : t .number ≡ rowNumber w (c .pins) fs = e ∙ rw (this-word, these-pins) in
+      let number : t .number ≡ rowNumber (c .heading) w (c .pins) fs = e ∙ rw (read-by, this-word, these-pins) in
       rw (at .same)
       (leaves-refused n t after past (libraryLine n (r .cells) (inside (wordLine w) c) fs)
-      (rw (rowLine-number n w (c .pins) fs, ← number, ne-eqb (t .number) 0 h)) h)
+      (rw (rowLine-number n (c .heading) w (c .pins) fs, ← number, ne-eqb (t .number) 0 h)) h)
 
-  pub row-read : (after : List ℕ) → rowNumber (wordAt (s .place)) (s .pins) fs ≡ 0
-      → after ≡ stored (askedOf (s .cells) (wordAt (s .place)) (s .pins)) nonePassed (drop 1 fs) table
-      → Leaves n (libraryLine n (r .cells) (r .place) fs) (record { place = s .place + 1; cells = s .cells; pins = s .pins; number = 0 }) after past
-  unfolding readingWords placeCells placeNumber placePins SoundPlace libraryLine _>>=_
+  pub row-read : (after : List ℕ) → rowNumber (numberHeading (s .heading)) (wordAt (s .place)) (s .pins) fs ≡ 0
+      → after ≡ stored (askedOf (s .cells) (s .heading) (wordAt (s .place)) (s .pins)) nonePassed (drop 1 fs) table
+      → Leaves n (libraryLine n (r .cells) (r .place) fs) (record { place = s .place + 1; cells = s .cells; pins = s .pins; heading = s .heading; number = 0 }) after past
+  unfolding readingWords placeCells placeNumber placePins placeHeading SoundPlace libraryLine _>>=_
   row-read after e now =
-      let number : rowNumber w (c .pins) fs ≡ 0 = rw (this-word, these-pins) at e in
-      let grown = withGroups w (groupsOf (drop 1 fs)) c in
+      let number : rowNumber (c .heading) w (c .pins) fs ≡ 0 = rw (read-by, this-word, these-pins) at e in
+      let groups = groupsOf (c .heading) (drop 1 fs) in
+      let grown = withGroups w groups c in
       let next : Reading = record { cells = r .cells; place = inside (lineAfter w) grown } in
       let reads : libraryLine n (r .cells) (inside (wordLine w) c) fs ≡ read next = rw (entry-line n (r .cells) w c fs number) in
       let held : table ≡ countedWords (length (r .cells)) (r .cells ++ (c ∷ [])) ++ past = shows .words ∙ ap (λ (p : Place). countedWords (length (r .cells)) (placeCells (r .cells) p) ++ past) (at .same) in
@@ -233,9 +249,10 @@ module _ (fs : Fields) (some-field : 0 < length fs) (r : Reading) (past : List �
       (record {
         place = ap (λ (p : ℕ). p + 1) this-place ∙ next-number w;
         cells = shows .cells;
-        pins = these-pins ∙ sym (same-pins w (groupsOf (drop 1 fs)) c);
+        pins = these-pins ∙ sym (same-pins w groups c);
+        heading = this-heading ∙ ap headingNumber (sym (same-heading w groups c));
         accepted = refl;
-        words = now ∙ rw (this-word, these-pins, shows .cells, held) (entry-stored n (r .cells) w c fs past some-field number known);
+        words = now ∙ rw (this-heading, this-word, these-pins, shows .cells, held) (entry-stored n (r .cells) w c fs past some-field number known);
         sound = libraryLine-sound n (r .cells) (inside (wordLine w) c) fs next (shows .sound .cells) known reads;
       }))
 
@@ -250,8 +267,8 @@ module _ (fs : Fields) (r : Reading) (past : List ℕ) (n : ℕ) (s : State) (ta
       (leaves-refused n t after past (libraryLine n (r .cells) (inside endLine (ending .cell)) fs) (rw (endAfter-formed fs, h, e)) (λ z. omega arith))
 
   pub end-read : (after : List ℕ) → endFormed fs ≡ true → after ≡ set table 0 (s .cells + 1)
-      → Leaves n (libraryLine n (r .cells) (r .place) fs) (record { place = 0; cells = s .cells + 1; pins = 0; number = 0 }) after past
-  unfolding placeNumber placePins placeCells readingWords countedWords libraryWords SoundPlace libraryLine form _>>_ pick
+      → Leaves n (libraryLine n (r .cells) (r .place) fs) (record { place = 0; cells = s .cells + 1; pins = 0; heading = 0; number = 0 }) after past
+  unfolding placeNumber placePins placeHeading placeCells readingWords countedWords libraryWords SoundPlace libraryLine form _>>_ pick
   end-read after h now =
       let c = ending .cell in
       let next : Reading = record { cells = r .cells ++ (c ∷ []); place = outside } in
@@ -263,6 +280,7 @@ module _ (fs : Fields) (r : Reading) (past : List ℕ) (n : ℕ) (s : State) (ta
         place = refl;
         cells = rw (shows .cells) (sym (length-append (r .cells) (c ∷ [])));
         pins = refl;
+        heading = refl;
         accepted = refl;
         words = now ∙ rw (held, shows .cells) (count-stored (r .cells) c past);
         sound = libraryLine-sound n (r .cells) (inside endLine c) fs next (shows .sound .cells) (rw (ending .same) at (shows .sound .entry)) reads;

@@ -19,7 +19,7 @@ use Rattle.reading.proofs.Laws.{or-left, or-right, each-append, each-map, refus
 use Rattle.text.specs.Lines.{sameBytes, lines}
 use Rattle.text.specs.Numeral.{value}
 use Rattle.text.proofs.Laws.{nameForm-length}
-use Rattle.cell_library.specs.Cells.{Row, rowOf, Group, Cell, bit}
+use Rattle.cell_library.specs.Cells.{Heading, plain, deep, depthBits, deepest, Row, rowOf, Group, Cell, bit}
 use Rattle.cell_library.specs.Entry.{libraryEntry}
 use Rattle.cell_library.specs.Library.{Fields, isJoin, isZ, word, rowsForm, joinFirst, withRow, groupsOf, anyOf, aboveRows, above, observesNot, Word, CC, CO, SC, SO, wordBytes, groupCount, columnCount, idle, excepted, rowIdle, rowsAfter, rowLine, Header, nameAfter, endAfter, nameUsed, pinsBad, nameLine, wordLine, endLine, lineAfter, Place, outside, inside, Reading, begun, wordGroups, withGroups, libraryLine, libraryEnd, libraryFrom, library}
 use Rattle.cell_library.specs.Layout.{ShortName, FewPins, Fits}
@@ -34,16 +34,17 @@ weigh-three line i j k x y z u e =
 
 -- ---- the groups of a line
 
--- A group as its line wrote it: each row of depth 0 or 1.
+-- A group as its line wrote it: no row deeper than its entry can write.
 Shallow : Row → Type 0
-Shallow r = r .depth ≤ 1
+Shallow r = r .depth ≤ deepest
 
 abbrev Written : Group → Type 0
 Written g = Each Shallow g
 
-row-shallow : (x : ℕ) → Shallow (rowOf x)
-unfolding rowOf Shallow
-row-shallow x = omega (arith, mod-lt x {m = 2} (omega arith))
+row-shallow : (h : Heading) (x : ℕ) → Shallow (rowOf h x)
+unfolding rowOf depthBits Shallow
+row-shallow plain x = omega (arith, mod-lt x {m = 2} (omega arith))
+row-shallow deep x = omega (arith, mod-lt x {m = 8} (omega arith))
 
 withRow-written : (j : Bool) (r : Row) (gs : List Group) → Shallow r → Each Written gs → Each Written (withRow j r gs)
 unfolding withRow Each
@@ -51,28 +52,28 @@ withRow-written false r gs s e = ((s, tt), e)
 withRow-written true r [] s e = ((s, tt), tt)
 withRow-written true r (g ∷ gs) s e = ((s, e .0), e .1)
 
-groups-written : (fs : Fields) → Each Written (groupsOf fs)
+groups-written : (h : Heading) (fs : Fields) → Each Written (groupsOf h fs)
 unfolding groupsOf Each pick
-groups-written [] = tt
-groups-written (f ∷ fs) = step (groups-written fs) (isJoin f) (isZ f)
+groups-written h [] = tt
+groups-written h (f ∷ fs) = step (groups-written h fs) (isJoin f) (isZ f)
   where
-    step : Each Written (groupsOf fs) → (j z : Bool)
-        → Each Written (pick j (groupsOf fs) (pick z ([] ∷ groupsOf fs) (withRow (joinFirst fs) (rowOf (value 8 0 f)) (groupsOf fs))))
+    step : Each Written (groupsOf h fs) → (j z : Bool)
+        → Each Written (pick j (groupsOf h fs) (pick z ([] ∷ groupsOf h fs) (withRow (joinFirst fs) (rowOf h (value 8 0 f)) (groupsOf h fs))))
     step e true z = e
     step e false true = (tt, e)
-    step e false false = withRow-written (joinFirst fs) (rowOf (value 8 0 f)) (groupsOf fs) (row-shallow (value 8 0 f)) e
+    step e false false = withRow-written (joinFirst fs) (rowOf h (value 8 0 f)) (groupsOf h fs) (row-shallow h (value 8 0 f)) e
 
 pick-some : {A : Type 0} (t : Bool) (a b : A) → pick t (some a) none ≡ some b → (t ≡ true) × (a ≡ b)
 unfolding pick
 pick-some true a b e = (refl, cc)
 pick-some false a b e = let z : _≡_ {A = ℕ} 0 1 = cc in absurd (omega arith)
 
-rows-written : (w : Word) (fs : Fields) (gs : List Group) → rowsAfter w fs ≡ some gs → Each Written gs
+rows-written : (h : Heading) (w : Word) (fs : Fields) (gs : List Group) → rowsAfter h w fs ≡ some gs → Each Written gs
 unfolding rowsAfter
-rows-written w [] gs e = let z : _≡_ {A = ℕ} 0 1 = cc in absurd (omega arith)
-rows-written w (f ∷ fs) gs e =
-    let same : groupsOf fs ≡ gs = pick-some (sameBytes f (wordBytes w) && rowsForm word fs) (groupsOf fs) gs e .1 in
-    rw same at (groups-written fs)
+rows-written h w [] gs e = let z : _≡_ {A = ℕ} 0 1 = cc in absurd (omega arith)
+rows-written h w (f ∷ fs) gs e =
+    let same : groupsOf h fs ≡ gs = pick-some (sameBytes f (wordBytes w) && rowsForm h word fs) (groupsOf h fs) gs e .1 in
+    rw same at (groups-written h fs)
 
 -- Of two facts that are not both so, the second is not so where the first is.
 not-both : (x y : Bool) → (not x && y) ≡ false → x ≡ false → y ≡ false
@@ -107,16 +108,16 @@ module _ (w : Word) (n : ℕ) where
         )
 
   -- A row line that is read has the groups that its word and its cell ask for.
-  pub rowLine-sound : (line : ℕ) (fs : Fields) (gs : List Group) → rowLine line w n fs ≡ read gs → SoundGroups w n gs
+  pub rowLine-sound : (line : ℕ) (h : Heading) (fs : Fields) (gs : List Group) → rowLine line h w n fs ≡ read gs → SoundGroups w n gs
   unfolding rowLine rowIdle
-  rowLine-sound line fs gs =
-      bind-read (form No.libraryForm line (rowsAfter w fs)) _ gs
+  rowLine-sound line h fs gs =
+      bind-read (form No.libraryForm line (rowsAfter h w fs)) _ gs
       (λ hs formed. then-read _ (read hs) gs
       (λ u weighed last.
       let same : hs ≡ gs = cc in
       let other = not (eqb (length hs) (groupCount w n)) in
       let none = weigh-three line No.groupsBad No.bitAbove No.rowIdle (other || anyOf aboveRows hs) (anyOf (anyOf high) hs) (rowIdle w n hs) u weighed in
-      let written = rows-written w fs hs (form-read No.libraryForm line (rowsAfter w fs) hs formed) in
+      let written = rows-written h w fs hs (form-read No.libraryForm line (rowsAfter h w fs) hs formed) in
       let found : SoundGroups w n hs =
       record {
         count = eqb-true (length hs) (groupCount w n) (not-false (eqb (length hs) (groupCount w n)) (or-left other (anyOf aboveRows hs) (none .0)));
@@ -164,9 +165,9 @@ libraryLine-sound line cells outside fs r before p =
     let entry : SoundEntry (length cells) (wordLine CC) (begun h) = record { space = known .1; header = known .0; cc = refl; co = refl; sc = refl; so = refl } in
     sound-reading cells (inside (wordLine CC) (begun h)) r before entry (cc))
 libraryLine-sound line cells (inside (wordLine w) c) fs r before p =
-    bind-read (rowLine line w (c .pins) fs) _ r
+    bind-read (rowLine line (c .heading) w (c .pins) fs) _ r
     (λ gs took last.
-    sound-reading cells (inside (lineAfter w) (withGroups w gs c)) r before (entry-kept (length cells) w c gs p (rowLine-sound w (c .pins) line fs gs took)) (cc))
+    sound-reading cells (inside (lineAfter w) (withGroups w gs c)) r before (entry-kept (length cells) w c gs p (rowLine-sound w (c .pins) line (c .heading) fs gs took)) (cc))
 libraryLine-sound line cells (inside endLine c) fs r before p =
     then-read (form No.libraryForm line (endAfter fs)) _ r
     (λ u took last.

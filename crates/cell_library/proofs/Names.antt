@@ -1,4 +1,4 @@
--- What a library table tells of its cells, where it holds them: their count, their pins, and their places by name.
+-- What a library table tells of its cells, where it holds them: their count, their pins and headings, and their places by name.
 -- Assumes nothing.
 use mathlib.Core.Bool.{true, false}
 use mathlib.Core.List.{List, [], _∷_}
@@ -12,18 +12,18 @@ use lib.ListN.{length, getD, drop, drop-of-length-le, List·getD-append}
 use lib.Seq.{drop-cons}
 use borrow.Author.Tests.{eq-eqb, ne-eqb, eqb-true, eqb-false}
 use Rattle.sizes.specs.Sizes as Size
-use Rattle.sizes.specs.Places.{cellPlace, pinsPlace}
+use Rattle.sizes.specs.Places.{cellPlace, pinsPlace, headingPlace}
 use Rattle.table.specs.Blocks.{fitted, blocks}
 use Rattle.table.proofs.Places.{length-fitted, getD-fitted}
 use Rattle.reading.specs.Choice.{pick}
 use Rattle.text.specs.Lines.{sameBytes}
 use Rattle.reading.proofs.Laws.{by-test}
 use Rattle.text.proofs.Laws.{sameBytes-other}
-use Rattle.cell_library.specs.Cells.{Cell}
+use Rattle.cell_library.specs.Cells.{plain, Cell}
 use Rattle.cell_library.specs.Library.{cellNamed}
 use Rattle.reading.proofs.Laws.{each-at}
-use Rattle.cell_library.specs.Layout.{cellGroups, groupWords, cellWords, ShortName, LibraryHolds, bytesAt, nameAt, foundFrom, foundAt}
-use Rattle.cell_library.proofs.Places.{library-count, cell-word, cell-pins}
+use Rattle.cell_library.specs.Layout.{cellGroups, groupWords, headingNumber, cellWords, ShortName, LibraryHolds, bytesAt, nameAt, foundFrom, foundAt}
+use Rattle.cell_library.proofs.Places.{library-count, cell-word, cell-pins, cell-heading}
 
 -- ---- bytes from a place on
 
@@ -54,7 +54,7 @@ bytesAt-same (a ∷ f) (b ∷ g) table at e all =
 
 -- A cell that stands for none, where a place is known to be good.
 unfoldable pub blank : Cell
-blank = record { name = []; pins = 0; cc = []; co = []; sc = []; so = [] }
+blank = record { name = []; pins = 0; heading = plain; cc = []; co = []; sc = []; so = [] }
 
 pub holds-count : (table : List ℕ) (cells : List Cell) → LibraryHolds table cells → getD table 0 0 ≡ length cells
 holds-count table cells holds = rw (holds .words) (library-count cells (holds .past))
@@ -63,6 +63,9 @@ holds-count table cells holds = rw (holds .words) (library-count cells (holds .p
 module _ (table : List ℕ) (cells : List Cell) (holds : LibraryHolds table cells) (k : ℕ) (h : k < length cells) where
   pub holds-pins : (d : Cell) → getD table (pinsPlace k) 0 ≡ (getD cells k d) .pins
   holds-pins d = rw (holds .words) (cell-pins d cells (holds .past) (holds .fits .few) k h)
+
+  pub holds-heading : (d : Cell) → getD table (headingPlace k) 0 ≡ headingNumber ((getD cells k d) .heading)
+  holds-heading d = rw (holds .words) (cell-heading d cells (holds .past) (holds .fits .few) k h)
 
   abbrev here : Cell
   here = getD cells k blank
@@ -78,7 +81,7 @@ module _ (table : List ℕ) (cells : List Cell) (holds : LibraryHolds table cell
   unfolding cellWords ShortName
   name-byte j q =
       let short : length (here .name) ≤ Size.nameBytes = each-at ShortName cells k blank h (holds .fits .short) in
-      let behind = here .pins ∷ blocks groupWords (cellGroups here) in
+      let behind = here .pins ∷ headingNumber (here .heading) ∷ blocks groupWords (cellGroups here) in
       ap (λ (p : ℕ). getD table p 0) (add-assoc (cellPlace k) 1 j ∙ ap (λ (p : ℕ). cellPlace k + p) (one-add j))
       ∙ name-word (suc j) (omega arith)
       ∙ List·getD-append (fitted 0 Size.nameBytes (here .name)) behind 0 j (rw (length-fitted 0 Size.nameBytes (here .name)) (omega arith))

@@ -22,10 +22,10 @@ use Rattle.text.specs.declared.Numeral.the-variants.{Value, Bad}
 use Rattle.reading.specs.Refusal.{refused, read, _>>=_, _>>_, weigh, form}
 use Rattle.reading.proofs.Laws.{by-test, clash, and-left, and-right, or-left, or-right}
 use Rattle.text.proofs.Laws.{numeral-good, numeral-bad, fieldsFrom-step, fieldsFrom-end}
-use Rattle.cell_library.specs.Cells.{Row, rowOf, Group, Cell, bit}
-use Rattle.cell_library.specs.Library.{Fields, holds, isRow, isJoin, isZ, Before, word, row, join, mayJoin, mayEnd, rowsForm, joinFirst, withRow, groupsOf, anyOf, aboveRows, above, namesNone, observesNot, Word, CC, CO, SC, SO, wordBytes, groupCount, columnCount, idle, noRow, excepted, rowIdle, rowsAfter, rowLine, Header, headerOf, nameAfter, endAfter, cellNamed, nameUsed, pinsBad, nameLine}
-use Rattle.cell_library.specs.Layout.{LibraryHolds}
-use Rattle.cell_library.specs.Passes.{orZero, rowValue, leastColumns, askedOf, noColumns, nonePassed, marked, opened, groupFor, rowAdded, rowlessAdded, fieldPassed, passed, fieldStored, stored, numberOf, Small, RowsRead, wordAt, setting, rowNumber, pinsIn, headerNumber, endFormed}
+use Rattle.cell_library.specs.Cells.{Heading, plain, deep, Row, rowOf, Group, Cell, bit}
+use Rattle.cell_library.specs.Library.{Fields, holds, rowDigits, isRow, isJoin, isZ, Before, word, row, join, mayJoin, mayEnd, rowsForm, joinFirst, withRow, groupsOf, anyOf, aboveRows, above, namesNone, observesNot, Word, CC, CO, SC, SO, wordBytes, groupCount, columnCount, idle, noRow, excepted, rowIdle, rowsAfter, rowLine, Header, headingOf, headerOf, nameAfter, endAfter, cellNamed, nameUsed, pinsBad, nameLine}
+use Rattle.cell_library.specs.Layout.{headingNumber, LibraryHolds}
+use Rattle.cell_library.specs.Passes.{orZero, fieldValue, fieldRow, numberHeading, headed, leastColumns, askedOf, noColumns, nonePassed, marked, opened, groupFor, rowAdded, rowlessAdded, fieldPassed, passed, fieldStored, stored, numberOf, Small, RowsRead, wordAt, setting, rowNumber, headings, headingIn, pinsIn, headerNumber, endFormed}
 use Rattle.cell_library.specs.declared.rows.Asked.{Asked}
 use Rattle.cell_library.specs.declared.rows.Passed.{Passed}
 use Rattle.cell_library.proofs.Names.{holds-count, holds-find}
@@ -33,47 +33,61 @@ use Rattle.cell_library.proofs.Places.{first-most}
 
 -- ---- a field
 
-pub row-value : (f : List ℕ) → isRow f ≡ true → rowValue f ≡ value 8 0 f
-unfolding isRow rowValue holds orZero
-row-value f e = by-test (wellFormed 8 Size.rowDigits f) good bad
+field-value : (h : Heading) (f : List ℕ) → isRow h f ≡ true → fieldValue h f ≡ value 8 0 f
+unfolding isRow fieldValue holds orZero
+field-value h f e = by-test (wellFormed 8 (rowDigits h) f) good bad
   where
-    good : wellFormed 8 Size.rowDigits f ≡ true → orZero (numeral 8 Size.rowDigits f) ≡ value 8 0 f
-    good h = ap orZero (numeral-good 8 Size.rowDigits f h)
+    good : wellFormed 8 (rowDigits h) f ≡ true → orZero (numeral 8 (rowDigits h) f) ≡ value 8 0 f
+    good w = ap orZero (numeral-good 8 (rowDigits h) f w)
 
-    bad : wellFormed 8 Size.rowDigits f ≡ false → orZero (numeral 8 Size.rowDigits f) ≡ value 8 0 f
-    bad h = clash (holds (numeral 8 Size.rowDigits f)) e (ap holds (numeral-bad 8 Size.rowDigits f h))
+    bad : wellFormed 8 (rowDigits h) f ≡ false → orZero (numeral 8 (rowDigits h) f) ≡ value 8 0 f
+    bad w = clash (holds (numeral 8 (rowDigits h) f)) e (ap holds (numeral-bad 8 (rowDigits h) f w))
+
+pub row-value : (h : Heading) (f : List ℕ) → isRow h f ≡ true → fieldRow h f ≡ rowOf h (value 8 0 f)
+unfolding fieldRow
+row-value h f e = ap (rowOf h) (field-value h f e)
+
+-- A row has no more digits than `octal` reads.
+few-digits : (h : Heading) → min (rowDigits h) 10 ≡ rowDigits h
+unfolding rowDigits
+few-digits plain = refl
+few-digits deep = refl
 
 -- A field that `octal` reads is a row, and one that it does not read is none.
-pub value-row : (v : Numeral) (x : ℕ) (f : List ℕ) → numeralRead v ≡ numeral 8 Size.rowDigits f → v ≡ Value x → (isRow f ≡ true) × (rowValue f ≡ x)
-unfolding isRow rowValue holds orZero numeralRead
-value-row v x f e q =
-    let told : some x ≡ numeral 8 Size.rowDigits f = rw q at e in
-    (ap holds (sym told), ap orZero (sym told))
+module _ (h : Heading) (most : ℕ) (v : Numeral) (f : List ℕ) (m : most ≡ rowDigits h) (e : numeralRead v ≡ numeral 8 (min most 10) f) where
+  told : numeralRead v ≡ numeral 8 (rowDigits h) f
+  told = e ∙ rw (m, few-digits h)
 
-pub bad-row : (v : Numeral) (f : List ℕ) → numeralRead v ≡ numeral 8 Size.rowDigits f → v ≡ Bad → isRow f ≡ false
-unfolding isRow holds numeralRead
-bad-row v f e q = let told : none ≡ numeral 8 Size.rowDigits f = rw q at e in ap holds (sym told)
+  pub value-row : (x : ℕ) → v ≡ Value x → (isRow h f ≡ true) × (fieldRow h f ≡ rowOf h x)
+  unfolding isRow fieldRow fieldValue holds orZero numeralRead
+  value-row x q =
+      let same : some x ≡ numeral 8 (rowDigits h) f = rw q at told in
+      (ap holds (sym same), ap (λ (o : Option ℕ). rowOf h (orZero o)) (sym same))
+
+  pub bad-row : v ≡ Bad → isRow h f ≡ false
+  unfolding isRow holds numeralRead
+  bad-row q = let same : none ≡ numeral 8 (rowDigits h) f = rw q at told in ap holds (sym same)
 
 -- ---- a line that has the form, field by field
 
-module _ (b : Before) (f : List ℕ) (fs : Fields) where
-  pub form-join : isJoin f ≡ true → rowsForm b (f ∷ fs) ≡ true → (mayJoin b ≡ true) × (rowsForm join fs ≡ true)
+module _ (h : Heading) (b : Before) (f : List ℕ) (fs : Fields) where
+  pub form-join : isJoin f ≡ true → rowsForm h b (f ∷ fs) ≡ true → (mayJoin b ≡ true) × (rowsForm h join fs ≡ true)
   unfolding rowsForm pick
-  form-join e h =
-      let both : (mayJoin b && rowsForm join fs) ≡ true = rw e at h in
-      (and-left (mayJoin b) (rowsForm join fs) both, and-right (mayJoin b) (rowsForm join fs) both)
+  form-join e k =
+      let both : (mayJoin b && rowsForm h join fs) ≡ true = rw e at k in
+      (and-left (mayJoin b) (rowsForm h join fs) both, and-right (mayJoin b) (rowsForm h join fs) both)
 
-  pub form-rowless : isJoin f ≡ false → isZ f ≡ true → rowsForm b (f ∷ fs) ≡ true → (mayEnd b ≡ true) × (rowsForm word fs ≡ true)
+  pub form-rowless : isJoin f ≡ false → isZ f ≡ true → rowsForm h b (f ∷ fs) ≡ true → (mayEnd b ≡ true) × (rowsForm h word fs ≡ true)
   unfolding rowsForm pick
-  form-rowless e z h =
-      let both : (mayEnd b && rowsForm word fs) ≡ true = rw (e, z) at h in
-      (and-left (mayEnd b) (rowsForm word fs) both, and-right (mayEnd b) (rowsForm word fs) both)
+  form-rowless e z k =
+      let both : (mayEnd b && rowsForm h word fs) ≡ true = rw (e, z) at k in
+      (and-left (mayEnd b) (rowsForm h word fs) both, and-right (mayEnd b) (rowsForm h word fs) both)
 
-  pub form-row : isJoin f ≡ false → isZ f ≡ false → rowsForm b (f ∷ fs) ≡ true → (isRow f ≡ true) × (rowsForm row fs ≡ true)
+  pub form-row : isJoin f ≡ false → isZ f ≡ false → rowsForm h b (f ∷ fs) ≡ true → (isRow h f ≡ true) × (rowsForm h row fs ≡ true)
   unfolding rowsForm pick
-  form-row e z h =
-      let both : (isRow f && rowsForm row fs) ≡ true = rw (e, z) at h in
-      (and-left (isRow f) (rowsForm row fs) both, and-right (isRow f) (rowsForm row fs) both)
+  form-row e z k =
+      let both : (isRow h f && rowsForm h row fs) ≡ true = rw (e, z) at k in
+      (and-left (isRow h f) (rowsForm h row fs) both, and-right (isRow h f) (rowsForm h row fs) both)
 
 -- ---- the groups, from the left
 
@@ -84,14 +98,14 @@ joined row = false
 joined join = true
 
 -- The groups of a line from where `done` are whole and `part` is open, behind what was just passed.
-unfoldable pub gather : List Group → Group → Before → Fields → List Group
-gather done part b [] = done ++ (part ∷ [])
-gather done part b (f ∷ fs) =
-    pick (isJoin f) (gather done part join fs)
-    (pick (isZ f) (gather (done ++ (part ∷ [])) [] word fs)
+unfoldable pub gather : Heading → List Group → Group → Before → Fields → List Group
+gather h done part b [] = done ++ (part ∷ [])
+gather h done part b (f ∷ fs) =
+    pick (isJoin f) (gather h done part join fs)
+    (pick (isZ f) (gather h (done ++ (part ∷ [])) [] word fs)
     (pick (joined b)
-    (gather done (part ++ (rowOf (rowValue f) ∷ [])) row fs)
-    (gather (done ++ (part ∷ [])) (rowOf (rowValue f) ∷ []) row fs)))
+    (gather h done (part ++ (fieldRow h f ∷ [])) row fs)
+    (gather h (done ++ (part ∷ [])) (fieldRow h f ∷ []) row fs)))
 
 -- Rows in front of the first group.
 prepend : Group → List Group → List Group
@@ -111,17 +125,10 @@ single-row r true [] = refl
 single-row r true (g ∷ gs) = refl
 
 -- What the fields still to come make of the open group.
-ahead : Before → Group → Fields → List Group
-ahead word part fs = part ∷ groupsOf fs
-ahead row part fs = pick (joinFirst fs) (prepend part (groupsOf fs)) (part ∷ groupsOf fs)
-ahead join part fs = prepend part (groupsOf fs)
-
--- What is no M leaves the open group as it is, unless an M stands before it.
-ahead-new : (b : Before) (part : Group) (f : List ℕ) (fs : Fields) → joined b ≡ false → isJoin f ≡ false → ahead b part (f ∷ fs) ≡ part ∷ groupsOf (f ∷ fs)
-unfolding ahead joined joinFirst pick
-ahead-new word part f fs j e = refl
-ahead-new row part f fs j e = rw e
-ahead-new join part f fs j e = clash true refl j
+ahead : Heading → Before → Group → Fields → List Group
+ahead h word part fs = part ∷ groupsOf h fs
+ahead h row part fs = pick (joinFirst fs) (prepend part (groupsOf h fs)) (part ∷ groupsOf h fs)
+ahead h join part fs = prepend part (groupsOf h fs)
 
 -- An M, a Z, or what is neither.
 pub by-field : {A : Type 0} (f : List ℕ) → (isJoin f ≡ true → A) → (isJoin f ≡ false → isZ f ≡ true → A) → (isJoin f ≡ false → isZ f ≡ false → A) → A
@@ -133,79 +140,87 @@ may-joined word h = refl
 may-joined row h = refl
 may-joined join h = clash false h refl
 
--- What a field makes of the groups behind it: a group of no row, of one row, or one row more of the open one.
-rowless-ahead : (f : List ℕ) (fs : Fields) → isJoin f ≡ false → isZ f ≡ true → ahead word [] fs ≡ groupsOf (f ∷ fs)
-unfolding ahead groupsOf pick
-rowless-ahead f fs e z = rw (e, z)
+module _ (h : Heading) where
+  -- What is no M leaves the open group as it is, unless an M stands before it.
+  ahead-new : (b : Before) (part : Group) (f : List ℕ) (fs : Fields) → joined b ≡ false → isJoin f ≡ false → ahead h b part (f ∷ fs) ≡ part ∷ groupsOf h (f ∷ fs)
+  unfolding ahead joined joinFirst pick
+  ahead-new word part f fs j e = refl
+  ahead-new row part f fs j e = rw e
+  ahead-new join part f fs j e = clash true refl j
 
-row-ahead : (f : List ℕ) (fs : Fields) → isJoin f ≡ false → isZ f ≡ false → isRow f ≡ true → ahead row (rowOf (rowValue f) ∷ []) fs ≡ groupsOf (f ∷ fs)
-unfolding ahead groupsOf pick
-row-ahead f fs e z i = rw (e, z, row-value f i) (single-row (rowOf (value 8 0 f)) (joinFirst fs) (groupsOf fs))
+  -- What a field makes of the groups behind it: a group of no row, of one row, or one row more of the open one.
+  rowless-ahead : (f : List ℕ) (fs : Fields) → isJoin f ≡ false → isZ f ≡ true → ahead h word [] fs ≡ groupsOf h (f ∷ fs)
+  unfolding ahead groupsOf pick
+  rowless-ahead f fs e z = rw (e, z)
 
-more-ahead : (b : Before) (part : Group) (f : List ℕ) (fs : Fields) → joined b ≡ true → isJoin f ≡ false → isZ f ≡ false → isRow f ≡ true
-    → ahead row (part ++ (rowOf (rowValue f) ∷ [])) fs ≡ ahead b part (f ∷ fs)
-unfolding ahead groupsOf joined pick
-more-ahead word part f fs j e z i = clash false j refl
-more-ahead row part f fs j e z i = clash false j refl
-more-ahead join part f fs j e z i = rw (e, z, row-value f i) (sym (prepend-row part (rowOf (value 8 0 f)) (joinFirst fs) (groupsOf fs)))
+  row-ahead : (f : List ℕ) (fs : Fields) → isJoin f ≡ false → isZ f ≡ false → isRow h f ≡ true → ahead h row (fieldRow h f ∷ []) fs ≡ groupsOf h (f ∷ fs)
+  unfolding ahead groupsOf pick
+  row-ahead f fs e z i = rw (e, z, row-value h f i) (single-row (rowOf h (value 8 0 f)) (joinFirst fs) (groupsOf h fs))
 
-module _ (f : List ℕ) (fs : Fields) (rest : (done : List Group) (part : Group) (b : Before) → rowsForm b fs ≡ true → gather done part b fs ≡ done ++ ahead b part fs)
-    (done : List Group) (part : Group) (b : Before) (h : rowsForm b (f ∷ fs) ≡ true) where
-  gather-join : isJoin f ≡ true → gather done part b (f ∷ fs) ≡ done ++ ahead b part (f ∷ fs)
-  unfolding gather ahead groupsOf joinFirst pick mayJoin
-  gather-join e = go b (form-join b f fs e h .0)
-    where
-      go : (b : Before) → mayJoin b ≡ true → gather done part b (f ∷ fs) ≡ done ++ ahead b part (f ∷ fs)
-      go word m = clash false m refl
-      go row m = rw e (rest done part join (form-join b f fs e h .1))
-      go join m = clash false m refl
+  more-ahead : (b : Before) (part : Group) (f : List ℕ) (fs : Fields) → joined b ≡ true → isJoin f ≡ false → isZ f ≡ false → isRow h f ≡ true
+      → ahead h row (part ++ (fieldRow h f ∷ [])) fs ≡ ahead h b part (f ∷ fs)
+  unfolding ahead groupsOf joined pick
+  more-ahead word part f fs j e z i = clash false j refl
+  more-ahead row part f fs j e z i = clash false j refl
+  more-ahead join part f fs j e z i = rw (e, z, row-value h f i) (sym (prepend-row part (rowOf h (value 8 0 f)) (joinFirst fs) (groupsOf h fs)))
 
-  -- A group behind the open one.
-  gather-new : joined b ≡ false → isJoin f ≡ false → (c : Before) (g : Group) → rowsForm c fs ≡ true → ahead c g fs ≡ groupsOf (f ∷ fs)
-      → gather (done ++ (part ∷ [])) g c fs ≡ done ++ ahead b part (f ∷ fs)
-  gather-new j e c g k same =
-      rest (done ++ (part ∷ [])) g c k
-      ∙ append-assoc done (part ∷ []) (ahead c g fs)
-      ∙ ap (λ (x : List Group). done ++ (part ∷ x)) same
-      ∙ ap (λ (x : List Group). done ++ x) (sym (ahead-new b part f fs j e))
+  module _ (f : List ℕ) (fs : Fields) (rest : (done : List Group) (part : Group) (b : Before) → rowsForm h b fs ≡ true → gather h done part b fs ≡ done ++ ahead h b part fs)
+      (done : List Group) (part : Group) (b : Before) (k : rowsForm h b (f ∷ fs) ≡ true) where
+    gather-join : isJoin f ≡ true → gather h done part b (f ∷ fs) ≡ done ++ ahead h b part (f ∷ fs)
+    unfolding gather ahead groupsOf joinFirst pick mayJoin
+    gather-join e = go b (form-join h b f fs e k .0)
+      where
+        go : (b : Before) → mayJoin b ≡ true → gather h done part b (f ∷ fs) ≡ done ++ ahead h b part (f ∷ fs)
+        go word m = clash false m refl
+        go row m = rw e (rest done part join (form-join h b f fs e k .1))
+        go join m = clash false m refl
 
-  gather-rowless : isJoin f ≡ false → isZ f ≡ true → gather done part b (f ∷ fs) ≡ done ++ ahead b part (f ∷ fs)
-  unfolding gather pick
-  gather-rowless e z =
-      let good = form-rowless b f fs e z h in
-      rw (e, z) (gather-new (may-joined b (good .0)) e word [] (good .1) (rowless-ahead f fs e z))
+    -- A group behind the open one.
+    gather-new : joined b ≡ false → isJoin f ≡ false → (c : Before) (g : Group) → rowsForm h c fs ≡ true → ahead h c g fs ≡ groupsOf h (f ∷ fs)
+        → gather h (done ++ (part ∷ [])) g c fs ≡ done ++ ahead h b part (f ∷ fs)
+    gather-new j e c g k same =
+        rest (done ++ (part ∷ [])) g c k
+        ∙ append-assoc done (part ∷ []) (ahead h c g fs)
+        ∙ ap (λ (x : List Group). done ++ (part ∷ x)) same
+        ∙ ap (λ (x : List Group). done ++ x) (sym (ahead-new b part f fs j e))
 
-  gather-row : isJoin f ≡ false → isZ f ≡ false → gather done part b (f ∷ fs) ≡ done ++ ahead b part (f ∷ fs)
-  unfolding gather pick
-  gather-row e z =
-      let good = form-row b f fs e z h in
-      by-test (joined b)
-      (λ j. rw (e, z, j) (rest done (part ++ (rowOf (rowValue f) ∷ [])) row (good .1) ∙ ap (λ (x : List Group). done ++ x) (more-ahead b part f fs j e z (good .0))))
-      (λ j. rw (e, z, j) (gather-new j e row (rowOf (rowValue f) ∷ []) (good .1) (row-ahead f fs e z (good .0))))
+    gather-rowless : isJoin f ≡ false → isZ f ≡ true → gather h done part b (f ∷ fs) ≡ done ++ ahead h b part (f ∷ fs)
+    unfolding gather pick
+    gather-rowless e z =
+        let good = form-rowless h b f fs e z k in
+        rw (e, z) (gather-new (may-joined b (good .0)) e word [] (good .1) (rowless-ahead f fs e z))
 
-gather-ahead : (done : List Group) (part : Group) (b : Before) (fs : Fields) → rowsForm b fs ≡ true → gather done part b fs ≡ done ++ ahead b part fs
-unfolding gather ahead rowsForm mayEnd joinFirst groupsOf pick
-gather-ahead done part word [] h = refl
-gather-ahead done part row [] h = refl
-gather-ahead done part join [] h = clash false h refl
-gather-ahead done part b (f ∷ fs) h =
-    by-field f
-    (gather-join f fs (λ d p c g. gather-ahead d p c fs g) done part b h)
-    (gather-rowless f fs (λ d p c g. gather-ahead d p c fs g) done part b h)
-    (gather-row f fs (λ d p c g. gather-ahead d p c fs g) done part b h)
+    gather-row : isJoin f ≡ false → isZ f ≡ false → gather h done part b (f ∷ fs) ≡ done ++ ahead h b part (f ∷ fs)
+    unfolding gather pick
+    gather-row e z =
+        let good = form-row h b f fs e z k in
+        by-test (joined b)
+        (λ j. rw (e, z, j) (rest done (part ++ (fieldRow h f ∷ [])) row (good .1) ∙ ap (λ (x : List Group). done ++ x) (more-ahead b part f fs j e z (good .0))))
+        (λ j. rw (e, z, j) (gather-new j e row (fieldRow h f ∷ []) (good .1) (row-ahead f fs e z (good .0))))
 
--- The groups of a line that has the form, from its first group: a Z, or a row.
-pub rowless-first : (f : List ℕ) (fs : Fields) → isJoin f ≡ false → isZ f ≡ true → rowsForm word (f ∷ fs) ≡ true → gather [] [] word fs ≡ groupsOf (f ∷ fs)
-rowless-first f fs e z h = gather-ahead [] [] word fs (form-rowless word f fs e z h .1) ∙ rowless-ahead f fs e z
+  gather-ahead : (done : List Group) (part : Group) (b : Before) (fs : Fields) → rowsForm h b fs ≡ true → gather h done part b fs ≡ done ++ ahead h b part fs
+  unfolding gather ahead rowsForm mayEnd joinFirst groupsOf pick
+  gather-ahead done part word [] k = refl
+  gather-ahead done part row [] k = refl
+  gather-ahead done part join [] k = clash false k refl
+  gather-ahead done part b (f ∷ fs) k =
+      by-field f
+      (gather-join f fs (λ d p c g. gather-ahead d p c fs g) done part b k)
+      (gather-rowless f fs (λ d p c g. gather-ahead d p c fs g) done part b k)
+      (gather-row f fs (λ d p c g. gather-ahead d p c fs g) done part b k)
 
-pub gather-first : (f : List ℕ) (fs : Fields) → isJoin f ≡ false → isZ f ≡ false → rowsForm word (f ∷ fs) ≡ true → gather [] (rowOf (rowValue f) ∷ []) row fs ≡ groupsOf (f ∷ fs)
-gather-first f fs e z h =
-    let good = form-row word f fs e z h in
-    gather-ahead [] (rowOf (rowValue f) ∷ []) row fs (good .1) ∙ row-ahead f fs e z (good .0)
+  -- The groups of a line that has the form, from its first group: a Z, or a row.
+  pub rowless-first : (f : List ℕ) (fs : Fields) → isJoin f ≡ false → isZ f ≡ true → rowsForm h word (f ∷ fs) ≡ true → gather h [] [] word fs ≡ groupsOf h (f ∷ fs)
+  rowless-first f fs e z k = gather-ahead [] [] word fs (form-rowless h word f fs e z k .1) ∙ rowless-ahead f fs e z
 
-pub word-first : (f : List ℕ) (fs : Fields) → rowsForm word (f ∷ fs) ≡ true → isJoin f ≡ false
-unfolding mayJoin
-word-first f fs h = by-test (isJoin f) (λ e. clash false (form-join word f fs e h .0) refl) (λ e. e)
+  pub gather-first : (f : List ℕ) (fs : Fields) → isJoin f ≡ false → isZ f ≡ false → rowsForm h word (f ∷ fs) ≡ true → gather h [] (fieldRow h f ∷ []) row fs ≡ groupsOf h (f ∷ fs)
+  gather-first f fs e z k =
+      let good = form-row h word f fs e z k in
+      gather-ahead [] (fieldRow h f ∷ []) row fs (good .1) ∙ row-ahead f fs e z (good .0)
+
+  pub word-first : (f : List ℕ) (fs : Fields) → rowsForm h word (f ∷ fs) ≡ true → isJoin f ≡ false
+  unfolding mayJoin
+  word-first f fs k = by-test (isJoin f) (λ e. clash false (form-join h word f fs e k .0) refl) (λ e. e)
 
 -- ---- tests of groups
 
@@ -414,24 +429,24 @@ module _ (a : Asked) where
   ends p = p .bad || eqb (p .before) 2
 
   -- A field is out of place, or the last one is an M, just where the line does not have the form.
-  form-passed : (fs : Fields) (p : Passed) → ends (passed a p fs) ≡ (p .bad || not (rowsForm (beforeOf (p .before)) fs))
+  form-passed : (fs : Fields) (p : Passed) → ends (passed a p fs) ≡ (p .bad || not (rowsForm (headed a) (beforeOf (p .before)) fs))
   unfolding passed fieldPassed rowsForm pick marked rowAdded rowlessAdded beforeOf
   form-passed [] p = rw (may-end (p .before)) (ap (λ (t : Bool). p .bad || t) (twice-not (eqb (p .before) 2)))
     where
       twice-not : (t : Bool) → t ≡ not (not t)
       twice-not true = refl
       twice-not false = refl
-  form-passed (f ∷ fs) p = form-passed fs (fieldPassed a p f) ∙ step (isJoin f) (isZ f) (isRow f)
+  form-passed (f ∷ fs) p = form-passed fs (fieldPassed a p f) ∙ step (isJoin f) (isZ f) (isRow (headed a) f)
     where
       step : (j z i : Bool)
           → let q =
           pick j (marked p 2 (p .bad || not (eqb (p .before) 1)))
-          (pick z (rowlessAdded a p) (pick i (rowAdded (groupFor a p) (rowValue f)) (marked p (p .before) true))) in
-          (q .bad || not (rowsForm (beforeOf (q .before)) fs))
-          ≡ (p .bad || not (pick j (mayJoin (beforeOf (p .before)) && rowsForm join fs)
-          (pick z (mayEnd (beforeOf (p .before)) && rowsForm word fs) (i && rowsForm row fs))))
-      step true z i = rw (may-join (p .before)) (either-bad (p .bad) (eqb (p .before) 1) (rowsForm join fs))
-      step false true i = rw (may-end (p .before)) (either-joined (p .bad) (eqb (p .before) 2) (rowsForm word fs))
+          (pick z (rowlessAdded a p) (pick i (rowAdded (groupFor a p) ((fieldRow (headed a) f) .columns)) (marked p (p .before) true))) in
+          (q .bad || not (rowsForm (headed a) (beforeOf (q .before)) fs))
+          ≡ (p .bad || not (pick j (mayJoin (beforeOf (p .before)) && rowsForm (headed a) join fs)
+          (pick z (mayEnd (beforeOf (p .before)) && rowsForm (headed a) word fs) (i && rowsForm (headed a) row fs))))
+      step true z i = rw (may-join (p .before)) (either-bad (p .bad) (eqb (p .before) 1) (rowsForm (headed a) join fs))
+      step false true i = rw (may-end (p .before)) (either-joined (p .bad) (eqb (p .before) 2) (rowsForm (headed a) word fs))
       step false false true = rw (group-bad a p)
       step false false false = sym (or-true (p .bad))
 
@@ -486,23 +501,23 @@ module _ (a : Asked) where
       let gs = done ++ (part ∷ []) in
       rw (joined-number b, j, length-append done (part ∷ []), none-new gs, longest-none gs, over-none higher 0 gs, over-none deeper noColumns gs)
 
-  module _ (x : ℕ) where
-    shown-first : rowAdded (opened a nonePassed) x ≡ shown [] (rowOf x ∷ []) row
-    unfolding rowAdded opened rowOf beforeNumber anyOf noRow longestOf mostOf leastOf over longer higher deeper
+  module _ (x : Row) where
+    shown-first : rowAdded (opened a nonePassed) (x .columns) ≡ shown [] (x ∷ []) row
+    unfolding rowAdded opened beforeNumber anyOf noRow longestOf mostOf leastOf over longer higher deeper
     shown-first = refl
 
-    shown-more : (done : List Group) (part : Group) (b : Before) → noRow part ≡ false → rowAdded (shown done part b) x ≡ shown done (part ++ (rowOf x ∷ [])) row
-    unfolding rowAdded rowOf beforeNumber mostOf leastOf higher deeper
+    shown-more : (done : List Group) (part : Group) (b : Before) → noRow part ≡ false → rowAdded (shown done part b) (x .columns) ≡ shown done (part ++ (x ∷ [])) row
+    unfolding rowAdded beforeNumber mostOf leastOf higher deeper
     shown-more done part b some-row =
         rw
-        (length-append part (rowOf x ∷ []), none-row done part some-row, none-row done (part ++ (rowOf x ∷ [])) (row-some part (rowOf x)), longest-row done part (rowOf x), over-row higher 0 done part (rowOf x), over-row deeper noColumns done part (rowOf x))
+        (length-append part (x ∷ []), none-row done part some-row, none-row done (part ++ (x ∷ [])) (row-some part x), longest-row done part x, over-row higher 0 done part x, over-row deeper noColumns done part x)
 
-    shown-new : (done : List Group) (part : Group) (b : Before) → rowAdded (opened a (shown done part b)) x ≡ shown (done ++ (part ∷ [])) (rowOf x ∷ []) row
-    unfolding rowAdded opened rowOf beforeNumber mostOf leastOf higher deeper
+    shown-new : (done : List Group) (part : Group) (b : Before) → rowAdded (opened a (shown done part b)) (x .columns) ≡ shown (done ++ (part ∷ [])) (x ∷ []) row
+    unfolding rowAdded opened beforeNumber mostOf leastOf higher deeper
     shown-new done part b =
         let gs = done ++ (part ∷ []) in
         rw
-        (length-append done (part ∷ []), none-row gs (rowOf x ∷ []) (row-some [] (rowOf x)), longest-new gs (rowOf x), over-new higher 0 gs (rowOf x), over-new deeper noColumns gs (rowOf x))
+        (length-append done (part ∷ []), none-row gs (x ∷ []) (row-some [] x), longest-new gs x, over-new higher 0 gs x, over-new deeper noColumns gs x)
 
   -- What each field makes of it.
   module _ (f : List ℕ) (done : List Group) (part : Group) where
@@ -515,22 +530,22 @@ module _ (a : Asked) where
       unfolding fieldPassed pick
       rowless-passed z j = rw (e, z) (shown-rowless done part b j)
 
-      pub more-passed : isZ f ≡ false → isRow f ≡ true → noRow part ≡ closed b → joined b ≡ true → fieldPassed a (shown done part b) f ≡ shown done (part ++ (rowOf (rowValue f) ∷ [])) row
+      pub more-passed : isZ f ≡ false → isRow (headed a) f ≡ true → noRow part ≡ closed b → joined b ≡ true → fieldPassed a (shown done part b) f ≡ shown done (part ++ (fieldRow (headed a) f ∷ [])) row
       unfolding fieldPassed groupFor pick
-      more-passed z g k j = rw (e, z, g, joined-number b, j) (shown-more (rowValue f) done part b (k ∙ joined-closed b j))
+      more-passed z g k j = rw (e, z, g, joined-number b, j) (shown-more (fieldRow (headed a) f) done part b (k ∙ joined-closed b j))
 
-      pub new-passed : isZ f ≡ false → isRow f ≡ true → joined b ≡ false → fieldPassed a (shown done part b) f ≡ shown (done ++ (part ∷ [])) (rowOf (rowValue f) ∷ []) row
+      pub new-passed : isZ f ≡ false → isRow (headed a) f ≡ true → joined b ≡ false → fieldPassed a (shown done part b) f ≡ shown (done ++ (part ∷ [])) (fieldRow (headed a) f ∷ []) row
       unfolding fieldPassed groupFor pick
-      new-passed z g j = rw (e, z, g, joined-number b, j) (shown-new (rowValue f) done part b)
+      new-passed z g j = rw (e, z, g, joined-number b, j) (shown-new (fieldRow (headed a) f) done part b)
 
   module _ (f : List ℕ) (e : isJoin f ≡ false) where
     pub none-passed : isZ f ≡ true → fieldPassed a nonePassed f ≡ shown [] [] word
     unfolding fieldPassed pick
     none-passed z = rw (e, z) rowless-shown
 
-    pub first-passed : isZ f ≡ false → isRow f ≡ true → fieldPassed a nonePassed f ≡ shown [] (rowOf (rowValue f) ∷ []) row
+    pub first-passed : isZ f ≡ false → isRow (headed a) f ≡ true → fieldPassed a nonePassed f ≡ shown [] (fieldRow (headed a) f ∷ []) row
     unfolding fieldPassed groupFor pick
-    first-passed z g = rw (e, z, g) (shown-first (rowValue f))
+    first-passed z g = rw (e, z, g) (shown-first (fieldRow (headed a) f))
 
   -- The numbers behind 3, of what is passed, and of groups.
   abbrev lower : Passed → ℕ
@@ -546,37 +561,37 @@ module _ (a : Asked) where
       (pick (not (a .excepts && anyOf noRow gs) && ltb (leastOf gs) (a .least)) No.rowIdle 0))
 
   module _ (f : List ℕ) (fs : Fields)
-      (rest : (done : List Group) (part : Group) (b : Before) → noRow part ≡ closed b → rowsForm b fs ≡ true → lower (passed a (shown done part b) fs) ≡ weights (gather done part b fs))
-      (done : List Group) (part : Group) (b : Before) (k : noRow part ≡ closed b) (h : rowsForm b (f ∷ fs) ≡ true) where
+      (rest : (done : List Group) (part : Group) (b : Before) → noRow part ≡ closed b → rowsForm (headed a) b fs ≡ true → lower (passed a (shown done part b) fs) ≡ weights (gather (headed a) done part b fs))
+      (done : List Group) (part : Group) (b : Before) (k : noRow part ≡ closed b) (h : rowsForm (headed a) b (f ∷ fs) ≡ true) where
     walked : {p q : Passed} → p ≡ q → lower (passed a p fs) ≡ lower (passed a q fs)
     walked e = ap (λ (q : Passed). lower (passed a q fs)) e
 
-    lower-join : isJoin f ≡ true → lower (passed a (shown done part b) (f ∷ fs)) ≡ weights (gather done part b (f ∷ fs))
+    lower-join : isJoin f ≡ true → lower (passed a (shown done part b) (f ∷ fs)) ≡ weights (gather (headed a) done part b (f ∷ fs))
     unfolding passed gather pick mayJoin closed
-    lower-join e = go b k (form-join b f fs e h .0)
+    lower-join e = go b k (form-join (headed a) b f fs e h .0)
       where
-        go : (b : Before) → noRow part ≡ closed b → mayJoin b ≡ true → lower (passed a (shown done part b) (f ∷ fs)) ≡ weights (gather done part b (f ∷ fs))
+        go : (b : Before) → noRow part ≡ closed b → mayJoin b ≡ true → lower (passed a (shown done part b) (f ∷ fs)) ≡ weights (gather (headed a) done part b (f ∷ fs))
         go word k m = clash false m refl
-        go row k m = rw e (walked (join-passed f done part e) ∙ rest done part join k (form-join b f fs e h .1))
+        go row k m = rw e (walked (join-passed f done part e) ∙ rest done part join k (form-join (headed a) b f fs e h .1))
         go join k m = clash false m refl
 
-    lower-rowless : isJoin f ≡ false → isZ f ≡ true → lower (passed a (shown done part b) (f ∷ fs)) ≡ weights (gather done part b (f ∷ fs))
+    lower-rowless : isJoin f ≡ false → isZ f ≡ true → lower (passed a (shown done part b) (f ∷ fs)) ≡ weights (gather (headed a) done part b (f ∷ fs))
     unfolding passed gather pick noRow closed
     lower-rowless e z =
-        let good = form-rowless b f fs e z h in
+        let good = form-rowless (headed a) b f fs e z h in
         rw (e, z) (walked (rowless-passed f done part b e z (may-joined b (good .0))) ∙ rest (done ++ (part ∷ [])) [] word refl (good .1))
 
-    lower-row : isJoin f ≡ false → isZ f ≡ false → lower (passed a (shown done part b) (f ∷ fs)) ≡ weights (gather done part b (f ∷ fs))
+    lower-row : isJoin f ≡ false → isZ f ≡ false → lower (passed a (shown done part b) (f ∷ fs)) ≡ weights (gather (headed a) done part b (f ∷ fs))
     unfolding passed gather pick closed
     lower-row e z =
-        let good = form-row b f fs e z h in
-        let r = rowOf (rowValue f) in
+        let good = form-row (headed a) b f fs e z h in
+        let r = fieldRow (headed a) f in
         by-test (joined b)
         (λ j. rw (e, z, j) (walked (more-passed f done part b e z (good .0) k j) ∙ rest done (part ++ (r ∷ [])) row (row-some part r) (good .1)))
         (λ j. rw (e, z, j) (walked (new-passed f done part b e z (good .0) j) ∙ rest (done ++ (part ∷ [])) (r ∷ []) row (row-some [] r) (good .1)))
 
-  lower-gather : (fs : Fields) (done : List Group) (part : Group) (b : Before) → noRow part ≡ closed b → rowsForm b fs ≡ true
-      → lower (passed a (shown done part b) fs) ≡ weights (gather done part b fs)
+  lower-gather : (fs : Fields) (done : List Group) (part : Group) (b : Before) → noRow part ≡ closed b → rowsForm (headed a) b fs ≡ true
+      → lower (passed a (shown done part b) fs) ≡ weights (gather (headed a) done part b fs)
   unfolding passed gather
   lower-gather [] done part b k h = rw (length-append done (part ∷ []))
   lower-gather (f ∷ fs) done part b k h =
@@ -585,26 +600,26 @@ module _ (a : Asked) where
       (lower-rowless f fs (λ d p c i g. lower-gather fs d p c i g) done part b k h)
       (lower-row f fs (λ d p c i g. lower-gather fs d p c i g) done part b k h)
 
-  lower-groups : (fs : Fields) → rowsForm word fs ≡ true → lower (passed a nonePassed fs) ≡ weights (groupsOf fs)
+  lower-groups : (fs : Fields) → rowsForm (headed a) word fs ≡ true → lower (passed a nonePassed fs) ≡ weights (groupsOf (headed a) fs)
   unfolding passed groupsOf longestOf mostOf leastOf over anyOf noRow closed
   lower-groups [] h = refl
   lower-groups (f ∷ fs) h =
-      let e : isJoin f ≡ false = word-first f fs h in
+      let e : isJoin f ≡ false = word-first (headed a) f fs h in
       by-test (isZ f)
       (λ z.
       ap (λ (q : Passed). lower (passed a q fs)) (none-passed f e z)
-      ∙ lower-gather fs [] [] word refl (form-rowless word f fs e z h .1)
-      ∙ ap weights (rowless-first f fs e z h))
+      ∙ lower-gather fs [] [] word refl (form-rowless (headed a) word f fs e z h .1)
+      ∙ ap weights (rowless-first (headed a) f fs e z h))
       (λ z.
-      let good = form-row word f fs e z h in
+      let good = form-row (headed a) word f fs e z h in
       ap (λ (q : Passed). lower (passed a q fs)) (first-passed f e z (good .0))
-      ∙ lower-gather fs [] (rowOf (rowValue f) ∷ []) row (row-some [] (rowOf (rowValue f))) (good .1)
-      ∙ ap weights (gather-first f fs e z h))
+      ∙ lower-gather fs [] (fieldRow (headed a) f ∷ []) row (row-some [] (fieldRow (headed a) f)) (good .1)
+      ∙ ap weights (gather-first (headed a) f fs e z h))
 
   -- The number of the walk, from the form of the fields and their groups.
-  number-walk : (fs : Fields) → numberOf a (passed a nonePassed fs) ≡ pick (rowsForm word fs) (weights (groupsOf fs)) No.libraryForm
+  number-walk : (fs : Fields) → numberOf a (passed a nonePassed fs) ≡ pick (rowsForm (headed a) word fs) (weights (groupsOf (headed a) fs)) No.libraryForm
   unfolding numberOf beforeOf pick
-  number-walk fs = rw (form-passed a fs nonePassed) (by-test (rowsForm word fs) (λ t. rw t (lower-groups fs t)) (λ t. rw t))
+  number-walk fs = rw (form-passed a fs nonePassed) (by-test (rowsForm (headed a) word fs) (λ t. rw t (lower-groups fs t)) (λ t. rw t))
 
 -- ---- the lines by their refusal numbers
 
@@ -616,17 +631,20 @@ weighed line i j k false true z a p q r = rw (ne-eqb j 0 (λ e. omega arith))
 weighed line i j k false false true a p q r = rw (ne-eqb k 0 (λ e. omega arith))
 weighed line i j k false false false a p q r = refl
 
-pub rowLine-number : (line : ℕ) (w : Word) (n : ℕ) (fs : Fields) → rowLine line w n fs ≡ pick (eqb (rowNumber w n fs) 0) (read (groupsOf (drop 1 fs))) (refused (rowNumber w n fs) line)
+pub rowLine-number : (line : ℕ) (h : Heading) (w : Word) (n : ℕ) (fs : Fields)
+    → rowLine line h w n fs ≡ pick (eqb (rowNumber h w n fs) 0) (read (groupsOf h (drop 1 fs))) (refused (rowNumber h w n fs) line)
 unfolding rowLine rowNumber rowsAfter form _>>=_ holds pick
-rowLine-number line w n [] = refl
-rowLine-number line w n (f ∷ fs) = by-test (sameBytes f (wordBytes w) && rowsForm word fs) good bad
+rowLine-number line h w n [] = refl
+rowLine-number line h w n (f ∷ fs) = by-test (sameBytes f (wordBytes w) && rowsForm h word fs) good bad
   where
-    good : (sameBytes f (wordBytes w) && rowsForm word fs) ≡ true → rowLine line w n (f ∷ fs) ≡ pick (eqb (rowNumber w n (f ∷ fs)) 0) (read (groupsOf fs)) (refused (rowNumber w n (f ∷ fs)) line)
+    good : (sameBytes f (wordBytes w) && rowsForm h word fs) ≡ true
+        → rowLine line h w n (f ∷ fs) ≡ pick (eqb (rowNumber h w n (f ∷ fs)) 0) (read (groupsOf h fs)) (refused (rowNumber h w n (f ∷ fs)) line)
     good e =
         rw e
-        (weighed line No.groupsBad No.bitAbove No.rowIdle (not (eqb (length (groupsOf fs)) (groupCount w n)) || anyOf aboveRows (groupsOf fs)) (anyOf (anyOf (above (columnCount w n))) (groupsOf fs)) (rowIdle w n (groupsOf fs)) (groupsOf fs) (omega arith) (omega arith) (omega arith))
+        (weighed line No.groupsBad No.bitAbove No.rowIdle (not (eqb (length (groupsOf h fs)) (groupCount w n)) || anyOf aboveRows (groupsOf h fs)) (anyOf (anyOf (above (columnCount w n))) (groupsOf h fs)) (rowIdle w n (groupsOf h fs)) (groupsOf h fs) (omega arith) (omega arith) (omega arith))
 
-    bad : (sameBytes f (wordBytes w) && rowsForm word fs) ≡ false → rowLine line w n (f ∷ fs) ≡ pick (eqb (rowNumber w n (f ∷ fs)) 0) (read (groupsOf fs)) (refused (rowNumber w n (f ∷ fs)) line)
+    bad : (sameBytes f (wordBytes w) && rowsForm h word fs) ≡ false
+        → rowLine line h w n (f ∷ fs) ≡ pick (eqb (rowNumber h w n (f ∷ fs)) 0) (read (groupsOf h fs)) (refused (rowNumber h w n (f ∷ fs)) line)
     bad e = rw e refl
 
 none-some : {A : Type 0} {a : A} → _≡_ {A = Option A} none (some a) → ⊥
@@ -635,31 +653,52 @@ none-some e = let z : _≡_ {A = ℕ} 0 1 = cc in omega arith
 some-same : {A : Type 0} {a b : A} → _≡_ {A = Option A} (some a) (some b) → a ≡ b
 some-same e = cc
 
--- A name line by its three fields.
-headerFrom : List ℕ → Option ℕ → Option Header
-headerFrom name none = none
-headerFrom name (some n) = some (record { name = name; pins = n })
+-- A heading by its number is the one that a field is.
+heading-in : (f : List ℕ) → headingOf f ≡ pick (ltb (headingIn f) headings) (some (numberHeading (headingIn f))) none
+unfolding headingOf headingIn numberHeading pick
+heading-in f = go (sameBytes f (bytes "Name")) (sameBytes f (bytes "Name3"))
+  where
+    go : (s t : Bool)
+        → pick s (some plain) (pick t (some deep) none)
+        ≡ pick (ltb (pick s 0 (pick t 1 headings)) headings) (some (numberHeading (pick s 0 (pick t 1 headings)))) none
+    go true t = refl
+    go false true = refl
+    go false false = refl
 
-header-in : (s : Bool) (name : List ℕ) (t : Bool) (o : Option ℕ) → nameForm name ≡ t → pick s (headerOf name o) none ≡ headerFrom name (pick (s && t) o none)
+-- A name line by its three fields.
+headerFrom : ℕ → List ℕ → Option ℕ → Option Header
+headerFrom k name none = none
+headerFrom k name (some n) = some (record { name = name; pins = n; heading = numberHeading k })
+
+header-in : (k : ℕ) (s : Bool) (name : List ℕ) (t : Bool) (o : Option ℕ) → nameForm name ≡ t
+    → headerOf (pick s (some (numberHeading k)) none) name o ≡ headerFrom k name (pick (s && t) o none)
 unfolding pick headerOf headerFrom
-header-in false name t o e = refl
-header-in true name true none e = refl
-header-in true name true (some n) e = rw e
-header-in true name false none e = refl
-header-in true name false (some n) e = rw e
+header-in k false name t o e = refl
+header-in k true name true none e = refl
+header-in k true name true (some n) e = rw e
+header-in k true name false none e = refl
+header-in k true name false (some n) e = rw e
+
+abbrev pub headingNo : Fields → ℕ
+headingNo fs = headingIn (getD fs 0 [])
 
 abbrev pub pinsOf : Fields → Option ℕ
-pinsOf fs = pinsIn (eqb (length fs) 3) (getD fs 0 []) (getD fs 1 []) (getD fs 2 [])
+pinsOf fs = pinsIn (eqb (length fs) 3) (headingNo fs) (getD fs 1 []) (getD fs 2 [])
 
-nameAfter-pins : (fs : Fields) → nameAfter fs ≡ headerFrom (getD fs 1 []) (pinsOf fs)
+nameAfter-pins : (fs : Fields) → nameAfter fs ≡ headerFrom (headingNo fs) (getD fs 1 []) (pinsOf fs)
 unfolding nameAfter pinsIn headerFrom pick
 nameAfter-pins [] = refl
 nameAfter-pins (f ∷ []) = refl
 nameAfter-pins (f ∷ (name ∷ [])) = refl
-nameAfter-pins (f ∷ (name ∷ (n ∷ []))) = header-in (sameBytes f (bytes "Name")) name (nameForm name) (decimal n) refl
+nameAfter-pins (f ∷ (name ∷ (n ∷ []))) =
+    rw (heading-in f) (header-in (headingIn f) (ltb (headingIn f) headings) name (nameForm name) (decimal n) refl)
 nameAfter-pins (f ∷ (name ∷ (n ∷ (x ∷ xs)))) = rw (ne-eqb (suc (suc (suc (suc (length xs))))) 3 (λ e. omega arith))
 
-pub nameAfter-some : (fs : Fields) (n : ℕ) → pinsOf fs ≡ some n → nameAfter fs ≡ some (record { name = getD fs 1 []; pins = n })
+-- What a name line of good form says.
+abbrev pub headerIn : Fields → ℕ → Header
+headerIn fs n = record { name = getD fs 1 []; pins = n; heading = numberHeading (headingNo fs) }
+
+pub nameAfter-some : (fs : Fields) (n : ℕ) → pinsOf fs ≡ some n → nameAfter fs ≡ some (headerIn fs n)
 unfolding headerFrom
 nameAfter-some fs n e = nameAfter-pins fs ∙ rw e
 
@@ -667,12 +706,14 @@ pub nameAfter-none : (fs : Fields) → pinsOf fs ≡ none → nameAfter fs ≡ n
 unfolding headerFrom
 nameAfter-none fs e = nameAfter-pins fs ∙ rw e
 
--- A name line of good form has a name of good form.
-pub pins-form : (three : Bool) (first name digits : List ℕ) (n : ℕ) → pinsIn three first name digits ≡ some n → nameForm name ≡ true
+-- A name line of good form has a heading, and a name of good form.
+pub pins-form : (three : Bool) (k : ℕ) (name digits : List ℕ) (n : ℕ) → pinsIn three k name digits ≡ some n → (k < headings) × (nameForm name ≡ true)
 unfolding pinsIn pick
-pins-form three first name digits n e =
-    by-test (three && (sameBytes first (bytes "Name") && nameForm name))
-    (λ t. and-right (sameBytes first (bytes "Name")) (nameForm name) (and-right three (sameBytes first (bytes "Name") && nameForm name) t))
+pins-form three k name digits n e =
+    by-test (three && (ltb k headings && nameForm name))
+    (λ t.
+    let both = and-right three (ltb k headings && nameForm name) t in
+    (ltb-true k headings (and-left (ltb k headings) (nameForm name) both), and-right (ltb k headings) (nameForm name) both))
     (λ t. let z : none ≡ some n = rw t at e in absurd (none-some z))
 
 pub nameAfter-form : (fs : Fields) (h : Header) → nameAfter fs ≡ some h → nameForm (h .name) ≡ true
@@ -682,16 +723,33 @@ nameAfter-form fs h e = go (pinsOf fs) refl
     go : (o : Option ℕ) → pinsOf fs ≡ o → nameForm (h .name) ≡ true
     go none p = let z : none ≡ some h = sym (nameAfter-none fs p) ∙ e in absurd (none-some z)
     go (some n) p =
-        let same : record { name = getD fs 1 []; pins = n } ≡ h = some-same (sym (nameAfter-some fs n p) ∙ e) in
-        ap (λ (x : Header). nameForm (x .name)) (sym same) ∙ pins-form (eqb (length fs) 3) (getD fs 0 []) (getD fs 1 []) (getD fs 2 []) n p
+        let same : headerIn fs n ≡ h = some-same (sym (nameAfter-some fs n p) ∙ e) in
+        ap (λ (x : Header). nameForm (x .name)) (sym same) ∙ pins-form (eqb (length fs) 3) (headingNo fs) (getD fs 1 []) (getD fs 2 []) n p .1
 
 pub nameLine-number : (line : ℕ) (cells : List Cell) (table : List ℕ) → LibraryHolds table cells → (fs : Fields) (n : ℕ) → pinsOf fs ≡ some n
-    → nameLine line cells fs ≡ pick (eqb (headerNumber (getD fs 1 []) n table) 0) (read (record { name = getD fs 1 []; pins = n })) (refused (headerNumber (getD fs 1 []) n table) line)
+    → nameLine line cells fs ≡ pick (eqb (headerNumber (getD fs 1 []) n table) 0) (read (headerIn fs n)) (refused (headerNumber (getD fs 1 []) n table) line)
 unfolding nameLine headerNumber nameUsed form _>>=_
 nameLine-number line cells table held fs n e =
     let name = getD fs 1 [] in
     rw (nameAfter-some fs n e, holds-find name table cells held, holds-count table cells held)
-    (weighed line No.nameUsed No.pinsBad No.cellsMany (ltb (cellNamed name cells) (length cells)) (pinsBad n) (leb Size.cells (length cells)) (record { name = name; pins = n }) (omega arith) (omega arith) (omega arith))
+    (weighed line No.nameUsed No.pinsBad No.cellsMany (ltb (cellNamed name cells) (length cells)) (pinsBad n) (leb Size.cells (length cells)) (headerIn fs n) (omega arith) (omega arith) (omega arith))
+
+-- The number of a heading that a name line has.
+pub heading-number : (k : ℕ) → k < headings → headingNumber (numberHeading k) ≡ k
+unfolding headingNumber numberHeading
+heading-number zero h = refl
+heading-number (suc zero) h = refl
+heading-number (suc (suc k)) h = absurd (omega arith)
+
+pub other-deep : (k : ℕ) → (k ≡ 0 → ⊥) → numberHeading k ≡ deep
+unfolding numberHeading
+other-deep zero h = absurd (h refl)
+other-deep (suc k) h = refl
+
+pub number-heading : (h : Heading) → numberHeading (headingNumber h) ≡ h
+unfolding headingNumber numberHeading
+number-heading plain = refl
+number-heading deep = refl
 
 pub endAfter-formed : (fs : Fields) → endAfter fs ≡ pick (endFormed fs) (some tt) none
 unfolding endAfter endFormed pick
@@ -734,11 +792,11 @@ group-small a p m s = go (eqb (p .before) 2)
 -- Counts and places grow by little.
 pub field-small : (a : Asked) (p : Passed) (f : List ℕ) (m k : ℕ) → Small a p m → m < k → Small a (fieldPassed a p f) k
 unfolding fieldPassed groupFor pick marked rowAdded rowlessAdded opened
-field-small a p f m k s h = go (isJoin f) (isZ f) (isRow f) (eqb (p .before) 2)
+field-small a p f m k s h = go (isJoin f) (isZ f) (isRow (headed a) f) (eqb (p .before) 2)
   where
     go : (j z i t : Bool)
         → Small a (pick j (marked p 2 (p .bad || not (eqb (p .before) 1)))
-        (pick z (rowlessAdded a p) (pick i (rowAdded (pick t p (opened a p)) (rowValue f)) (marked p (p .before) true)))) k
+        (pick z (rowlessAdded a p) (pick i (rowAdded (pick t p (opened a p)) ((fieldRow (headed a) f) .columns)) (marked p (p .before) true)))) k
     go true z i t = record { groups = omega arith; rows = omega arith; place = omega arith }
     go false true i t = record { groups = omega arith; rows = omega arith; place = omega arith }
     go false false true true = record { groups = omega arith; rows = omega arith; place = omega arith }
@@ -843,12 +901,12 @@ idle-low CO n r h = sym (top-bit (r .columns) (2 * n + 2) (rw (next n) at (leb-f
 idle-low SC n r h = sym (no-columns (r .columns))
 idle-low SO n r h = sym (top-bit (r .columns) (2 * n + 2) (rw (next n) at (leb-false (2 ^ (2 * n + 3)) (r .columns) h)))
 
-pub row-formed : (w : Word) (fs : Fields) → 0 < length fs → holds (rowsAfter w fs) ≡ (sameBytes (getD fs 0 []) (wordBytes w) && rowsForm word (drop 1 fs))
+pub row-formed : (h : Heading) (w : Word) (fs : Fields) → 0 < length fs → holds (rowsAfter h w fs) ≡ (sameBytes (getD fs 0 []) (wordBytes w) && rowsForm h word (drop 1 fs))
 unfolding rowsAfter holds pick
-row-formed w [] h = absurd (omega arith)
-row-formed w (f ∷ fs) h = go (sameBytes f (wordBytes w) && rowsForm word fs)
+row-formed h w [] k = absurd (omega arith)
+row-formed h w (f ∷ fs) k = go (sameBytes f (wordBytes w) && rowsForm h word fs)
   where
-    go : (t : Bool) → holds (pick t (some (groupsOf fs)) none) ≡ t
+    go : (t : Bool) → holds (pick t (some (groupsOf h fs)) none) ≡ t
     go true = refl
     go false = refl
 
@@ -858,12 +916,15 @@ pick-and true t x y = refl
 pick-and false t x y = refl
 
 -- Where the groups of a word start in the table.
-pub asked-place : (cell : ℕ) (w : Word) (n : ℕ) → cell ≤ Size.cells → (askedOf cell w n) .place ≤ Size.library + Size.cellWords
+pub asked-place : (cell k : ℕ) (w : Word) (n : ℕ) → cell ≤ Size.cells → (askedOf cell k w n) .place ≤ Size.library + Size.cellWords
 unfolding askedOf
-asked-place cell w n h = omega (arith, first-most w)
+asked-place cell k w n h = omega (arith, first-most w)
 
-module _ (cell : ℕ) (w : Word) (n : ℕ) (few : n ≤ Size.pins) where
-  weights-asked : (gs : List Group) → weights (askedOf cell w n) gs
+module _ (cell k : ℕ) (w : Word) (n : ℕ) (few : n ≤ Size.pins) where
+  abbrev asking : Asked
+  asking = askedOf cell k w n
+
+  weights-asked : (gs : List Group) → weights asking gs
       ≡ pick (not (eqb (length gs) (groupCount w n)) || anyOf aboveRows gs) No.groupsBad
       (pick (anyOf (anyOf (above (columnCount w n))) gs) No.bitAbove
       (pick (rowIdle w n gs) No.rowIdle 0))
@@ -876,18 +937,18 @@ module _ (cell : ℕ) (w : Word) (n : ℕ) (few : n ≤ Size.pins) where
 
   -- The number of a row line, from the walk over the fields behind its word.
   pub rowNumber-walk : (fs : Fields) → 0 < length fs
-      → rowNumber w n fs
-      ≡ pick (sameBytes (getD fs 0 []) (wordBytes w)) (numberOf (askedOf cell w n) (passed (askedOf cell w n) nonePassed (drop 1 fs))) No.libraryForm
-  unfolding rowNumber
+      → rowNumber (numberHeading k) w n fs
+      ≡ pick (sameBytes (getD fs 0 []) (wordBytes w)) (numberOf asking (passed asking nonePassed (drop 1 fs))) No.libraryForm
+  unfolding rowNumber askedOf
   rowNumber-walk fs h =
-      let gs = groupsOf (drop 1 fs) in
-      rw (row-formed w fs h, number-walk (askedOf cell w n) (drop 1 fs), weights-asked gs)
-      (pick-and (sameBytes (getD fs 0 []) (wordBytes w)) (rowsForm word (drop 1 fs)) _ No.libraryForm)
+      let gs = groupsOf (numberHeading k) (drop 1 fs) in
+      rw (row-formed (numberHeading k) w fs h, number-walk asking (drop 1 fs), weights-asked gs)
+      (pick-and (sameBytes (getD fs 0 []) (wordBytes w)) (rowsForm (numberHeading k) word (drop 1 fs)) _ No.libraryForm)
 
   -- A line of the right word is read by the walk behind it.
   pub walk-read : (fs : Fields) → 0 < length fs → sameBytes (getD fs 0 []) (wordBytes w) ≡ true → (a : Asked) (p : Passed) (rest : Fields) (said : ℕ) (before after : List ℕ)
-      → a ≡ askedOf cell w n → rest ≡ drop 1 fs → p ≡ passed a nonePassed rest → after ≡ stored a nonePassed rest before → said ≡ numberOf a p
-      → RowsRead cell w n fs before after said
+      → a ≡ asking → rest ≡ drop 1 fs → p ≡ passed a nonePassed rest → after ≡ stored a nonePassed rest before → said ≡ numberOf a p
+      → RowsRead cell k w n fs before after said
   unfolding pick
   walk-read fs h same a p rest said before after asks rows walk put number =
       record {

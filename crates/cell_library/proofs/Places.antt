@@ -2,19 +2,25 @@
 -- Assumes nothing.
 use mathlib.Core.List.{List, [], _∷_, _++_, append-assoc, append-nil}
 use mathlib.Core.Path.{_≡_, refl, sym, ap, _∙_}
-use Prim.Native.Nat.{ℕ, suc, _+_, _*_, _≤_, _<_}
+use Prim.Native.Nat.{ℕ, suc, _+_, _*_, _/_, _%_, _^_, _≤_, _<_}
 use native.Mathlib.Nat.{add-assoc}
 use native.Mathlib.Numerals.{one-add}
 use native.Mathlib.Omega.{arith}
 use lib.ListN.{length, getD, length-append, List·getD-append}
+use lib.Pow.{split}
 use lib.Seq.{getD-append-add, getD-at}
 use Rattle.sizes.specs.Places.{cellPlace, groupPlace}
 use Rattle.sizes.specs.Sizes as Size
 use Rattle.table.specs.Blocks.{fitted, blocks}
 use Rattle.table.proofs.Places.{length-fitted, getD-fitted, length-blocks, getD-blocks}
-use Rattle.cell_library.specs.Cells.{Row, Group, Cell}
+use Rattle.cell_library.specs.Cells.{Heading, depthBits, Row, rowOf, rowValue, Group, Cell}
 use Rattle.cell_library.specs.Library.{Word, CC, CO, SC, SO, groupCount, wordGroups}
-use Rattle.cell_library.specs.Layout.{rowWords, groupWords, cellGroups, cellWords, firstGroup, libraryWords}
+use Rattle.cell_library.specs.Layout.{rowWords, groupWords, cellGroups, headingNumber, cellWords, firstGroup, libraryWords}
+
+-- What a row was read from is what its entry writes for it.
+pub row-written : (h : Heading) (x : ℕ) → rowValue h (rowOf h x) ≡ x
+unfolding rowValue rowOf
+row-written h x = split x (depthBits h)
 
 pub length-rowWords : (r : Row) → length (rowWords r) ≡ Size.rowWords
 unfolding rowWords
@@ -31,7 +37,7 @@ length-cellGroups c = simp (length-append, length-fitted)
 pub length-cellWords : (c : Cell) → length (cellWords c) ≡ Size.cellWords
 unfolding cellWords
 length-cellWords c =
-    ap suc (length-append (fitted 0 Size.nameBytes (c .name)) (c .pins ∷ blocks groupWords (cellGroups c))
+    ap suc (length-append (fitted 0 Size.nameBytes (c .name)) (c .pins ∷ headingNumber (c .heading) ∷ blocks groupWords (cellGroups c))
     ∙ rw (length-fitted 0 Size.nameBytes (c .name), length-blocks groupWords Size.groupWords length-groupWords (cellGroups c), length-cellGroups c) refl)
 
 pub length-libraryWords : (cells : List Cell) → length (libraryWords cells) ≡ Size.library
@@ -113,11 +119,11 @@ past-header : (c : Cell) (m : ℕ) → getD (cellWords c) (Size.groupsAt + m) 0 
 unfolding cellWords
 past-header c m =
     let named = fitted 0 Size.nameBytes (c .name) in
-    let behind = c .pins ∷ blocks groupWords (cellGroups c) in
-    let e : Size.groupsAt + m ≡ suc (Size.nameBytes + suc m) = omega arith in
+    let behind = c .pins ∷ headingNumber (c .heading) ∷ blocks groupWords (cellGroups c) in
+    let e : Size.groupsAt + m ≡ suc (Size.nameBytes + suc (suc m)) = omega arith in
     ap (λ (i : ℕ). getD (cellWords c) i 0) e
-    ∙ ap (λ (i : ℕ). getD (named ++ behind) (i + suc m) 0) (sym (length-fitted 0 Size.nameBytes (c .name)))
-    ∙ getD-append-add named behind (suc m) 0
+    ∙ ap (λ (i : ℕ). getD (named ++ behind) (i + suc (suc m)) 0) (sym (length-fitted 0 Size.nameBytes (c .name)))
+    ∙ getD-append-add named behind (suc (suc m)) 0
 
 -- number j of cell k
 module _ (d : Cell) (cells : List Cell) (rest : List ℕ) (few : length cells ≤ Size.cells) (k : ℕ) (h : k < length cells) where
@@ -134,7 +140,17 @@ module _ (d : Cell) (cells : List Cell) (rest : List ℕ) (few : length cells �
   cell-pins =
       let c = getD cells k d in
       cell-word Size.pinsAt (omega arith)
-      ∙ getD-at (fitted 0 Size.nameBytes (c .name)) (c .pins) (blocks groupWords (cellGroups c)) 0 Size.nameBytes (length-fitted 0 Size.nameBytes (c .name))
+      ∙ getD-at (fitted 0 Size.nameBytes (c .name)) (c .pins) (headingNumber (c .heading) ∷ blocks groupWords (cellGroups c)) 0 Size.nameBytes (length-fitted 0 Size.nameBytes (c .name))
+
+  pub cell-heading : getD (libraryWords cells ++ rest) (cellPlace k + Size.headingAt) 0 ≡ headingNumber ((getD cells k d) .heading)
+  unfolding cellWords
+  cell-heading =
+      let c = getD cells k d in
+      let named = fitted 0 Size.nameBytes (c .name) in
+      let behind = c .pins ∷ headingNumber (c .heading) ∷ blocks groupWords (cellGroups c) in
+      cell-word Size.headingAt (omega arith)
+      ∙ ap (λ (i : ℕ). getD (named ++ behind) (i + 1) 0) (sym (length-fitted 0 Size.nameBytes (c .name)))
+      ∙ getD-append-add named behind 1 0
 
   -- number j of group g
   pub group-word : (g j : ℕ) → g < Size.groups → j < Size.groupWords

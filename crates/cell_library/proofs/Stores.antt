@@ -16,10 +16,10 @@ use Rattle.table.specs.Blocks.{fitted, blocks}
 use Rattle.table.proofs.Places.{length-fitted, fitted-short, length-blocks, blocks-append}
 use Rattle.reading.specs.Choice.{pick}
 use Rattle.reading.proofs.Laws.{by-test, clash, or-left, or-right}
-use Rattle.cell_library.specs.Cells.{Row, rowOf, Group, Cell}
+use Rattle.cell_library.specs.Cells.{Heading, Row, Group, Cell}
 use Rattle.cell_library.specs.Library.{Fields, isRow, isJoin, isZ, Before, word, row, join, mayJoin, rowsForm, groupsOf, noRow, Word, CC, CO, SC, SO, anyOf, aboveRows, wordGroups, withGroups, begun}
-use Rattle.cell_library.specs.Layout.{rowWords, groupWords, cellGroups, cellWords, firstGroup, libraryWords}
-use Rattle.cell_library.specs.Passes.{rowValue, askedOf, headerPut, rowPut, rowlessPut, nonePassed, opened, groupFor, rowlessAdded, fieldPassed, fieldStored, stored}
+use Rattle.cell_library.specs.Layout.{rowWords, groupWords, cellGroups, headingNumber, cellWords, firstGroup, libraryWords}
+use Rattle.cell_library.specs.Passes.{fieldRow, headed, askedOf, headerPut, rowPut, rowlessPut, nonePassed, opened, groupFor, rowlessAdded, fieldPassed, fieldStored, stored}
 use Rattle.cell_library.specs.Walk.{countedWords}
 use Rattle.cell_library.specs.declared.rows.Asked.{Asked}
 use Rattle.cell_library.specs.declared.rows.Passed.{Passed}
@@ -53,9 +53,9 @@ bytes-over (suc m) (b ∷ name) pre rest h =
     ∙ bytes-over m name (pre ++ (b ∷ [])) rest (le-of-suc-le-suc h)
     ∙ append-assoc pre (b ∷ []) (fitted 0 m name ++ rest)
 
--- A header over zeros.
-header-over : (pre name rest : List ℕ) (m pins : ℕ) → length name ≤ Size.nameBytes → set (sets (set (pre ++ (0 ∷ (fitted 0 Size.nameBytes [] ++ (0 ∷ rest)))) (length pre) m) (length pre + 1) name) (length pre + Size.pinsAt) pins ≡ pre ++ (m ∷ (fitted 0 Size.nameBytes name ++ (pins ∷ rest)))
-header-over pre name rest m pins h =
+-- A header over zeros: the name and its length, then the pins and the heading.
+name-over : (pre name rest : List ℕ) (m pins : ℕ) → length name ≤ Size.nameBytes → set (sets (set (pre ++ (0 ∷ (fitted 0 Size.nameBytes [] ++ (0 ∷ rest)))) (length pre) m) (length pre + 1) name) (length pre + Size.pinsAt) pins ≡ pre ++ (m ∷ (fitted 0 Size.nameBytes name ++ (pins ∷ rest)))
+name-over pre name rest m pins h =
     let first : set (pre ++ (0 ∷ (fitted 0 Size.nameBytes [] ++ (0 ∷ rest)))) (length pre) m ≡ (pre ++ (m ∷ [])) ++ (fitted 0 Size.nameBytes [] ++ (0 ∷ rest)) = set-append-seam pre 0 (fitted 0 Size.nameBytes [] ++ (0 ∷ rest)) m ∙ sym (append-assoc pre (m ∷ []) (fitted 0 Size.nameBytes [] ++ (0 ∷ rest))) in
     let seam : length pre + 1 ≡ length (pre ++ (m ∷ [])) = sym (length-append pre (m ∷ [])) in
     let second = bytes-over Size.nameBytes name (pre ++ (m ∷ [])) (0 ∷ rest) h ∙ sym (append-assoc (pre ++ (m ∷ [])) (fitted 0 Size.nameBytes name) (0 ∷ rest)) in
@@ -66,6 +66,20 @@ header-over pre name rest m pins h =
     ∙ set-at ((pre ++ (m ∷ [])) ++ fitted 0 Size.nameBytes name) 0 rest pins (length pre + Size.pinsAt) far
     ∙ append-assoc (pre ++ (m ∷ [])) (fitted 0 Size.nameBytes name) (pins ∷ rest)
     ∙ append-assoc pre (m ∷ []) (fitted 0 Size.nameBytes name ++ (pins ∷ rest))
+
+header-over : (pre name rest : List ℕ) (m pins heading : ℕ) → length name ≤ Size.nameBytes
+    → set (set (sets (set (pre ++ (0 ∷ (fitted 0 Size.nameBytes [] ++ (0 ∷ 0 ∷ rest)))) (length pre) m) (length pre + 1) name) (length pre + Size.pinsAt) pins) (length pre + Size.headingAt) heading
+    ≡ pre ++ (m ∷ (fitted 0 Size.nameBytes name ++ (pins ∷ heading ∷ rest)))
+header-over pre name rest m pins heading h =
+    let named = fitted 0 Size.nameBytes name in
+    let seam : pre ++ (m ∷ (named ++ (pins ∷ 0 ∷ rest))) ≡ (pre ++ (m ∷ (named ++ (pins ∷ [])))) ++ (0 ∷ rest) =
+    ap (λ (l : List ℕ). pre ++ (m ∷ l)) (sym (append-assoc named (pins ∷ []) (0 ∷ rest))) ∙ sym (append-assoc pre (m ∷ (named ++ (pins ∷ []))) (0 ∷ rest)) in
+    let far : length (pre ++ (m ∷ (named ++ (pins ∷ [])))) ≡ length pre + Size.headingAt =
+    length-append pre (m ∷ (named ++ (pins ∷ []))) ∙ omega (arith, length-append named (pins ∷ []), length-fitted 0 Size.nameBytes name) in
+    ap (λ (l : List ℕ). set l (length pre + Size.headingAt) heading) (name-over pre name (0 ∷ rest) m pins h ∙ seam)
+    ∙ set-at (pre ++ (m ∷ (named ++ (pins ∷ [])))) 0 rest heading (length pre + Size.headingAt) far
+    ∙ append-assoc pre (m ∷ (named ++ (pins ∷ []))) (heading ∷ rest)
+    ∙ ap (λ (l : List ℕ). pre ++ (m ∷ l)) (append-assoc named (pins ∷ []) (heading ∷ rest))
 
 -- ---- a row behind those of its group
 
@@ -87,10 +101,9 @@ blocks-last : {A : Type 0} (f : A → List ℕ) (xs : List A) (x : A) → blocks
 unfolding blocks
 blocks-last f xs x = blocks-append f xs (x ∷ []) ∙ ap (λ (l : List ℕ). blocks f xs ++ l) (append-nil (f x))
 
-row-put : (pre post : List ℕ) (part : Group) (x : ℕ) → length part < Size.rows → rowPut (length pre) (length part) x (pre ++ (groupWords part ++ post)) ≡ pre ++ (groupWords (part ++ (rowOf x ∷ [])) ++ post)
-unfolding rowPut rowOf rowWords
-row-put pre post part x h =
-    let r : Row = record { depth = x % 2; columns = x / 2 } in
+row-put : (pre post : List ℕ) (part : Group) (r : Row) → length part < Size.rows → rowPut (length pre) (length part) r (pre ++ (groupWords part ++ post)) ≡ pre ++ (groupWords (part ++ (r ∷ [])) ++ post)
+unfolding rowPut rowWords
+row-put pre post part r h =
     let run = blocks rowWords part in
     let n : length run ≡ 2 * length part = length-blocks rowWords 2 length-rowWords part ∙ twice (length part) in
     let left : List ℕ = replicate (Size.rows * Size.rowWords - 2 * length part - 2) 0 in
@@ -99,29 +112,31 @@ row-put pre post part x h =
     ∙ ap (λ (l : List ℕ). length part ∷ l) (append-assoc run (0 ∷ (0 ∷ left)) post) in
     let grown : length (part ++ (r ∷ [])) ≡ length part + 1 = length-append part (r ∷ []) in
     let fewer : Size.rows * Size.rowWords - 2 * length (part ++ (r ∷ [])) ≡ Size.rows * Size.rowWords - 2 * length part - 2 = omega arith in
-    let whole : groupWords (part ++ (r ∷ [])) ≡ (length part + 1) ∷ ((run ++ (x % 2 ∷ (x / 2 ∷ []))) ++ left) =
+    let whole : groupWords (part ++ (r ∷ [])) ≡ (length part + 1) ∷ ((run ++ (r .depth ∷ (r .columns ∷ []))) ++ left) =
     group-open (part ++ (r ∷ [])) (omega arith) ∙ rw (fewer, grown, blocks-last rowWords part r) in
-    let closed : groupWords (part ++ (r ∷ [])) ++ post ≡ (length part + 1) ∷ (run ++ (x % 2 ∷ (x / 2 ∷ (left ++ post)))) =
+    let closed : groupWords (part ++ (r ∷ [])) ++ post ≡ (length part + 1) ∷ (run ++ (r .depth ∷ (r .columns ∷ (left ++ post)))) =
     ap (λ (l : List ℕ). l ++ post) whole
-    ∙ ap (λ (l : List ℕ). (length part + 1) ∷ l) (append-assoc (run ++ (x % 2 ∷ (x / 2 ∷ []))) left post ∙ append-assoc run (x % 2 ∷ (x / 2 ∷ [])) (left ++ post)) in
+    ∙ ap (λ (l : List ℕ). (length part + 1) ∷ l) (append-assoc (run ++ (r .depth ∷ (r .columns ∷ []))) left post ∙ append-assoc run (r .depth ∷ (r .columns ∷ [])) (left ++ post)) in
     rw opened
-    (ap (λ (k : ℕ). set (set (set (pre ++ (length part ∷ (run ++ (0 ∷ (0 ∷ (left ++ post)))))) (length pre) (length part + 1)) (length pre + 1 + k) (x % 2)) (length pre + 2 + k) (x / 2)) (sym n)
-    ∙ three-stores pre run (left ++ post) (length part) (length part + 1) 0 0 (x % 2) (x / 2)
+    (ap (λ (k : ℕ). set (set (set (pre ++ (length part ∷ (run ++ (0 ∷ (0 ∷ (left ++ post)))))) (length pre) (length part + 1)) (length pre + 1 + k) (r .depth)) (length pre + 2 + k) (r .columns)) (sym n)
+    ∙ three-stores pre run (left ++ post) (length part) (length part + 1) 0 0 (r .depth) (r .columns)
     ∙ ap (λ (l : List ℕ). pre ++ l) (sym closed))
 
 -- ---- the cell that is being read, and the cells before it
 
 -- The numbers before a cell's groups.
-headerWords : List ℕ → ℕ → List ℕ
-headerWords name pins = length name ∷ (fitted 0 Size.nameBytes name ++ (pins ∷ []))
+headerWords : Cell → List ℕ
+headerWords c = length (c .name) ∷ (fitted 0 Size.nameBytes (c .name) ++ (c .pins ∷ headingNumber (c .heading) ∷ []))
 
-length-headerWords : (name : List ℕ) (pins : ℕ) → length (headerWords name pins) ≡ Size.groupsAt
+length-headerWords : (c : Cell) → length (headerWords c) ≡ Size.groupsAt
 unfolding headerWords
-length-headerWords name pins = simp (length-append, length-fitted)
+length-headerWords c = simp (length-append, length-fitted)
 
-cellWords-open : (c : Cell) → cellWords c ≡ headerWords (c .name) (c .pins) ++ blocks groupWords (cellGroups c)
+cellWords-open : (c : Cell) → cellWords c ≡ headerWords c ++ blocks groupWords (cellGroups c)
 unfolding cellWords headerWords
-cellWords-open c = ap (λ (l : List ℕ). length (c .name) ∷ l) (sym (append-assoc (fitted 0 Size.nameBytes (c .name)) (c .pins ∷ []) (blocks groupWords (cellGroups c))))
+cellWords-open c =
+    ap (λ (l : List ℕ). length (c .name) ∷ l)
+    (sym (append-assoc (fitted 0 Size.nameBytes (c .name)) (c .pins ∷ headingNumber (c .heading) ∷ []) (blocks groupWords (cellGroups c))))
 
 -- The numbers before the cell that is being read, and those behind it.
 aheadWords : ℕ → List Cell → List ℕ
@@ -156,8 +171,8 @@ with-groups CO gs c = groups-open CO (withGroups CO gs c)
 with-groups SC gs c = groups-open SC (withGroups SC gs c)
 with-groups SO gs c = groups-open SO (withGroups SO gs c)
 
-with-open : (w : Word) (gs : List Group) (c : Cell) → cellWords (withGroups w gs c) ≡ headerWords (c .name) (c .pins) ++ blocks groupWords (cellGroups (withGroups w gs c))
-unfolding withGroups
+with-open : (w : Word) (gs : List Group) (c : Cell) → cellWords (withGroups w gs c) ≡ headerWords c ++ blocks groupWords (cellGroups (withGroups w gs c))
+unfolding withGroups headerWords
 with-open CC gs c = cellWords-open (withGroups CC gs c)
 with-open CO gs c = cellWords-open (withGroups CO gs c)
 with-open SC gs c = cellWords-open (withGroups SC gs c)
@@ -169,6 +184,13 @@ same-pins CC gs c = refl
 same-pins CO gs c = refl
 same-pins SC gs c = refl
 same-pins SO gs c = refl
+
+pub same-heading : (w : Word) (gs : List Group) (c : Cell) → (withGroups w gs c) .heading ≡ c .heading
+unfolding withGroups
+same-heading CC gs c = refl
+same-heading CO gs c = refl
+same-heading SC gs c = refl
+same-heading SO gs c = refl
 
 fitted-more : {A : Type 0} (d : A) (n : ℕ) (xs : List A) → fitted d n (xs ++ (d ∷ [])) ≡ fitted d n xs
 unfolding fitted
@@ -188,29 +210,29 @@ module _ (done : List Group) (part : Group) where
   ended : (gs others : List Group) → gs ≡ done ++ (part ∷ others) → Gathered done part gs
   ended gs others e = record { more = []; others = others; same = rw (append-nil part) e }
 
-  gather-step : (f : List ℕ) (fs : Fields) (rest : (d : List Group) (p : Group) (b : Before) → Gathered d p (gather d p b fs)) (t z j : Bool)
-      → Gathered done part (pick t (gather done part join fs)
-      (pick z (gather (done ++ (part ∷ [])) [] word fs)
-      (pick j (gather done (part ++ (rowOf (rowValue f) ∷ [])) row fs)
-      (gather (done ++ (part ∷ [])) (rowOf (rowValue f) ∷ []) row fs))))
+  gather-step : (h : Heading) (f : List ℕ) (fs : Fields) (rest : (d : List Group) (p : Group) (b : Before) → Gathered d p (gather h d p b fs)) (t z j : Bool)
+      → Gathered done part (pick t (gather h done part join fs)
+      (pick z (gather h (done ++ (part ∷ [])) [] word fs)
+      (pick j (gather h done (part ++ (fieldRow h f ∷ [])) row fs)
+      (gather h (done ++ (part ∷ [])) (fieldRow h f ∷ []) row fs))))
   unfolding pick
-  gather-step f fs rest true z j = rest done part join
-  gather-step f fs rest false true j =
+  gather-step h f fs rest true z j = rest done part join
+  gather-step h f fs rest false true j =
       let g = rest (done ++ (part ∷ [])) [] word in
       ended _ (g .more ∷ g .others) (g .same ∙ append-assoc done (part ∷ []) (g .more ∷ g .others))
-  gather-step f fs rest false false true =
-      let r = rowOf (rowValue f) in
+  gather-step h f fs rest false false true =
+      let r = fieldRow h f in
       let g = rest done (part ++ (r ∷ [])) row in
       record { more = r ∷ g .more; others = g .others; same = g .same ∙ ap (λ (x : Group). done ++ (x ∷ g .others)) (append-assoc part (r ∷ []) (g .more)) }
-  gather-step f fs rest false false false =
-      let r = rowOf (rowValue f) in
+  gather-step h f fs rest false false false =
+      let r = fieldRow h f in
       let g = rest (done ++ (part ∷ [])) (r ∷ []) row in
       ended _ ((r ∷ g .more) ∷ g .others) (g .same ∙ append-assoc done (part ∷ []) ((r ∷ g .more) ∷ g .others))
 
-gathered : (done : List Group) (part : Group) (b : Before) (fs : Fields) → Gathered done part (gather done part b fs)
+gathered : (h : Heading) (done : List Group) (part : Group) (b : Before) (fs : Fields) → Gathered done part (gather h done part b fs)
 unfolding gather
-gathered done part b [] = ended done part _ [] refl
-gathered done part b (f ∷ fs) = gather-step done part f fs (λ d p c. gathered d p c fs) (isJoin f) (isZ f) (joined b)
+gathered h done part b [] = ended done part _ [] refl
+gathered h done part b (f ∷ fs) = gather-step done part h f fs (λ d p c. gathered h d p c fs) (isJoin f) (isZ f) (joined b)
 
 module _ (done : List Group) (part : Group) (gs : List Group) (g : Gathered done part gs) where
   gather-count : length done < length gs
@@ -228,7 +250,7 @@ module _ (n : ℕ) (cells : List Cell) (w : Word) (c : Cell) (past : List ℕ) (
   partTable gs = countedWords n (cells ++ (withGroups w gs c ∷ [])) ++ past
 
   before-group : List Group → List ℕ
-  before-group done = aheadWords n cells ++ (headerWords (c .name) (c .pins) ++ blocks groupWords (frontGroups w c ++ done))
+  before-group done = aheadWords n cells ++ (headerWords c ++ blocks groupWords (frontGroups w c ++ done))
 
   behind-group : ℕ → List ℕ
   behind-group m = blocks groupWords (replicate (space w - m) [] ++ backGroups w c) ++ behindWords cells past
@@ -237,8 +259,8 @@ module _ (n : ℕ) (cells : List Cell) (w : Word) (c : Cell) (past : List ℕ) (
   unfolding before-group
   length-before done =
       let groups : length (blocks groupWords (frontGroups w c ++ done)) ≡ (firstGroup w + length done) * Size.groupWords = length-blocks groupWords Size.groupWords length-groupWords (frontGroups w c ++ done) ∙ rw (length-append (frontGroups w c) done, length-front w c) in
-      length-append (aheadWords n cells) (headerWords (c .name) (c .pins) ++ blocks groupWords (frontGroups w c ++ done))
-      ∙ omega (arith, length-ahead n cells, length-append (headerWords (c .name) (c .pins)) (blocks groupWords (frontGroups w c ++ done)), length-headerWords (c .name) (c .pins))
+      length-append (aheadWords n cells) (headerWords c ++ blocks groupWords (frontGroups w c ++ done))
+      ∙ omega (arith, length-ahead n cells, length-append (headerWords c) (blocks groupWords (frontGroups w c ++ done)), length-headerWords c)
 
   part-open : (done : List Group) (part : Group) → length done < space w → partTable (done ++ (part ∷ [])) ≡ before-group done ++ (groupWords part ++ behind-group (length done + 1))
   unfolding partTable before-group behind-group blocks
@@ -251,16 +273,16 @@ module _ (n : ℕ) (cells : List Cell) (w : Word) (c : Cell) (past : List ℕ) (
       ∙ ap (λ (l : List Group). front ++ (l ++ backGroups w c)) filled
       ∙ ap (λ (l : List Group). front ++ l) (append-assoc (done ++ (part ∷ [])) pad (backGroups w c) ∙ append-assoc done (part ∷ []) (pad ++ backGroups w c))
       ∙ sym (append-assoc front done (part ∷ (pad ++ backGroups w c))) in
-      let cell : cellWords (withGroups w (done ++ (part ∷ [])) c) ≡ headerWords (c .name) (c .pins) ++ (blocks groupWords (front ++ done) ++ (groupWords part ++ blocks groupWords (pad ++ backGroups w c))) =
+      let cell : cellWords (withGroups w (done ++ (part ∷ [])) c) ≡ headerWords c ++ (blocks groupWords (front ++ done) ++ (groupWords part ++ blocks groupWords (pad ++ backGroups w c))) =
       with-open w (done ++ (part ∷ [])) c
       ∙ rw (groups, blocks-append groupWords (front ++ done) (part ∷ (pad ++ backGroups w c))) in
       cell-open n cells (withGroups w (done ++ (part ∷ [])) c) past few
       ∙ rw cell (simp append-assoc)
 
-  row-stored : (done : List Group) (part : Group) (x : ℕ) → length done < space w → length part < Size.rows → rowPut (groupPlace (length cells) (firstGroup w + length done)) (length part) x (partTable (done ++ (part ∷ []))) ≡ partTable (done ++ ((part ++ (rowOf x ∷ [])) ∷ []))
-  row-stored done part x h q =
-      rw (part-open done part h, part-open done (part ++ (rowOf x ∷ [])) h, ← length-before done)
-      (row-put (before-group done) (behind-group (length done + 1)) part x q)
+  row-stored : (done : List Group) (part : Group) (r : Row) → length done < space w → length part < Size.rows → rowPut (groupPlace (length cells) (firstGroup w + length done)) (length part) r (partTable (done ++ (part ∷ []))) ≡ partTable (done ++ ((part ++ (r ∷ [])) ∷ []))
+  row-stored done part r h q =
+      rw (part-open done part h, part-open done (part ++ (r ∷ [])) h, ← length-before done)
+      (row-put (before-group done) (behind-group (length done + 1)) part r q)
 
   -- A group of no row holds the same numbers as none.
   part-empty : (gs : List Group) → partTable (gs ++ ([] ∷ [])) ≡ partTable gs
@@ -274,7 +296,10 @@ module _ (n : ℕ) (cells : List Cell) (w : Word) (c : Cell) (past : List ℕ) (
       ∙ sym (cell-open n cells (withGroups w gs c) past few)
 
   abbrev asks : Asked
-  asks = askedOf (length cells) w (c .pins)
+  asks = askedOf (length cells) (headingNumber (c .heading)) w (c .pins)
+
+  abbrev by : Heading
+  by = headed asks
 
   open-place : (done : List Group) → asks .place + length done * Size.groupWords ≡ groupPlace (length cells) (firstGroup w + length done)
   unfolding askedOf
@@ -288,7 +313,7 @@ module _ (n : ℕ) (cells : List Cell) (w : Word) (c : Cell) (past : List ℕ) (
   -- What a field makes of the table.
   module _ (f : List ℕ) where
     abbrev new : Row
-    new = rowOf (rowValue f)
+    new = fieldRow by f
 
     join-put : (p : Passed) (table : List ℕ) → isJoin f ≡ true → fieldStored asks p f table ≡ table
     unfolding fieldStored pick
@@ -306,23 +331,23 @@ module _ (n : ℕ) (cells : List Cell) (w : Word) (c : Cell) (past : List ℕ) (
           let more = done ++ (part ∷ []) in
           rw (e, z, ← length-append done (part ∷ []), open-place more) (rowless-stored more h)
 
-    module _ (e : isJoin f ≡ false) (z : isZ f ≡ false) (g : isRow f ≡ true) where
+    module _ (e : isJoin f ≡ false) (z : isZ f ≡ false) (g : isRow by f ≡ true) where
       first-put : 0 < space w → fieldStored asks nonePassed f (partTable []) ≡ partTable ((new ∷ []) ∷ [])
       unfolding fieldStored groupFor opened pick
-      first-put h = rw (e, z, g, open-place [], ← part-empty []) (row-stored [] [] (rowValue f) h (omega arith))
+      first-put h = rw (e, z, g, open-place [], ← part-empty []) (row-stored [] [] (fieldRow by f) h (omega arith))
 
       module _ (done : List Group) (part : Group) (b : Before) where
         more-put : joined b ≡ true → length done < space w → length part < Size.rows
             → fieldStored asks (shown asks done part b) f (partTable (done ++ (part ∷ []))) ≡ partTable (done ++ ((part ++ (new ∷ [])) ∷ []))
         unfolding fieldStored groupFor pick
-        more-put j h q = rw (e, z, g, joined-number b, j, open-place done) (row-stored done part (rowValue f) h q)
+        more-put j h q = rw (e, z, g, joined-number b, j, open-place done) (row-stored done part (fieldRow by f) h q)
 
         new-put : joined b ≡ false → length (done ++ (part ∷ [])) < space w
             → fieldStored asks (shown asks done part b) f (partTable (done ++ (part ∷ []))) ≡ partTable ((done ++ (part ∷ [])) ++ ((new ∷ []) ∷ []))
         unfolding fieldStored groupFor opened pick
         new-put j h =
             let more = done ++ (part ∷ []) in
-            rw (e, z, g, joined-number b, j, ← length-append done (part ∷ []), open-place more, ← part-empty more) (row-stored more [] (rowValue f) h (omega arith))
+            rw (e, z, g, joined-number b, j, ← length-append done (part ∷ []), open-place more, ← part-empty more) (row-stored more [] (fieldRow by f) h (omega arith))
 
   stored-as : (fs : Fields) {p q : Passed} {t u : List ℕ} → p ≡ q → t ≡ u → stored asks p fs t ≡ stored asks q fs u
   stored-as fs e d = cc
@@ -330,38 +355,38 @@ module _ (n : ℕ) (cells : List Cell) (w : Word) (c : Cell) (past : List ℕ) (
   -- What is stored behind `done` and `part`, where what is gathered fits.
   abbrev Puts : Fields → List Group → Group → Before → Type 0
   Puts fs done part b =
-      noRow part ≡ closed b → rowsForm b fs ≡ true → length (gather done part b fs) ≤ space w → anyOf aboveRows (gather done part b fs) ≡ false
-      → stored asks (shown asks done part b) fs (partTable (done ++ (part ∷ []))) ≡ partTable (gather done part b fs)
+      noRow part ≡ closed b → rowsForm by b fs ≡ true → length (gather by done part b fs) ≤ space w → anyOf aboveRows (gather by done part b fs) ≡ false
+      → stored asks (shown asks done part b) fs (partTable (done ++ (part ∷ []))) ≡ partTable (gather by done part b fs)
 
   module _ (f : List ℕ) (fs : Fields) (rest : (done : List Group) (part : Group) (b : Before) → Puts fs done part b) (done : List Group) (part : Group) where
     put-join : isJoin f ≡ true → (b : Before) → Puts (f ∷ fs) done part b
     unfolding stored gather pick mayJoin closed
-    put-join e word k h q s = clash false (form-join word f fs e h .0) refl
+    put-join e word k h q s = clash false (form-join by word f fs e h .0) refl
     put-join e row k h q s =
         rw e
-        (stored-as fs (join-passed asks f done part e) (join-put f _ _ e) ∙ rest done part join k (form-join row f fs e h .1) (rw e at q) (rw e at s))
-    put-join e join k h q s = clash false (form-join join f fs e h .0) refl
+        (stored-as fs (join-passed asks f done part e) (join-put f _ _ e) ∙ rest done part join k (form-join by row f fs e h .1) (rw e at q) (rw e at s))
+    put-join e join k h q s = clash false (form-join by join f fs e h .0) refl
 
     put-rowless : isJoin f ≡ false → isZ f ≡ true → (b : Before) → Puts (f ∷ fs) done part b
     unfolding stored gather pick noRow closed
     put-rowless e z b k h q s =
-        let good = form-rowless b f fs e z h in
+        let good = form-rowless by b f fs e z h in
         let more = done ++ (part ∷ []) in
-        let fits : length (gather more [] word fs) ≤ space w = rw (e, z) at q in
-        let short : anyOf aboveRows (gather more [] word fs) ≡ false = rw (e, z) at s in
-        let below : length more < space w = omega (arith, gather-count more [] _ (gathered more [] word fs)) in
+        let fits : length (gather by more [] word fs) ≤ space w = rw (e, z) at q in
+        let short : anyOf aboveRows (gather by more [] word fs) ≡ false = rw (e, z) at s in
+        let below : length more < space w = omega (arith, gather-count more [] _ (gathered by more [] word fs)) in
         rw (e, z) (stored-as fs (rowless-passed asks f done part b e z (may-joined b (good .0))) (rowless-put f e z done part b below) ∙ rest more [] word refl (good .1) fits short)
 
     put-more : isJoin f ≡ false → isZ f ≡ false → (b : Before) → joined b ≡ true → Puts (f ∷ fs) done part b
     unfolding stored gather pick closed
     put-more e z b j k h q s =
-        let good = form-row b f fs e z h in
-        let r = rowOf (rowValue f) in
+        let good = form-row by b f fs e z h in
+        let r = fieldRow by f in
         let grown = part ++ (r ∷ []) in
-        let fits : length (gather done grown row fs) ≤ space w = rw (e, z, j) at q in
-        let short : anyOf aboveRows (gather done grown row fs) ≡ false = rw (e, z, j) at s in
+        let fits : length (gather by done grown row fs) ≤ space w = rw (e, z, j) at q in
+        let short : anyOf aboveRows (gather by done grown row fs) ≡ false = rw (e, z, j) at s in
         let size : length grown ≡ length part + 1 = length-append part (r ∷ []) in
-        let g = gathered done grown row fs in
+        let g = gathered by done grown row fs in
         let most : length grown ≤ Size.rows = gather-part done grown _ g short in
         let below : length done < space w = omega (arith, gather-count done grown _ g) in
         rw (e, z, j)
@@ -371,12 +396,12 @@ module _ (n : ℕ) (cells : List Cell) (w : Word) (c : Cell) (past : List ℕ) (
     put-new : isJoin f ≡ false → isZ f ≡ false → (b : Before) → joined b ≡ false → Puts (f ∷ fs) done part b
     unfolding stored gather pick closed
     put-new e z b j k h q s =
-        let good = form-row b f fs e z h in
-        let r = rowOf (rowValue f) in
+        let good = form-row by b f fs e z h in
+        let r = fieldRow by f in
         let more = done ++ (part ∷ []) in
-        let fits : length (gather more (r ∷ []) row fs) ≤ space w = rw (e, z, j) at q in
-        let short : anyOf aboveRows (gather more (r ∷ []) row fs) ≡ false = rw (e, z, j) at s in
-        let below : length more < space w = omega (arith, gather-count more (r ∷ []) _ (gathered more (r ∷ []) row fs)) in
+        let fits : length (gather by more (r ∷ []) row fs) ≤ space w = rw (e, z, j) at q in
+        let short : anyOf aboveRows (gather by more (r ∷ []) row fs) ≡ false = rw (e, z, j) at s in
+        let below : length more < space w = omega (arith, gather-count more (r ∷ []) _ (gathered by more (r ∷ []) row fs)) in
         rw (e, z, j)
         (stored-as fs (new-passed asks f done part b e z (good .0) j) (new-put f e z (good .0) done part b j below)
         ∙ rest more (r ∷ []) row (row-some [] r) (good .1) fits short)
@@ -394,33 +419,33 @@ module _ (n : ℕ) (cells : List Cell) (w : Word) (c : Cell) (past : List ℕ) (
       (λ j. put-new f fs (λ d p c i x y t. put-groups fs d p c i x y t) done part e z b j k h q s))
 
   -- From a cell without these groups: behind the first of them the others.
-  first-stored : (f : List ℕ) (fs : Fields) (g : Group) (b : Before) → noRow g ≡ closed b → rowsForm b fs ≡ true → gather [] g b fs ≡ groupsOf (f ∷ fs)
+  first-stored : (f : List ℕ) (fs : Fields) (g : Group) (b : Before) → noRow g ≡ closed b → rowsForm by b fs ≡ true → gather by [] g b fs ≡ groupsOf by (f ∷ fs)
       → fieldPassed asks nonePassed f ≡ shown asks [] g b → (0 < space w → fieldStored asks nonePassed f (partTable []) ≡ partTable (g ∷ []))
-      → length (groupsOf (f ∷ fs)) ≤ space w → anyOf aboveRows (groupsOf (f ∷ fs)) ≡ false
-      → stored asks nonePassed (f ∷ fs) (partTable []) ≡ partTable (groupsOf (f ∷ fs))
+      → length (groupsOf by (f ∷ fs)) ≤ space w → anyOf aboveRows (groupsOf by (f ∷ fs)) ≡ false
+      → stored asks nonePassed (f ∷ fs) (partTable []) ≡ partTable (groupsOf by (f ∷ fs))
   unfolding stored
   first-stored f fs g b k h all passes puts q s =
-      let some-space : 0 < space w = omega (arith, gather-count [] g _ (gathered [] g b fs), ap (λ (gs : List Group). length gs) all) in
+      let some-space : 0 < space w = omega (arith, gather-count [] g _ (gathered by [] g b fs), ap (λ (gs : List Group). length gs) all) in
       stored-as fs passes (puts some-space)
       ∙ put-groups fs [] g b k h (rw all q) (rw all s)
       ∙ ap partTable all
 
-  pub line-stored : (fs : Fields) → rowsForm word fs ≡ true → length (groupsOf fs) ≤ space w → anyOf aboveRows (groupsOf fs) ≡ false
-      → stored asks nonePassed fs (partTable []) ≡ partTable (groupsOf fs)
+  pub line-stored : (fs : Fields) → rowsForm by word fs ≡ true → length (groupsOf by fs) ≤ space w → anyOf aboveRows (groupsOf by fs) ≡ false
+      → stored asks nonePassed fs (partTable []) ≡ partTable (groupsOf by fs)
   unfolding stored groupsOf noRow closed
   line-stored [] h q s = refl
   line-stored (f ∷ fs) h q s =
-      let e : isJoin f ≡ false = word-first f fs h in
+      let e : isJoin f ≡ false = word-first by f fs h in
       by-test (isZ f)
-      (λ z. first-stored f fs [] word refl (form-rowless word f fs e z h .1) (rowless-first f fs e z h) (none-passed asks f e z) (none-put f e z) q s)
+      (λ z. first-stored f fs [] word refl (form-rowless by word f fs e z h .1) (rowless-first by f fs e z h) (none-passed asks f e z) (none-put f e z) q s)
       (λ z.
-      let good = form-row word f fs e z h in
-      first-stored f fs (rowOf (rowValue f) ∷ []) row (row-some [] (rowOf (rowValue f))) (good .1) (gather-first f fs e z h) (first-passed asks f e z (good .0)) (first-put f e z (good .0)) q s)
+      let good = form-row by word f fs e z h in
+      first-stored f fs (fieldRow by f ∷ []) row (row-some [] (fieldRow by f)) (good .1) (gather-first by f fs e z h) (first-passed asks f e z (good .0)) (first-put f e z (good .0)) q s)
 
 -- ---- the header of a new cell, and the count at its end
 
 blank-zeros : cellWords blank ≡ replicate Size.cellWords 0
-unfolding cellWords blank cellGroups groupWords fitted blocks
+unfolding cellWords blank headingNumber cellGroups groupWords fitted blocks
 blank-zeros = refl
 
 fitted-zeros : (n m : ℕ) (xs : List ℕ) → fitted 0 n (xs ++ replicate m 0) ≡ fitted 0 n xs
@@ -437,22 +462,23 @@ blank-cell cells =
     ap (λ (l : List ℕ). length cells ∷ fitted 0 (Size.cells * Size.cellWords) l) (blocks-last cellWords cells blank ∙ ap (λ (l : List ℕ). blocks cellWords cells ++ l) blank-zeros)
     ∙ ap (λ (l : List ℕ). length cells ∷ l) (fitted-zeros (Size.cells * Size.cellWords) Size.cellWords (blocks cellWords cells))
 
-pub header-stored : (cells : List Cell) (past name : List ℕ) (pins : ℕ) → length cells < Size.cells → length name ≤ Size.nameBytes
-    → headerPut (length cells) name pins (libraryWords cells ++ past) ≡ countedWords (length cells) (cells ++ (begun (record { name = name; pins = pins }) ∷ [])) ++ past
-unfolding headerPut begun blank cellWords cellGroups
-header-stored cells past name pins few h =
+pub header-stored : (cells : List Cell) (past name : List ℕ) (pins : ℕ) (heading : Heading) → length cells < Size.cells → length name ≤ Size.nameBytes
+    → headerPut (length cells) name pins (headingNumber heading) (libraryWords cells ++ past)
+    ≡ countedWords (length cells) (cells ++ (begun (record { name = name; pins = pins; heading = heading }) ∷ [])) ++ past
+unfolding headerPut begun blank cellWords cellGroups headingNumber
+header-stored cells past name pins heading few h =
     let n = length cells in
-    let new : Cell = begun (record { name = name; pins = pins }) in
+    let new : Cell = begun (record { name = name; pins = pins; heading = heading }) in
     let groups = blocks groupWords (cellGroups blank) in
     let rest = groups ++ behindWords cells past in
-    let zeroed : libraryWords cells ++ past ≡ aheadWords n cells ++ (0 ∷ (fitted 0 Size.nameBytes [] ++ (0 ∷ rest))) =
+    let zeroed : libraryWords cells ++ past ≡ aheadWords n cells ++ (0 ∷ (fitted 0 Size.nameBytes [] ++ (0 ∷ 0 ∷ rest))) =
     ap (λ (l : List ℕ). l ++ past) (sym (blank-cell cells))
     ∙ cell-open n cells blank past few
-    ∙ ap (λ (l : List ℕ). aheadWords n cells ++ (0 ∷ l)) (append-assoc (fitted 0 Size.nameBytes []) (0 ∷ groups) (behindWords cells past)) in
-    let headed : countedWords n (cells ++ (new ∷ [])) ++ past ≡ aheadWords n cells ++ (length name ∷ (fitted 0 Size.nameBytes name ++ (pins ∷ rest))) =
+    ∙ ap (λ (l : List ℕ). aheadWords n cells ++ (0 ∷ l)) (append-assoc (fitted 0 Size.nameBytes []) (0 ∷ 0 ∷ groups) (behindWords cells past)) in
+    let headed : countedWords n (cells ++ (new ∷ [])) ++ past ≡ aheadWords n cells ++ (length name ∷ (fitted 0 Size.nameBytes name ++ (pins ∷ headingNumber heading ∷ rest))) =
     cell-open n cells new past few
-    ∙ ap (λ (l : List ℕ). aheadWords n cells ++ (length name ∷ l)) (append-assoc (fitted 0 Size.nameBytes name) (pins ∷ groups) (behindWords cells past)) in
-    rw (zeroed, ← length-ahead n cells) (header-over (aheadWords n cells) name rest (length name) pins h ∙ sym headed)
+    ∙ ap (λ (l : List ℕ). aheadWords n cells ++ (length name ∷ l)) (append-assoc (fitted 0 Size.nameBytes name) (pins ∷ headingNumber heading ∷ groups) (behindWords cells past)) in
+    rw (zeroed, ← length-ahead n cells) (header-over (aheadWords n cells) name rest (length name) pins (headingNumber heading) h ∙ sym headed)
 
 pub count-stored : (cells : List Cell) (c : Cell) (past : List ℕ) → set (countedWords (length cells) (cells ++ (c ∷ [])) ++ past) 0 (length cells + 1) ≡ libraryWords (cells ++ (c ∷ [])) ++ past
 unfolding countedWords libraryWords

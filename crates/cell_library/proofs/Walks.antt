@@ -16,7 +16,7 @@ use Rattle.text.proofs.Laws.{linesFrom-start, linesFrom-end, linesFrom-line, li
 use Rattle.cell_library.specs.Cells.{Cell}
 use Rattle.cell_library.specs.Library.{Place, outside, inside, Reading, libraryLine, libraryEnd, libraryFrom, library}
 use Rattle.cell_library.specs.Layout.{libraryWords}
-use Rattle.cell_library.specs.Walk.{placeCells, countedWords, readingWords, placeNumber, placePins, Shows, Leaves}
+use Rattle.cell_library.specs.Walk.{placeCells, countedWords, readingWords, placeNumber, placePins, placeHeading, Shows, Leaves}
 use Rattle.cell_library.specs.declared.lines.State.{State}
 use Rattle.cell_library.proofs.Entries.{leaves-number, leaves-onward, outside-at}
 use Rattle.cell_library.proofs.Laws.{start-sound}
@@ -28,12 +28,12 @@ pub record Walked (text past : List ℕ) (at line : ℕ) (s : State) (table : Li
   pub shows : Shows reading s table past
   pub same : library text ≡ libraryFrom line reading (linesFrom text at)
 
-pub walk-start : (text past table : List ℕ) → table ≡ libraryWords [] ++ past → Walked text past 0 1 (record { place = 0; cells = 0; pins = 0; number = 0 }) table
-unfolding library readingWords placeCells countedWords libraryWords placeNumber placePins
+pub walk-start : (text past table : List ℕ) → table ≡ libraryWords [] ++ past → Walked text past 0 1 (record { place = 0; cells = 0; pins = 0; heading = 0; number = 0 }) table
+unfolding library readingWords placeCells countedWords libraryWords placeNumber placePins placeHeading
 walk-start text past table held =
     record {
       reading = record { cells = []; place = outside };
-      shows = record { place = refl; cells = refl; pins = refl; accepted = refl; words = held; sound = start-sound };
+      shows = record { place = refl; cells = refl; pins = refl; heading = refl; accepted = refl; words = held; sound = start-sound };
       same = ap (libraryFrom 1 (record { cells = []; place = outside })) (sym (linesFrom-start text));
     }
 

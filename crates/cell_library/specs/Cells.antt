@@ -6,14 +6,32 @@ use Prim.Native.Nat.{ℕ, zero, suc, _+_, _*_, _-_, _/_, _%_, _^_}
 use lib.Dec.{eqb}
 use Rattle.reading.specs.Choice.{pick, choice-open}
 
--- "A row is an octal number .. Bit 0 is the depth (0 or 1)." The columns above it are held apart from the depth, so that
--- a column's bit here is one less than its bit in the row.
+-- The heading of an entry, the word that it begins with: `Name`, or `Name3` (02, K2).
+pub data Heading : Type 0 where
+  plain deep : Heading
+
+-- "Bit 0 is the depth (0 or 1)." "An entry that begins with `Name3` has a three-bit depth in bits 0 to 2 of each row, every
+-- other column two places higher .. `Name` entries are read as today." (02, K2)
+unfoldable pub depthBits : Heading → ℕ
+depthBits plain = 1
+depthBits deep = 3
+
+-- "depth 0 to 7"
+abbrev pub deepest : ℕ
+deepest = 7
+
+-- "A row is an octal number": its depth and the columns above it. "The cell record holds the depth apart from the columns for
+-- both kinds" (02, K2), so that a column's bit here is less than its bit in the row by the bits of the depth.
 pub record Row : Type 0 where
   pub depth : ℕ
   pub columns : ℕ
 
-unfoldable pub rowOf : ℕ → Row
-rowOf x = record { depth = x % 2; columns = x / 2 }
+unfoldable pub rowOf : Heading → ℕ → Row
+rowOf h x = record { depth = x % 2 ^ depthBits h; columns = x / 2 ^ depthBits h }
+
+-- The number that an entry writes for a row: `row-written` of `proofs/Places.antt` says that it is the one read.
+unfoldable pub rowValue : Heading → Row → ℕ
+rowValue h r = r .columns * 2 ^ depthBits h + r .depth
 
 -- "Rows joined by M form a group of alternatives". A group is document 01's term.
 abbrev pub Group : Type 0
@@ -25,6 +43,7 @@ Group = List Row
 pub record Cell : Type 0 where
   pub name : List ℕ
   pub pins : ℕ
+  pub heading : Heading
   pub cc : List Group
   pub co : List Group
   pub sc : List Group
@@ -37,7 +56,8 @@ pub data Column : Type 0 where
   observe : Column
 
 -- "for pin i of n, bit 2(n−i)+2 means "pin at 0", bit 2(n−i)+1 "pin at 1". In CO and SO rows, bits 2n+2 and 2n+1 mean "cell
--- output at 0" and "at 1", and bit 2n+3 means "observe the output"": each less the one bit of the depth.
+-- output at 0" and "at 1", and bit 2n+3 means "observe the output"": each less the one bit of the depth, or the three of an
+-- entry in which it stands two places higher.
 unfoldable pub bitOf : ℕ → Column → ℕ
 bitOf n (pin i v) = 2 * (n - i) + (1 - v)
 bitOf n (output v) = 2 * n + (1 - v)
@@ -65,5 +85,5 @@ named n (c ∷ cs) columns = pick (bit columns (bitOf n c)) (c ∷ named n cs co
 
 -- Opens the page's definitions, where a figure computes with them.
 unfoldable pub cells-open : ℕ
-unfolding choice-open rowOf bitOf pinColumns settingColumns observingColumns bit named
+unfolding choice-open depthBits rowOf rowValue bitOf pinColumns settingColumns observingColumns bit named
 cells-open = 0

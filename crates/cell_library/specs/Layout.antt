@@ -13,7 +13,7 @@ use Rattle.table.specs.Blocks.{fitted, blocks}
 use Rattle.reading.specs.Choice.{pick}
 use Rattle.reading.specs.Each.{Each}
 use Rattle.reading.specs.Refusal.{Read, refused, read}
-use Rattle.cell_library.specs.Cells.{Row, Group, Cell}
+use Rattle.cell_library.specs.Cells.{Heading, plain, deep, Row, Group, Cell}
 use Rattle.cell_library.specs.Library.{Word, CC, CO, SC, SO}
 
 -- Two numbers a row, the depth apart from the columns; a group has its count of rows first, then its rows.
@@ -34,9 +34,14 @@ firstGroup SC = Size.scGroup
 firstGroup CO = Size.coGroup
 firstGroup SO = Size.soGroup
 
--- A cell: the length of its name, its name filled up, its pins, its groups.
+-- A heading as a number.
+unfoldable pub headingNumber : Heading → ℕ
+headingNumber plain = 0
+headingNumber deep = 1
+
+-- A cell: the length of its name, its name filled up, its pins, its heading, its groups.
 unfoldable pub cellWords : Cell → List ℕ
-cellWords c = length (c .name) ∷ (fitted 0 Size.nameBytes (c .name) ++ (c .pins ∷ blocks groupWords (cellGroups c)))
+cellWords c = length (c .name) ∷ (fitted 0 Size.nameBytes (c .name) ++ (c .pins ∷ headingNumber (c .heading) ∷ blocks groupWords (cellGroups c)))
 
 -- The count of cells, then the cells: the published size.
 unfoldable pub libraryWords : List Cell → List ℕ

@@ -13,7 +13,7 @@ use Rattle.reading.specs.Choice.{pick}
 use Rattle.text.specs.Lines.{lines, sameBytes, lines-open}
 use Rattle.text.specs.Numeral.{numeral, value, decimal, nameForm, numeral-open}
 use Rattle.reading.specs.Refusal.{Read, refused, read, _>>=_, _>>_, weigh, form, refusal-open}
-use Rattle.cell_library.specs.Cells.{Row, rowOf, Group, Cell, bit, cells-open}
+use Rattle.cell_library.specs.Cells.{Heading, plain, deep, Row, rowOf, Group, Cell, bit, cells-open}
 
 -- A line by its fields.
 abbrev pub Fields : Type 0
@@ -25,9 +25,14 @@ unfoldable pub holds : {A : Type 0} → Option A → Bool
 holds none = false
 holds (some a) = true
 
--- "A row is an octal number without leading zeros (0 itself is well formed), 1 to 7 digits."
-unfoldable pub isRow : List ℕ → Bool
-isRow f = holds (numeral 8 Size.rowDigits f)
+-- "A row is an octal number without leading zeros (0 itself is well formed), 1 to 7 digits"; in an entry that begins with
+-- `Name3` "rows up to 8 digits" (02, K2).
+unfoldable pub rowDigits : Heading → ℕ
+rowDigits plain = Size.rowDigits
+rowDigits deep = Size.deepDigits
+
+unfoldable pub isRow : Heading → List ℕ → Bool
+isRow h f = holds (numeral 8 (rowDigits h) f)
 
 unfoldable pub isJoin : List ℕ → Bool
 isJoin f = sameBytes f (bytes "M")
@@ -53,11 +58,11 @@ mayEnd join = false
 
 -- "a line or an M out of place is bad form": the fields after a line's word are rows, with an M only between two rows, and
 -- Zs, each a group by itself: no M stands before it, and none behind it.
-unfoldable pub rowsForm : Before → Fields → Bool
-rowsForm b [] = mayEnd b
-rowsForm b (f ∷ fs) =
-    pick (isJoin f) (mayJoin b && rowsForm join fs)
-    (pick (isZ f) (mayEnd b && rowsForm word fs) (isRow f && rowsForm row fs))
+unfoldable pub rowsForm : Heading → Before → Fields → Bool
+rowsForm h b [] = mayEnd b
+rowsForm h b (f ∷ fs) =
+    pick (isJoin f) (mayJoin b && rowsForm h join fs)
+    (pick (isZ f) (mayEnd b && rowsForm h word fs) (isRow h f && rowsForm h row fs))
 
 unfoldable pub joinFirst : Fields → Bool
 joinFirst [] = false
@@ -70,11 +75,11 @@ withRow true r (g ∷ gs) = (r ∷ g) ∷ gs
 
 -- "Rows joined by M form a group of alternatives": a row before an M stands in the group of the row behind it. A Z is a
 -- group of no row.
-unfoldable pub groupsOf : Fields → List Group
-groupsOf [] = []
-groupsOf (f ∷ fs) =
-    pick (isJoin f) (groupsOf fs)
-    (pick (isZ f) ([] ∷ groupsOf fs) (withRow (joinFirst fs) (rowOf (value 8 0 f)) (groupsOf fs)))
+unfoldable pub groupsOf : Heading → Fields → List Group
+groupsOf h [] = []
+groupsOf h (f ∷ fs) =
+    pick (isJoin f) (groupsOf h fs)
+    (pick (isZ f) ([] ∷ groupsOf h fs) (withRow (joinFirst fs) (rowOf h (value 8 0 f)) (groupsOf h fs)))
 
 -- ---- refusals 6, 7 and 8, of the groups of a line
 
@@ -143,13 +148,13 @@ unfoldable pub rowIdle : Word → ℕ → List Group → Bool
 rowIdle w n gs = not (excepted w gs) && anyOf (anyOf (idle w n)) gs
 
 -- The groups of a line that starts with this word; none is bad form.
-unfoldable pub rowsAfter : Word → Fields → Option (List Group)
-rowsAfter w [] = none
-rowsAfter w (f ∷ fs) = pick (sameBytes f (wordBytes w) && rowsForm word fs) (some (groupsOf fs)) none
+unfoldable pub rowsAfter : Heading → Word → Fields → Option (List Group)
+rowsAfter h w [] = none
+rowsAfter h w (f ∷ fs) = pick (sameBytes f (wordBytes w) && rowsForm h word fs) (some (groupsOf h fs)) none
 
-unfoldable pub rowLine : ℕ → Word → ℕ → Fields → Read (List Group)
-rowLine line w n fs = do
-  gs ← form No.libraryForm line (rowsAfter w fs)
+unfoldable pub rowLine : ℕ → Heading → Word → ℕ → Fields → Read (List Group)
+rowLine line h w n fs = do
+  gs ← form No.libraryForm line (rowsAfter h w fs)
   weigh line
       ((No.groupsBad, not (eqb (length gs) (groupCount w n)) || anyOf aboveRows gs)
       ∷ (No.bitAbove, anyOf (anyOf (above (columnCount w n))) gs)
@@ -160,17 +165,22 @@ rowLine line w n fs = do
 pub record Header : Type 0 where
   pub name : List ℕ
   pub pins : ℕ
+  pub heading : Heading
 
-unfoldable pub headerOf : List ℕ → Option ℕ → Option Header
-headerOf name none = none
-headerOf name (some n) = pick (nameForm name) (some (record { name = name; pins = n })) none
+unfoldable pub headingOf : List ℕ → Option Heading
+headingOf f = pick (sameBytes f (bytes "Name")) (some plain) (pick (sameBytes f (bytes "Name3")) (some deep) none)
 
--- `Name,NAME,n`
+unfoldable pub headerOf : Option Heading → List ℕ → Option ℕ → Option Header
+headerOf none name n = none
+headerOf (some h) name none = none
+headerOf (some h) name (some n) = pick (nameForm name) (some (record { name = name; pins = n; heading = h })) none
+
+-- `Name,NAME,n` and `Name3,NAME,n`
 unfoldable pub nameAfter : Fields → Option Header
 nameAfter [] = none
 nameAfter (f ∷ []) = none
 nameAfter (f ∷ (name ∷ [])) = none
-nameAfter (f ∷ (name ∷ (n ∷ []))) = pick (sameBytes f (bytes "Name")) (headerOf name (decimal n)) none
+nameAfter (f ∷ (name ∷ (n ∷ []))) = headerOf (headingOf f) name (decimal n)
 nameAfter (f ∷ (name ∷ (n ∷ (x ∷ xs)))) = none
 
 unfoldable pub endAfter : Fields → Option (Unit {0})
@@ -222,7 +232,7 @@ pub record Reading : Type 0 where
   pub place : Place
 
 unfoldable pub begun : Header → Cell
-begun h = record { name = h .name; pins = h .pins; cc = []; co = []; sc = []; so = [] }
+begun h = record { name = h .name; pins = h .pins; heading = h .heading; cc = []; co = []; sc = []; so = [] }
 
 -- The groups of a cell that stand behind a word, and the cell with others in their place.
 unfoldable pub wordGroups : Word → Cell → List Group
@@ -232,17 +242,17 @@ wordGroups SC c = c .sc
 wordGroups SO c = c .so
 
 unfoldable pub withGroups : Word → List Group → Cell → Cell
-withGroups CC gs c = record { name = c .name; pins = c .pins; cc = gs; co = c .co; sc = c .sc; so = c .so }
-withGroups CO gs c = record { name = c .name; pins = c .pins; cc = c .cc; co = gs; sc = c .sc; so = c .so }
-withGroups SC gs c = record { name = c .name; pins = c .pins; cc = c .cc; co = c .co; sc = gs; so = c .so }
-withGroups SO gs c = record { name = c .name; pins = c .pins; cc = c .cc; co = c .co; sc = c .sc; so = gs }
+withGroups CC gs c = record { name = c .name; pins = c .pins; heading = c .heading; cc = gs; co = c .co; sc = c .sc; so = c .so }
+withGroups CO gs c = record { name = c .name; pins = c .pins; heading = c .heading; cc = c .cc; co = gs; sc = c .sc; so = c .so }
+withGroups SC gs c = record { name = c .name; pins = c .pins; heading = c .heading; cc = c .cc; co = c .co; sc = gs; so = c .so }
+withGroups SO gs c = record { name = c .name; pins = c .pins; heading = c .heading; cc = c .cc; co = c .co; sc = c .sc; so = gs }
 
 unfoldable pub libraryLine : ℕ → List Cell → Place → Fields → Read Reading
 libraryLine line cells outside fs = do
   h ← nameLine line cells fs
   read (record { cells = cells; place = inside (wordLine CC) (begun h) })
 libraryLine line cells (inside (wordLine w) c) fs = do
-  gs ← rowLine line w (c .pins) fs
+  gs ← rowLine line (c .heading) w (c .pins) fs
   read (record { cells = cells; place = inside (lineAfter w) (withGroups w gs c) })
 libraryLine line cells (inside endLine c) fs = do
   form No.libraryForm line (endAfter fs)
@@ -266,5 +276,5 @@ library t = libraryFrom 1 (record { cells = []; place = outside }) (lines t)
 
 -- Opens the page's definitions, where a figure computes with them.
 unfoldable pub library-open : ℕ
-unfolding bytes-open lines-open numeral-open refusal-open cells-open holds isRow isJoin isZ mayJoin mayEnd rowsForm joinFirst withRow groupsOf anyOf aboveRows above namesNone observesNot wordBytes groupCount columnCount idle noRow excepted rowIdle rowsAfter rowLine headerOf nameAfter endAfter cellNamed nameUsed pinsBad nameLine lineAfter begun wordGroups withGroups libraryLine libraryEnd libraryFrom library
+unfolding bytes-open lines-open numeral-open refusal-open cells-open holds rowDigits isRow isJoin isZ mayJoin mayEnd rowsForm joinFirst withRow groupsOf anyOf aboveRows above namesNone observesNot wordBytes groupCount columnCount idle noRow excepted rowIdle rowsAfter rowLine headingOf headerOf nameAfter endAfter cellNamed nameUsed pinsBad nameLine lineAfter begun wordGroups withGroups libraryLine libraryEnd libraryFrom library
 library-open = 0

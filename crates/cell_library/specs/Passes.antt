@@ -9,14 +9,15 @@ use Prim.Native.Nat.{ℕ, zero, suc, _+_, _*_, _/_, _%_, _^_, _≤_, max, min}
 use lib.Dec.{leb, ltb, eqb}
 use lib.ListN.{length, getD, set, drop}
 use lib.Seq.{sets}
-use Rattle.sizes.specs.Places.{cellPlace, pinsPlace, groupPlace}
+use Rattle.sizes.specs.Places.{cellPlace, pinsPlace, headingPlace, groupPlace}
 use Rattle.sizes.specs.Sizes as Size
 use Rattle.reading.specs.Numbers as No
 use Rattle.text.specs.Bytes.{bytes}
 use Rattle.reading.specs.Choice.{pick}
 use Rattle.text.specs.Lines.{sameBytes}
 use Rattle.text.specs.Numeral.{numeral, decimal, nameForm}
-use Rattle.cell_library.specs.Library.{Fields, holds, isRow, isJoin, isZ, above, Word, CC, CO, SC, SO, groupCount, columnCount, rowIdle, rowsAfter, groupsOf, anyOf, aboveRows, pinsBad}
+use Rattle.cell_library.specs.Cells.{Heading, plain, deep, Row, rowOf}
+use Rattle.cell_library.specs.Library.{Fields, holds, rowDigits, isRow, isJoin, isZ, above, Word, CC, CO, SC, SO, groupCount, columnCount, rowIdle, rowsAfter, groupsOf, anyOf, aboveRows, pinsBad}
 use Rattle.cell_library.specs.Layout.{firstGroup, foundAt}
 use Rattle.cell_library.specs.declared.rows.Asked.{Asked}
 use Rattle.cell_library.specs.declared.rows.Passed.{Passed}
@@ -27,9 +28,17 @@ unfoldable pub orZero : Option ℕ → ℕ
 orZero none = 0
 orZero (some v) = v
 
--- The number that a row is written as; 0 where the field is no row.
-unfoldable pub rowValue : List ℕ → ℕ
-rowValue f = orZero (numeral 8 Size.rowDigits f)
+-- The number that a row is written as, 0 where the field is no row; and the row.
+unfoldable pub fieldValue : Heading → List ℕ → ℕ
+fieldValue h f = orZero (numeral 8 (rowDigits h) f)
+
+unfoldable pub fieldRow : Heading → List ℕ → Row
+fieldRow h f = rowOf h (fieldValue h f)
+
+-- The heading of a number, as `headingNumber` gives it.
+unfoldable pub numberHeading : ℕ → Heading
+numberHeading zero = plain
+numberHeading (suc k) = deep
 
 -- ---- what a row line is asked for
 
@@ -47,26 +56,30 @@ setting CO = false
 setting SC = true
 setting SO = false
 
--- Of a cell, a word and so many pins.
-unfoldable pub askedOf : ℕ → Word → ℕ → Asked
-askedOf cell w n =
+-- Of a cell, a heading by its number, a word and so many pins.
+unfoldable pub askedOf : ℕ → ℕ → Word → ℕ → Asked
+askedOf cell k w n =
     record {
       place = groupPlace cell (firstGroup w);
       groups = groupCount w n;
       excepts = setting w;
+      heading = k;
       least = leastColumns w n;
       limit = 2 ^ columnCount w n;
     }
 
 -- ---- stores
 
--- The name and the pins of a cell.
-unfoldable pub headerPut : ℕ → List ℕ → ℕ → List ℕ → List ℕ
-headerPut cell name pins table = set (sets (set table (cellPlace cell) (length name)) (cellPlace cell + 1) name) (pinsPlace cell) pins
+-- The name, the pins and the heading of a cell.
+unfoldable pub headerPut : ℕ → List ℕ → ℕ → ℕ → List ℕ → List ℕ
+headerPut cell name pins heading table =
+    set (set (sets (set table (cellPlace cell) (length name)) (cellPlace cell + 1) name) (pinsPlace cell) pins)
+    (headingPlace cell) heading
 
 -- A row put behind so many others of the group at a place of the table.
-unfoldable pub rowPut : ℕ → ℕ → ℕ → List ℕ → List ℕ
-rowPut place rows x table = set (set (set table place (rows + 1)) (place + 1 + 2 * rows) (x % 2)) (place + 2 + 2 * rows) (x / 2)
+unfoldable pub rowPut : ℕ → ℕ → Row → List ℕ → List ℕ
+rowPut place rows r table =
+    set (set (set table place (rows + 1)) (place + 1 + 2 * rows) (r .depth)) (place + 2 + 2 * rows) (r .columns)
 
 -- A group of no row at a place of the table.
 unfoldable pub rowlessPut : ℕ → List ℕ → List ℕ
@@ -121,9 +134,9 @@ opened a p =
 unfoldable pub groupFor : Asked → Passed → Passed
 groupFor a p = pick (eqb (p .before) 2) p (opened a p)
 
--- A row more in the open group.
+-- A row more in the open group, by its columns.
 unfoldable pub rowAdded : Passed → ℕ → Passed
-rowAdded p x =
+rowAdded p columns =
     record {
       before = 1;
       groups = p .groups;
@@ -132,8 +145,8 @@ rowAdded p x =
       bad = p .bad;
       rowless = p .rowless;
       longest = max (p .longest) (p .rows + 1);
-      most = max (p .most) (x / 2);
-      least = min (p .least) (x / 2);
+      most = max (p .most) columns;
+      least = min (p .least) columns;
     }
 
 -- A new group that stays without a row; behind it as behind the line's word, which is 0.
@@ -151,12 +164,16 @@ rowlessAdded a p =
       least = p .least;
     }
 
+-- The heading that a line is read by.
+abbrev pub headed : Asked → Heading
+headed a = numberHeading (a .heading)
+
 -- An M is out of place unless a row, which is 1, stands before it, a Z where an M does; what is none of the three always is.
 unfoldable pub fieldPassed : Asked → Passed → List ℕ → Passed
 fieldPassed a p f =
     pick (isJoin f) (marked p 2 (p .bad || not (eqb (p .before) 1)))
     (pick (isZ f) (rowlessAdded a p)
-    (pick (isRow f) (rowAdded (groupFor a p) (rowValue f)) (marked p (p .before) true)))
+    (pick (isRow (headed a) f) (rowAdded (groupFor a p) ((fieldRow (headed a) f) .columns)) (marked p (p .before) true)))
 
 unfoldable pub passed : Asked → Passed → Fields → Passed
 passed a p [] = p
@@ -167,7 +184,7 @@ unfoldable pub fieldStored : Asked → Passed → List ℕ → List ℕ → List
 fieldStored a p f table =
     pick (isJoin f) table
     (pick (isZ f) (rowlessPut ((rowlessAdded a p) .place) table)
-    (pick (isRow f) (rowPut ((groupFor a p) .place) ((groupFor a p) .rows) (rowValue f) table) table))
+    (pick (isRow (headed a) f) (rowPut ((groupFor a p) .place) ((groupFor a p) .rows) (fieldRow (headed a) f) table) table))
 
 unfoldable pub stored : Asked → Passed → Fields → List ℕ → List ℕ
 stored a p [] table = table
@@ -197,22 +214,29 @@ wordAt (suc (suc (suc zero))) = SC
 wordAt (suc (suc (suc (suc n)))) = SO
 
 -- The refusal number of a line, 0 where it has none.
-unfoldable pub rowNumber : Word → ℕ → Fields → ℕ
-rowNumber w n fs =
-    pick (holds (rowsAfter w fs))
-    (pick (not (eqb (length (groupsOf (drop 1 fs))) (groupCount w n)) || anyOf aboveRows (groupsOf (drop 1 fs))) No.groupsBad
-    (pick (anyOf (anyOf (above (columnCount w n))) (groupsOf (drop 1 fs))) No.bitAbove
-    (pick (rowIdle w n (groupsOf (drop 1 fs))) No.rowIdle 0)))
+unfoldable pub rowNumber : Heading → Word → ℕ → Fields → ℕ
+rowNumber h w n fs =
+    pick (holds (rowsAfter h w fs))
+    (pick (not (eqb (length (groupsOf h (drop 1 fs))) (groupCount w n)) || anyOf aboveRows (groupsOf h (drop 1 fs))) No.groupsBad
+    (pick (anyOf (anyOf (above (columnCount w n))) (groupsOf h (drop 1 fs))) No.bitAbove
+    (pick (rowIdle w n (groupsOf h (drop 1 fs))) No.rowIdle 0)))
     No.libraryForm
 
 -- A row line that was read: its number, and where it has none, the table with its rows.
-pub record RowsRead (cell : ℕ) (w : Word) (n : ℕ) (fs : Fields) (before after : List ℕ) (said : ℕ) : Type 0 where
-  pub number : said ≡ rowNumber w n fs
-  pub table : said ≡ 0 → after ≡ stored (askedOf cell w n) nonePassed (drop 1 fs) before
+pub record RowsRead (cell k : ℕ) (w : Word) (n : ℕ) (fs : Fields) (before after : List ℕ) (said : ℕ) : Type 0 where
+  pub number : said ≡ rowNumber (numberHeading k) w n fs
+  pub table : said ≡ 0 → after ≡ stored (askedOf cell k w n) nonePassed (drop 1 fs) before
 
--- The pins of a name line by its fields, where there are three; none is bad form.
-unfoldable pub pinsIn : Bool → List ℕ → List ℕ → List ℕ → Option ℕ
-pinsIn three first name digits = pick (three && (sameBytes first (bytes "Name") && nameForm name)) (decimal digits) none
+-- The number of the heading that a field is; where it is none, the count of headings.
+abbrev pub headings : ℕ
+headings = 2
+
+unfoldable pub headingIn : List ℕ → ℕ
+headingIn f = pick (sameBytes f (bytes "Name")) 0 (pick (sameBytes f (bytes "Name3")) 1 headings)
+
+-- The pins of a name line by its fields, where there are three, the first by its heading's number; none is bad form.
+unfoldable pub pinsIn : Bool → ℕ → List ℕ → List ℕ → Option ℕ
+pinsIn three k name digits = pick (three && (ltb k headings && nameForm name)) (decimal digits) none
 
 -- The refusal number of a name and a count of pins behind the cells of a table.
 unfoldable pub headerNumber : List ℕ → ℕ → List ℕ → ℕ

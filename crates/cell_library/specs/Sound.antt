@@ -9,14 +9,14 @@ use lib.Dec.{ltb}
 use lib.ListN.{length}
 use Rattle.sizes.specs.Sizes as Size
 use Rattle.text.specs.Numeral.{nameForm}
-use Rattle.cell_library.specs.Cells.{Row, Group, Cell}
+use Rattle.cell_library.specs.Cells.{deepest, Row, Group, Cell}
 use Rattle.cell_library.specs.Library.{Word, CC, CO, SC, SO, groupCount, columnCount, idle, excepted, wordGroups, Wanted, wordLine, endLine, Place, outside, inside, Reading}
 use Rattle.reading.specs.Each.{Each}
 
--- A row of a line that has the groups `all`. "Bit 0 is the depth (0 or 1)"; no "bit above its columns"; not "a CC or SC row
+-- A row of a line that has the groups `all`. "depth 0 to 7" (02, K2); no "bit above its columns"; not "a CC or SC row
 -- naming no pin, or a CO or SO row without "observe the output"", where 8 does not except it.
 pub record SoundRow (w : Word) (n : ℕ) (all : List Group) (r : Row) : Type 0 where
-  pub depth : r .depth ≤ 1
+  pub depth : r .depth ≤ deepest
   pub within : r .columns < 2 ^ columnCount w n
   pub useful : excepted w all ≡ false → idle w n r ≡ false
 

@@ -10,7 +10,7 @@ use Rattle.reading.specs.Refusal.{Read, refused, read}
 use Rattle.text.specs.Lines.{fields}
 use Rattle.cell_library.specs.Cells.{Cell}
 use Rattle.cell_library.specs.Library.{Place, outside, inside, Reading, libraryLine}
-use Rattle.cell_library.specs.Layout.{cellWords}
+use Rattle.cell_library.specs.Layout.{headingNumber, cellWords}
 use Rattle.cell_library.specs.Sound.{wantedNumber, SoundReading}
 use Rattle.cell_library.specs.declared.lines.State.{State}
 
@@ -39,6 +39,11 @@ unfoldable pub placePins : Place → ℕ
 placePins outside = 0
 placePins (inside wanted c) = c .pins
 
+-- The number of its heading; 0 where there is no cell.
+unfoldable pub placeHeading : Place → ℕ
+placeHeading outside = 0
+placeHeading (inside wanted c) = headingNumber (c .heading)
+
 -- Numbers that the tables have space for.
 pub record StateFits (s : State) : Type 0 where
   pub cells : s .cells ≤ Size.cells
@@ -49,6 +54,7 @@ pub record Shows (r : Reading) (s : State) (table past : List ℕ) : Type 0 wher
   pub place : s .place ≡ placeNumber (r .place)
   pub cells : s .cells ≡ length (r .cells)
   pub pins : s .pins ≡ placePins (r .place)
+  pub heading : s .heading ≡ placeHeading (r .place)
   pub accepted : s .number ≡ 0
   pub words : table ≡ readingWords r ++ past
   pub sound : SoundReading r

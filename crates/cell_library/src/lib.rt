@@ -1,7 +1,8 @@
 // The cell library: the library text read into the library table, and what a library table tells of its cells.
 //
-// Open to others, each for every input: `read_library`, `cells::count`, `cells::find` and `cells::pins_of`. What the last three
-// say of a table that holds cells: `holds-count`, `holds-find` and `holds-pins` of proofs/Names.antt.
+// Open to others, each for every input: `read_library`, `cells::count`, `cells::find`, `cells::pins_of` and `cells::heading_of`.
+// What the last four say of a table that holds cells: `holds-count`, `holds-find`, `holds-pins` and `holds-heading` of
+// proofs/Names.antt.
 // For the crate's own modules: `cells::cell_place`.
 ghost use mathlib.Core.Path.{_≡_};
 ghost use Prim.Native.Nat.{_≤_};

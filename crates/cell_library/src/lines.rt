@@ -12,7 +12,7 @@ ghost use Rattle.text.specs.Numeral.{numeralRead};
 ghost use Rattle.cell_library.specs.Cells.{Cell};
 ghost use Rattle.cell_library.specs.Library.{library};
 ghost use Rattle.cell_library.specs.Layout.{libraryWords};
-ghost use Rattle.cell_library.specs.Passes.{pinsIn, headerNumber};
+ghost use Rattle.cell_library.specs.Passes.{headingIn, pinsIn, headerNumber};
 ghost use Rattle.cell_library.specs.Sound.{endNumber};
 ghost use Rattle.cell_library.specs.Walk.{StateFits, LineReads};
 use crate::cells::count;
@@ -32,6 +32,12 @@ use text::same;
 const MOST_CELLS: u32 = sizes::CELLS as u32;
 
 const MOST_PINS: u32 = sizes::PINS as u32;
+// The headings of an entry, by number: Name, Name3, and how many there are.
+const PLAIN: u32 = 0;
+
+const DEEP: u32 = 1;
+
+const HEADINGS: u32 = 2;
 // Places of an entry: outside it, before its CC line, and before its End line.
 const OUTSIDE: u32 = 0;
 
@@ -39,12 +45,13 @@ const CC_LINE: u32 = 1;
 
 const END_LINE: u32 = 5;
 
-// Where the reader stands: the place in an entry, the cells read, the pins of the cell being read, and the number that
-// refuses the line just read, or 0.
+// Where the reader stands: the place in an entry, the cells read, the pins and the heading of the cell being read, and the
+// number that refuses the line just read, or 0.
 struct State {
     place: u32,
     cells: u32,
     pins: u32,
+    heading: u32,
     number: u32,
 }
 
@@ -65,12 +72,25 @@ fn is_last(line: &[u8], at: usize, next: usize) -> bool
     (at <= n) & (n < next)
 }
 
-// The pins that a Name line of these fields has, where there are three.
-fn header_pins(three: bool, word: &[u8], name: &[u8], digits: &[u8]) -> Numeral
-    ensures { λ r. ⌜ numeralRead r
-        ≡ pinsIn three (now (word .entry)) (now (name .entry)) (now (digits .entry)) ⌝ }
+// The heading that a field is, by number; the count of headings where it is none.
+fn heading_in(word: &[u8]) -> u32
+    ensures { λ r. ⌜ r ≡ headingIn (now (word .entry)) ⌝ }
 {
-    let formed = three & (same(word, b"Name") & is_name(name));
+    if same(word, b"Name") {
+        return PLAIN;
+    }
+    if same(word, b"Name3") {
+        return DEEP;
+    }
+    HEADINGS
+}
+
+// The pins that a name line of these fields has, where there are three, the first being this heading.
+fn header_pins(three: bool, heading: u32, name: &[u8], digits: &[u8]) -> Numeral
+    ensures { λ r. ⌜ numeralRead r
+        ≡ pinsIn three heading (now (name .entry)) (now (digits .entry)) ⌝ }
+{
+    let formed = three & ((heading < HEADINGS) & is_name(name));
     if !formed {
         return Numeral::Bad;
     }
@@ -104,7 +124,8 @@ fn name_line(line: &[u8], table: &mut [u32], s: State) -> State
     let third = after(line, second, name);
     let digits = field(line, third);
     let three = is_last(line, third, after(line, third, digits));
-    let header = header_pins(three, word, name, digits);
+    let heading = heading_in(word);
+    let header = header_pins(three, heading, name, digits);
     let Numeral::Value(pins) = header else {
         return stopped(s, reading::LIBRARY_FORM);
     };
@@ -113,11 +134,12 @@ fn name_line(line: &[u8], table: &mut [u32], s: State) -> State
         return stopped(s, number);
     }
     let cells = s.cells;
-    put_header(table, cells, name, pins);
+    put_header(table, cells, name, pins, heading);
     State {
         place: CC_LINE,
         cells,
         pins,
+        heading,
         number: 0,
     }
 }
@@ -129,7 +151,8 @@ fn row_line(line: &[u8], table: &mut [u32], s: State) -> State
     let place = s.place;
     let cells = s.cells;
     let pins = s.pins;
-    let number = read_rows(table, line, cells, place, pins);
+    let heading = s.heading;
+    let number = read_rows(table, line, cells, place, pins, heading);
     if number != 0 {
         return stopped(s, number);
     }
@@ -137,6 +160,7 @@ fn row_line(line: &[u8], table: &mut [u32], s: State) -> State
         place: place + 1,
         cells,
         pins,
+        heading,
         number: 0,
     }
 }
@@ -156,6 +180,7 @@ fn end_line(line: &[u8], table: &mut [u32], s: State) -> State
         place: OUTSIDE,
         cells: cells + 1,
         pins: 0,
+        heading: PLAIN,
         number: 0,
     }
 }
@@ -189,6 +214,7 @@ pub fn read_lines(text: &[u8], table: &mut [u32]) -> Verdict
         place: OUTSIDE,
         cells: 0,
         pins: 0,
+        heading: PLAIN,
         number: 0,
     };
     while at < n {

@@ -5,8 +5,9 @@ ghost use Prim.Native.Nat.{_+_, _^_, _≤_, _<_, max, min};
 ghost use lib.ListN.{length};
 ghost use Rattle.sizes.specs.Sizes as Size;
 ghost use Rattle.text.specs.Lines.{fields, fieldsFrom, sameBytes};
-ghost use Rattle.cell_library.specs.Library.{isJoin, isZ, wordBytes};
-ghost use Rattle.cell_library.specs.Passes.{wordAt, setting, askedOf, nonePassed, marked, opened, groupFor, rowAdded, rowlessAdded};
+ghost use Rattle.cell_library.specs.Cells.{rowOf};
+ghost use Rattle.cell_library.specs.Library.{isJoin, isZ, rowDigits, wordBytes};
+ghost use Rattle.cell_library.specs.Passes.{numberHeading, wordAt, setting, askedOf, nonePassed, marked, opened, groupFor, rowAdded, rowlessAdded};
 ghost use Rattle.cell_library.specs.Passes.{fieldPassed, fieldStored, passed, stored, numberOf, Small, RowsRead};
 use crate::store::put_row;
 use crate::store::put_rowless;
@@ -25,16 +26,20 @@ const ROW: u32 = 1;
 
 const JOIN: u32 = 2;
 
+// The heading Name, by number.
+const PLAIN: u32 = 0;
+
 // The lowest columns where there is no row yet: above those of every row.
 const NO_COLUMNS: u32 = 4294967295;
 
 // What a row line is asked for: where its groups start in the table, how many they are, whether a group without rows excepts the
-// rows of the other from being idle, and what the columns of a row come to, at least `least`, where the row is not idle, and
+// rows of the other from being idle, the heading by which rows are read, and what the columns of a row come to, at least `least`, where the row is not idle, and
 // below `limit`.
 struct Asked {
     place: usize,
     groups: u32,
     excepts: bool,
+    heading: u32,
     least: u32,
     limit: u32,
 }
@@ -97,10 +102,10 @@ fn power(k: u32) -> u32
     p
 }
 
-// What a place of an entry asks of its line, for a cell of so many pins.
-fn asked_for(cell: u32, place: u32, pins: u32) -> Asked
+// What a place of an entry asks of its line, for a cell of this heading and so many pins.
+fn asked_for(cell: u32, heading: u32, place: u32, pins: u32) -> Asked
     requires { ⌜ pins ≤ Size.pins ⌝ }
-    ensures { λ r. ⌜ r ≡ askedOf cell (wordAt place) pins ⌝ }
+    ensures { λ r. ⌜ r ≡ askedOf cell heading (wordAt place) pins ⌝ }
 {
     let at = word_place(cell, place);
     if sets_output(place) {
@@ -108,6 +113,7 @@ fn asked_for(cell: u32, place: u32, pins: u32) -> Asked
             place: at,
             groups: 2,
             excepts: true,
+            heading,
             least: 1,
             limit: power(2 * pins),
         };
@@ -116,6 +122,7 @@ fn asked_for(cell: u32, place: u32, pins: u32) -> Asked
         place: at,
         groups: pins,
         excepts: false,
+        heading,
         least: power(2 * pins + 2),
         limit: power(2 * pins + 3),
     }
@@ -189,12 +196,39 @@ fn lesser(a: u32, b: u32) -> u32
     if b < a { b } else { a }
 }
 
-// One row more in the open group.
-fn row_added(p: Passed, x: u32) -> Passed
-    requires { ⌜ p .rows ≤ Size.textBytes ⌝ }
-    ensures { λ r. ⌜ r ≡ rowAdded p x ⌝ }
+// The most digits of a row, its depth and its columns, by the heading of its entry.
+fn row_digits(heading: u32) -> usize
+    ensures { λ r. ⌜ r ≡ rowDigits (numberHeading heading) ⌝ }
 {
-    let columns = x / 2;
+    if heading == PLAIN {
+        return sizes::ROW_DIGITS;
+    }
+    sizes::DEEP_DIGITS
+}
+
+fn depth_of(heading: u32, x: u32) -> u32
+    ensures { λ r. ⌜ r ≡ (rowOf (numberHeading heading) x) .depth ⌝ }
+{
+    if heading == PLAIN {
+        return x % 2;
+    }
+    x % 8
+}
+
+fn columns_of(heading: u32, x: u32) -> u32
+    ensures { λ r. ⌜ r ≡ (rowOf (numberHeading heading) x) .columns ⌝ }
+{
+    if heading == PLAIN {
+        return x / 2;
+    }
+    x / 8
+}
+
+// One row more in the open group, by its columns.
+fn row_added(p: Passed, columns: u32) -> Passed
+    requires { ⌜ p .rows ≤ Size.textBytes ⌝ }
+    ensures { λ r. ⌜ r ≡ rowAdded p columns ⌝ }
+{
     Passed {
         before: ROW,
         groups: p.groups,
@@ -222,12 +256,13 @@ fn pass_field(table: &mut [u32], a: Asked, p: Passed, f: &[u8]) -> Passed
         put_rowless(table, g.place);
         return g;
     }
-    let v = octal(f, sizes::ROW_DIGITS);
+    let v = octal(f, row_digits(a.heading));
     match v {
         Numeral::Value(x) => {
             let g = group_for(a, p);
-            put_row(table, g.place, g.rows, x);
-            row_added(g, x)
+            let columns = columns_of(a.heading, x);
+            put_row(table, g.place, g.rows, depth_of(a.heading, x), columns);
+            row_added(g, columns)
         }
         Numeral::Bad => marked(p, p.before, true),
     }
@@ -285,9 +320,16 @@ fn number_of(a: Asked, p: Passed) -> u32
 }
 
 // Reads a row line into the table, and answers the number that refuses it, the lowest that holds, or 0.
-pub fn read_rows(table: &mut [u32], line: &[u8], cell: u32, place: u32, pins: u32) -> u32
+pub fn read_rows(
+    table: &mut [u32],
+    line: &[u8],
+    cell: u32,
+    place: u32,
+    pins: u32,
+    heading: u32,
+) -> u32
     requires { ⌜ (cell ≤ Size.cells) × (pins ≤ Size.pins) × (length (now line) ≤ Size.textBytes) ⌝ }
-    ensures { λ r. ⌜ RowsRead cell (wordAt place) pins (fields (now (line .entry)))
+    ensures { λ r. ⌜ RowsRead cell heading (wordAt place) pins (fields (now (line .entry)))
         (now (table .entry)) (now (table .exit)) r ⌝ }
 {
     let word = field(line, 0);
@@ -295,7 +337,7 @@ pub fn read_rows(table: &mut [u32], line: &[u8], cell: u32, place: u32, pins: u3
         return reading::LIBRARY_FORM;
     }
     let from = after(line, 0, word);
-    let a = asked_for(cell, place, pins);
+    let a = asked_for(cell, heading, place, pins);
     let p = pass_fields(table, line, from, a);
     number_of(a, p)
 }

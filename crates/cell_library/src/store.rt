@@ -22,15 +22,16 @@ fn put_bytes(table: &mut [u32], at: usize, name: &[u8])
     }
 }
 
-// The name and the pins of a cell.
-pub fn put_header(table: &mut [u32], cell: u32, name: &[u8], pins: u32)
+// The name, the pins and the heading of a cell.
+pub fn put_header(table: &mut [u32], cell: u32, name: &[u8], pins: u32, heading: u32)
     requires { ⌜ (cell ≤ Size.cells) × (length (now name) ≤ Size.nameBytes) ⌝ }
-    ensures { λ _. ⌜ now (table .exit) ≡ headerPut cell (now (name .entry)) pins (now (table .entry)) ⌝ }
+    ensures { λ _. ⌜ now (table .exit) ≡ headerPut cell (now (name .entry)) pins heading (now (table .entry)) ⌝ }
 {
     let at = cell_place(cell);
     put(table, at, name.len() as u32);
     put_bytes(table, at + 1, name);
     put(table, at + sizes::PINS_AT, pins);
+    put(table, at + sizes::HEADING_AT, heading);
 }
 
 // The first group of a word among the groups of a cell.
@@ -64,11 +65,12 @@ pub fn put_rowless(table: &mut [u32], place: usize)
 }
 
 // A row behind so many others of its group.
-pub fn put_row(table: &mut [u32], place: usize, rows: u32, x: u32)
+pub fn put_row(table: &mut [u32], place: usize, rows: u32, depth: u32, columns: u32)
     requires { ⌜ (place ≤ farthest) × (rows ≤ Size.textBytes) ⌝ }
-    ensures { λ _. ⌜ now (table .exit) ≡ rowPut place rows x (now (table .entry)) ⌝ }
+    ensures { λ _. ⌜ now (table .exit)
+        ≡ rowPut place rows (record { depth = depth; columns = columns }) (now (table .entry)) ⌝ }
 {
     put(table, place, rows + 1);
-    put(table, place + 1 + 2 * (rows as usize), x % 2);
-    put(table, place + 2 + 2 * (rows as usize), x / 2);
+    put(table, place + 1 + 2 * (rows as usize), depth);
+    put(table, place + 2 + 2 * (rows as usize), columns);
 }

@@ -1,3 +1,4 @@
+pub mod Depths
 pub mod Libraries
 pub mod Netlists
 pub mod Reports

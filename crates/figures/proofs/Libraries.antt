@@ -9,7 +9,7 @@ use Rattle.text.specs.Bytes.{bytes, text}
 use Rattle.reading.specs.Each.{Each}
 use Rattle.reading.specs.Refusal.{refused, read}
 use Rattle.reading.specs.Verdict.{doneRead}
-use Rattle.cell_library.specs.Cells.{Row, Cell}
+use Rattle.cell_library.specs.Cells.{plain, Row, Cell}
 use Rattle.cell_library.specs.Library.{library, library-open}
 use Rattle.figures.specs.Entries.{c1130, c1490, nand2}
 
@@ -24,6 +24,7 @@ cell1130 =
     record {
       name = bytes "C1130";
       pins = 3;
+      heading = plain;
       cc = (row 1 0o20 ∷ row 1 0o4 ∷ row 1 0o1 ∷ []) ∷ (row 1 0o52 ∷ []) ∷ [];
       co = (row 1 0o412 ∷ []) ∷ (row 1 0o442 ∷ []) ∷ (row 1 0o450 ∷ []) ∷ [];
       sc = (row 0 0o20 ∷ row 0 0o4 ∷ row 0 0o1 ∷ []) ∷ (row 0 0o52 ∷ []) ∷ [];
@@ -35,6 +36,7 @@ cell1490 =
     record {
       name = bytes "C1490";
       pins = 3;
+      heading = plain;
       cc = (row 0 0o11 ∷ row 0 0o56 ∷ []) ∷ (row 0 0o36 ∷ []) ∷ [];
       co = (row 0 0o416 ∷ []) ∷ (row 0 0o556 ∷ row 0 0o636 ∷ []) ∷ (row 0 0o511 ∷ []) ∷ [];
       sc = (row 1 0o11 ∷ row 1 0o56 ∷ []) ∷ (row 1 0o36 ∷ []) ∷ [];
@@ -46,6 +48,7 @@ cellNand2 =
     record {
       name = bytes "NAND2";
       pins = 2;
+      heading = plain;
       cc = (row 1 0o5 ∷ []) ∷ (row 1 0o10 ∷ row 1 0o2 ∷ []) ∷ [];
       co = (row 1 0o101 ∷ []) ∷ (row 1 0o104 ∷ []) ∷ [];
       sc = (row 0 0o5 ∷ []) ∷ (row 0 0o10 ∷ row 0 0o2 ∷ []) ∷ [];

@@ -5,12 +5,12 @@ use mathlib.Core.Path.{_≡_, refl}
 use Prim.Native.Nat.{ℕ}
 use Rattle.text.specs.Bytes.{bytes, text}
 use Rattle.reading.specs.Refusal.{Read, refused, read}
-use Rattle.cell_library.specs.Cells.{Cell}
+use Rattle.cell_library.specs.Cells.{plain, Cell}
 use Rattle.netlist.specs.Netlist.{Statement, input, output, mark, gate, netlist, netlist-open}
 
 -- A library of one cell, by the name and the pins that a netlist asks for.
 abbrev cells : List Cell
-cells = record { name = bytes "NAND2"; pins = 2; cc = []; co = []; sc = []; so = [] } ∷ []
+cells = record { name = bytes "NAND2"; pins = 2; heading = plain; cc = []; co = []; sc = []; so = [] } ∷ []
 
 unfoldable pub readAll : List (List ℕ) → List (Read (List Statement))
 readAll [] = []

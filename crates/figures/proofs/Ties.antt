@@ -7,6 +7,7 @@ use Rattle.text.specs.Bytes.{bytes, text}
 use Rattle.reading.specs.Each.{Each}
 use Rattle.reading.specs.Refusal.{read}
 use Rattle.reading.specs.Verdict.{doneRead}
+use Rattle.cell_library.specs.Cells.{plain}
 use Rattle.cell_library.specs.Library.{library, library-open}
 use Rattle.figures.specs.Entries.{and2, tie0, tie1}
 use Rattle.figures.specs.Figures.{Holds, outcome-open, lent, reported}
@@ -14,7 +15,7 @@ use Rattle.figures.proofs.Libraries.{row, Refused, Stops, stops}
 
 -- Z is a group of no row, in its place, and row 1 one of depth 1 that names nothing.
 entry : library (text tie0)
-    ≡ read (record { name = bytes "TIE0"; pins = 0; cc = (row 1 0 ∷ []) ∷ [] ∷ []; co = []; sc = (row 0 0 ∷ []) ∷ [] ∷ []; so = [] } ∷ [])
+    ≡ read (record { name = bytes "TIE0"; pins = 0; heading = plain; cc = (row 1 0 ∷ []) ∷ [] ∷ []; co = []; sc = (row 0 0 ∷ []) ∷ [] ∷ []; so = [] } ∷ [])
 unfolding library-open row
 entry = refl
 

@@ -1,4 +1,4 @@
--- Document 01's library entries, each by its lines, "Cells" and "Figures to hold"; and tie cells (02, K1).
+-- Document 01's library entries, each by its lines, "Cells" and "Figures to hold"; tie cells (02, K1), and entries of three-bit depths (02, K2).
 -- Assumes nothing.
 use mathlib.Core.List.{List, [], _∷_}
 use Prim.Native.String.{String}
@@ -23,3 +23,11 @@ tie0 = "Name,TIE0,0" ∷ "CC,1,Z" ∷ "CO" ∷ "SC,0,Z" ∷ "SO" ∷ "End" ∷ [
 
 abbrev pub tie1 : List String
 tie1 = "Name,TIE1,0" ∷ "CC,Z,1" ∷ "CO" ∷ "SC,Z,0" ∷ "SO" ∷ "End" ∷ []
+
+-- C1130 with three-bit depths: "every other column two places higher".
+abbrev pub c1130Deep : List String
+c1130Deep = "Name3,C1130,3" ∷ "CC,201,M,41,M,11,521" ∷ "CO,4121,4421,4501" ∷ "SC,200,M,40,M,10,520" ∷ "SO,4120,4420,4500" ∷ "End" ∷ []
+
+-- A cell that hands its pin's value on at depth 7.
+abbrev pub delay : List String
+delay = "Name3,DELAY,1" ∷ "CC,27,17" ∷ "CO,207" ∷ "SC,27,17" ∷ "SO,207" ∷ "End" ∷ []

@@ -10,7 +10,7 @@ use Rattle.sizes.specs.Sizes as Size
 use Rattle.text.specs.Bytes.{text, bytes-open}
 use Rattle.reading.specs.Each.{Each}
 use Rattle.reading.specs.Refusal.{Read, refused, read}
-use Rattle.cell_library.specs.Cells.{Column, pin, observe, rowOf, named, settingColumns, observingColumns}
+use Rattle.cell_library.specs.Cells.{Column, plain, pin, observe, rowOf, named, settingColumns, observingColumns}
 use Rattle.cell_library.specs.Library.{library-open}
 use Rattle.netlist.specs.Netlist.{netlist-open}
 use Rattle.calculation.specs.Calculation.{calculation-open}
@@ -196,7 +196,7 @@ pub record Decoded : Type 0 where
   pub names : List Column
 
 abbrev pub Decodes : Decoded → Type 0
-Decodes d = (rowOf (d .row) .depth ≡ d .depth) × (named 3 (d .columns) (rowOf (d .row) .columns) ≡ d .names)
+Decodes d = (rowOf plain (d .row) .depth ≡ d .depth) × (named 3 (d .columns) (rowOf plain (d .row) .columns) ≡ d .names)
 
 -- "its rows 41, 125, 1025 decoded": pin 1 at 1; every pin at 0; pins 2 and 3 at 0, and the output observed. Depth 1 each.
 abbrev pub rows : List Decoded

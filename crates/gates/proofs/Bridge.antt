@@ -28,7 +28,7 @@ use Rattle.netlist.proofs.Places.{length-netlistWords, netlist-count, gate-word
 use Rattle.calculation.specs.Acceptance.{BothSound}
 use Rattle.calculation.specs.Nodes.{Kind, combinational, sequential, kindNumber}
 use Rattle.calculation.specs.Ways.{noCell, cellOf, pinLine, needs, Role, setting, observing, purposeOf, wordOf, groupIndex, groupOf, asks, wayOf, waysOf, visit}
-use Rattle.calculation.proofs.Accepting.{has-index, gate-cell, pin-count, role-group, role-row}
+use Rattle.calculation.proofs.Accepting.{has-index, gate-cell, pin-count, role-group, role-row, depth-figure}
 use Rattle.calculation.proofs.Visiting.{getD-listed, Has}
 use Rattle.gates.specs.Tables.{rowPlaces, rowWays, groupWays, groupVisit, gateCell, gatePins, gateLines, byRole, roleColumns, visitCount, visitGroup, gateVisit}
 use Rattle.gates.specs.Fits.{GroupFits, GateFits, TablesFit}
@@ -203,7 +203,7 @@ module _ (cells : List Cell) (ss : List Statement) (sound : BothSound cells ss) 
           }
         where
           shallow : (r : ℕ) → r < length rows → getD library (place + 1 + Size.rowWords * r) 0 ≤ over
-          shallow r q = rw (depth-number r q) (omega (arith, row-sound (getD rows r noRow) (getD-listed rows r noRow q) .depth))
+          shallow r q = rw (depth-number r q) (omega (arith, depth-figure (row-sound (getD rows r noRow) (getD-listed rows r noRow q))))
 
           within : (r : ℕ) → r < length rows → getD library (place + 1 + Size.rowWords * r + 1) 0 < 2 ^ roleColumns (roleNumber role) (gatePins library netlist i)
           within r q = rw (columns-number r q, ← width) (row-sound (getD rows r noRow) (getD-listed rows r noRow q) .within)

@@ -11,6 +11,9 @@ cellPlace k = Size.cellsAt + k * Size.cellWords
 abbrev pub pinsPlace : ℕ → ℕ
 pinsPlace k = cellPlace k + Size.pinsAt
 
+abbrev pub headingPlace : ℕ → ℕ
+headingPlace k = cellPlace k + Size.headingAt
+
 -- Group g of cell k.
 abbrev pub groupPlace : ℕ → ℕ → ℕ
 groupPlace k g = cellPlace k + Size.groupsAt + g * Size.groupWords

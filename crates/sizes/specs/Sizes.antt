@@ -26,7 +26,7 @@ cells = 32
 abbrev pub nameBytes : ℕ
 nameBytes = 8
 
--- "5 pins not 1 to 8"
+-- "5 pins not 1 to 8"; "Pin counts now run from 0 to 8" (02, K1)
 abbrev pub pins : ℕ
 pins = 8
 
@@ -37,6 +37,10 @@ rows = 16
 -- "A row is an octal number .., 1 to 7 digits."
 abbrev pub rowDigits : ℕ
 rowDigits = 7
+
+-- "rows up to 8 digits", in an entry that begins with Name3 (02, K2)
+abbrev pub deepDigits : ℕ
+deepDigits = 8
 
 -- "Decimal fields have 1 to 5 digits"
 abbrev pub decimalDigits : ℕ
@@ -86,12 +90,15 @@ soGroup = coGroup + pins
 abbrev pub groups : ℕ
 groups = soGroup + pins
 
--- A cell: the length of its name, its name, its pins, its groups.
+-- A cell: the length of its name, its name, its pins, its heading, its groups.
 abbrev pub pinsAt : ℕ
 pinsAt = 1 + nameBytes
 
+abbrev pub headingAt : ℕ
+headingAt = pinsAt + 1
+
 abbrev pub groupsAt : ℕ
-groupsAt = pinsAt + 1
+groupsAt = headingAt + 1
 
 abbrev pub cellWords : ℕ
 cellWords = groupsAt + groups * groupWords

@@ -14,7 +14,7 @@ pub const LINES: usize = 1000;
 pub const GATES: usize = LINES;
 
 // "A library has at most 32 entries", each with a name of at most 8 bytes and at most 8 pins; "1 to 16
-// rows" a group, each of "1 to 7 digits"; "Decimal fields have 1 to 5 digits".
+// rows" a group, each of "1 to 7 digits", in an entry that begins with Name3 "up to 8"; "Decimal fields have 1 to 5 digits".
 pub const CELLS: usize = 32;
 
 pub const NAME_BYTES: usize = 8;
@@ -24,6 +24,8 @@ pub const PINS: usize = 8;
 pub const ROWS: usize = 16;
 
 pub const ROW_DIGITS: usize = 7;
+
+pub const DEEP_DIGITS: usize = 8;
 
 pub const DECIMAL_DIGITS: usize = 5;
 
@@ -58,10 +60,12 @@ pub const SO_GROUP: usize = CO_GROUP + PINS;
 
 pub const GROUPS: usize = SO_GROUP + PINS;
 
-// A cell: the length of its name, its name, its pins, its groups.
+// A cell: the length of its name, its name, its pins, its heading, its groups.
 pub const PINS_AT: usize = 1 + NAME_BYTES;
 
-pub const GROUPS_AT: usize = PINS_AT + 1;
+pub const HEADING_AT: usize = PINS_AT + 1;
+
+pub const GROUPS_AT: usize = HEADING_AT + 1;
 
 pub const CELL_WORDS: usize = GROUPS_AT + GROUPS * GROUP_WORDS;
 

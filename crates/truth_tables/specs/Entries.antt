@@ -8,7 +8,7 @@ use lib.ListN.{length}
 use Rattle.text.specs.Bytes.{bytes, bytes-open}
 use Rattle.writer.specs.Decimal.{decimalBytes, decimal-open}
 use Rattle.writer.specs.Octal.{octalBytes, octal-open}
-use Rattle.cell_library.specs.Cells.{Row, Group, Cell}
+use Rattle.cell_library.specs.Cells.{plain, Row, Group, Cell}
 use Rattle.truth_tables.specs.Tables.{Term, primes, gives, observing, tables-open}
 
 -- ---- the cell of a truth table
@@ -58,6 +58,7 @@ cellOf name n bits =
     record {
       name = name;
       pins = n;
+      heading = plain;
       cc = settingGroups 1 n bits;
       co = observingGroups 1 n bits;
       sc = settingGroups 0 n bits;

@@ -2,7 +2,7 @@
 //! that it must give; and damage of which nothing is said beforehand.
 
 use crate::generate::{
-    add_cell, fields, fresh_name, groups_of, rows_line, Fields, Pair, Style, ENTRY,
+    add_cell, fields, fresh_name, groups_of, rows_line, CellForm, Fields, Pair, Style, ENTRY,
 };
 use crate::library::{MOST_CELLS, MOST_ROWS};
 use crate::random::Random;
@@ -40,11 +40,11 @@ fn damage(rng: &mut Random, pair: &mut Pair, number: u32) -> Option<Refusal> {
         }
         GROUPS_BAD | BIT_ABOVE | ROW_IDLE => {
             let at = rows_place(rng, pair)?;
-            let pins = pair.cells[at / ENTRY].pins;
-            if !has_place(at % ENTRY, pins, number) {
+            let cell = &pair.cells[at / ENTRY];
+            if !has_place(at % ENTRY, cell.pins, number) {
                 return None;
             }
-            bad_rows(rng, &mut pair.lib.lines[at], at % ENTRY, pins, number);
+            bad_rows(rng, &mut pair.lib.lines[at], at % ENTRY, cell, number);
             Some(at)
         }
         CELLS_MANY => entry_33(rng, pair),
@@ -89,7 +89,8 @@ fn non_zero(count: usize) -> Option<usize> {
     (count > 0).then_some(count)
 }
 
-/// A field of bad form where `field` stood: `kind` 0 a word, 1 a name, 2 a decimal, 3 a row.
+/// A field of bad form where `field` stood: `kind` 0 a word, 1 a name, 2 a decimal, 3 a row, 4 a row
+/// under `Name3`.
 fn bad_field(rng: &mut Random, field: &[u8], kind: usize) -> Vec<u8> {
     let mut bad = field.to_vec();
     // A byte that stands in no field of any kind.
@@ -106,6 +107,8 @@ fn bad_field(rng: &mut Random, field: &[u8], kind: usize) -> Vec<u8> {
     }
     match kind {
         0 => match rng.below(4) {
+            // Name3 without its digit is a word, too.
+            0 if field == b"Name3" => bad.push(b'3'),
             0 => {
                 bad.pop();
             }
@@ -115,10 +118,12 @@ fn bad_field(rng: &mut Random, field: &[u8], kind: usize) -> Vec<u8> {
                 bad[at] ^= 0x20;
             }
             _ => {
+                let head = field.starts_with(b"Name");
                 let others: Vec<&str> = WORDS
                     .into_iter()
-                    .chain(["input", "output", "gate", "M", "0", "NAME"])
+                    .chain(["input", "output", "gate", "M", "0", "NAME", "Name3"])
                     .filter(|word| word.as_bytes() != field)
+                    .filter(|word| !(head && word.starts_with("Name")))
                     .collect();
                 bad = rng.pick(&others).as_bytes().to_vec();
                 // An input and an output line have the same form otherwise.
@@ -138,10 +143,10 @@ fn bad_field(rng: &mut Random, field: &[u8], kind: usize) -> Vec<u8> {
                 bad[at] = *rng.pick(b"abz_@[/:`{");
             }
         },
-        2 | 3 => match rng.below(4) {
+        2..=4 => match rng.below(4) {
             0 => bad.insert(0, b'0'),
             1 => {
-                let most = if kind == 2 { 5 } else { 7 };
+                let most = [5, 7, 8][kind - 2];
                 bad[0] = b'1';
                 while bad.len() <= most {
                     bad.push(*rng.pick(b"0123"));
@@ -155,7 +160,7 @@ fn bad_field(rng: &mut Random, field: &[u8], kind: usize) -> Vec<u8> {
                 let at = rng.below(bad.len());
                 bad[at] = *rng.pick(b"aAoOlx/:");
             }
-            _ if kind == 3 => {
+            _ if kind > 2 => {
                 let at = rng.below(bad.len());
                 bad[at] = *rng.pick(b"89");
             }
@@ -167,7 +172,7 @@ fn bad_field(rng: &mut Random, field: &[u8], kind: usize) -> Vec<u8> {
 }
 
 /// Bad form of one line of an entry.
-fn bad_entry_line(rng: &mut Random, line: &mut Fields, place: usize) {
+fn bad_entry_line(rng: &mut Random, line: &mut Fields, place: usize, deep: bool) {
     let rows = (1..=4).contains(&place);
     if rows && rng.once_in(2) {
         let mark = b"M".to_vec();
@@ -219,7 +224,7 @@ fn bad_entry_line(rng: &mut Random, line: &mut Fields, place: usize) {
         (0, 1) => 1,
         (0, _) => 2,
         // An M beside a number of bad form changes nothing: the line is bad form either way.
-        _ => 3,
+        _ => 3 + usize::from(deep),
     };
     line[at] = bad_field(rng, &line[at].clone(), kind);
 }
@@ -265,7 +270,8 @@ fn library_form(rng: &mut Random, pair: &mut Pair) -> Option<usize> {
             Some(at)
         }
         _ => {
-            bad_entry_line(rng, &mut lines[at], at % ENTRY);
+            let deep = pair.cells[at / ENTRY].deep;
+            bad_entry_line(rng, &mut lines[at], at % ENTRY, deep);
             Some(at)
         }
     }
@@ -307,10 +313,17 @@ fn has_place(place: usize, pins: usize, number: u32) -> bool {
 }
 
 /// Damages a line of rows for the groups, a bit above the columns, or a row that names too little.
-fn bad_rows(rng: &mut Random, line: &mut Fields, place: usize, pins: usize, number: u32) {
+fn bad_rows(rng: &mut Random, line: &mut Fields, place: usize, cell: &CellForm, number: u32) {
     let mut groups = groups_of(line);
     let observe = place % 2 == 0;
-    let top = if observe { 2 * pins + 3 } else { 2 * pins };
+    let columns = if observe {
+        2 * cell.pins + 3
+    } else {
+        2 * cell.pins
+    };
+    // The highest bit that may be set, and how many depths there are.
+    let top = columns + cell.higher();
+    let depths = 2 << cell.higher();
     match number {
         GROUPS_BAD if groups.is_empty() => groups.push(if rng.once_in(2) {
             Vec::new()
@@ -343,11 +356,11 @@ fn bad_rows(rng: &mut Random, line: &mut Fields, place: usize, pins: usize, numb
                 groups[at].push(0);
             }
             let row = rng.below(groups[at].len());
-            // The lowest bit above the columns, or any that seven digits hold.
+            // The lowest bit above the columns, or any that the digits hold.
             let bit = if rng.once_in(2) {
                 top + 1
             } else {
-                rng.within(top + 1, 20)
+                rng.within(top + 1, if cell.deep { 23 } else { 20 })
             };
             let kept = if rng.once_in(3) { 0 } else { groups[at][row] };
             groups[at][row] = kept | 1 << bit;
@@ -356,15 +369,15 @@ fn bad_rows(rng: &mut Random, line: &mut Fields, place: usize, pins: usize, numb
             // A row where there was a Z, which would except the rows of the other group.
             for group in &mut groups {
                 if group.is_empty() {
-                    group.push(rng.below(2) as u32);
+                    group.push(rng.below(depths) as u32);
                 }
             }
             let at = rng.below(groups.len());
             let row = rng.below(groups[at].len());
             groups[at][row] = match (observe, rng.below(3)) {
-                (true, 0) => rng.below(2) as u32,
+                (true, 0) => rng.below(depths) as u32,
                 (true, _) => groups[at][row] & !(1 << top),
-                (false, _) => rng.below(2) as u32,
+                (false, _) => rng.below(depths) as u32,
             };
         }
     }
@@ -546,7 +559,7 @@ fn one_name_line(rng: &mut Random, pair: &mut Pair, lowest: &mut u32) -> Option<
         line[1] = pair.cells[rng.below(at / ENTRY)].name.clone();
     }
     if take(rng, lowest, LIBRARY_FORM, true) {
-        bad_entry_line(rng, line, 0);
+        bad_entry_line(rng, line, 0, false);
     }
     Some(at)
 }
@@ -554,16 +567,16 @@ fn one_name_line(rng: &mut Random, pair: &mut Pair, lowest: &mut u32) -> Option<
 fn one_rows_line(rng: &mut Random, pair: &mut Pair, lowest: &mut u32) -> Option<usize> {
     let at = rows_place(rng, pair)?;
     let place = at % ENTRY;
-    let pins = pair.cells[at / ENTRY].pins;
+    let cell = &pair.cells[at / ENTRY];
     let line = &mut pair.lib.lines[at];
     // Where 8 and 7 fall on one row, only 7 is left of them.
     for number in [ROW_IDLE, BIT_ABOVE, GROUPS_BAD] {
-        if has_place(place, pins, number) && take(rng, lowest, number, false) {
-            bad_rows(rng, line, place, pins, number);
+        if has_place(place, cell.pins, number) && take(rng, lowest, number, false) {
+            bad_rows(rng, line, place, cell, number);
         }
     }
     if take(rng, lowest, LIBRARY_FORM, true) {
-        bad_entry_line(rng, line, place);
+        bad_entry_line(rng, line, place, cell.deep);
     }
     Some(at)
 }
@@ -633,7 +646,7 @@ pub fn overlong(rng: &mut Random, text: &mut Vec<u8>) {
 
 /// Blind damage of bytes, of which nothing is said beforehand.
 pub fn scramble(rng: &mut Random, text: &mut Vec<u8>) {
-    const TELLING: &[u8] = b"\n\n,,0017890MZCSOEndNamegateinputoutput \r\0";
+    const TELLING: &[u8] = b"\n\n,,00178903MZCSOEndNamegateinputoutput \r\0";
     let length = text.len();
     if length == 0 {
         text.push(*rng.pick(TELLING));
@@ -694,8 +707,9 @@ pub fn scramble(rng: &mut Random, text: &mut Vec<u8>) {
 
 /// Words and signs of both texts in any order.
 pub fn babble(rng: &mut Random, pieces: usize) -> Vec<u8> {
-    const PIECES: [&str; 32] = [
+    const PIECES: [&str; 34] = [
         "Name",
+        "Name3",
         "CC",
         "CO",
         "SC",
@@ -727,6 +741,7 @@ pub fn babble(rng: &mut Random, pieces: usize) -> Vec<u8> {
         "input,1\n",
         "Name,A,1\nCC,3,5\nCO,41\nSC,2,4\nSO,40\nEnd\n",
         "Name,B,0\nCC,1,Z\nCO\nSC,Z,0\nSO\nEnd\n",
+        "Name3,C,1\nCC,27,10\nCO,207\nSC,20,17\nSO,200\nEnd\n",
     ];
     (0..pieces)
         .flat_map(|_| rng.pick(&PIECES).bytes())

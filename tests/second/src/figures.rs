@@ -111,6 +111,43 @@ line,cc0,cc1,sc0,sc1,co,so
 sweeps,1,1,1,1
 ";
 
+/// C1130 with three-bit depths, and the same report.
+pub const C1130_DEEP: &str = "\
+Name3,C1130,3
+CC,201,M,41,M,11,521
+CO,4121,4421,4501
+SC,200,M,40,M,10,520
+SO,4120,4420,4500
+End
+";
+
+/// A cell that hands its pin's value on at depth 7, and a chain of three.
+pub const DELAY: &str = "\
+Name3,DELAY,1
+CC,27,17
+CO,207
+SC,27,17
+SO,207
+End
+";
+
+pub const DELAY_NET: &str = "\
+input,1
+gate,DELAY,2,1
+gate,DELAY,3,2
+gate,DELAY,4,3
+output,4
+";
+
+pub const DELAY_REPORT: &str = "\
+line,cc0,cc1,sc0,sc1,co,so
+1,1,1,0,0,21,21
+2,8,8,7,7,14,14
+3,15,15,14,14,7,7
+4,22,22,21,21,0,0
+sweeps,2,2,2,2
+";
+
 /// Cells that hold their output at 0 and at 1, and what an AND2 makes of both.
 pub const TIES: &str = "\
 Name,TIE0,0

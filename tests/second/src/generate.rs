@@ -38,6 +38,15 @@ impl Text {
 pub struct CellForm {
     pub name: Vec<u8>,
     pub pins: usize,
+    /// An entry that begins with `Name3`.
+    pub deep: bool,
+}
+
+impl CellForm {
+    /// How many bits higher its columns stand than under `Name`.
+    pub fn higher(&self) -> usize {
+        2 * usize::from(self.deep)
+    }
 }
 
 #[derive(Clone, Default)]
@@ -281,11 +290,29 @@ fn ways(rng: &mut Random, pins: usize, style: Style) -> [Vec<Vec<u32>>; 4] {
     ]
 }
 
+/// A row under `Name` as `Name3` writes it, often deeper.
+fn deepened(rng: &mut Random, row: u32) -> u32 {
+    let depth = if rng.once_in(2) {
+        row & 1
+    } else {
+        rng.below(8) as u32
+    };
+    row >> 1 << 3 | depth
+}
+
 pub fn add_cell(rng: &mut Random, pair: &mut Pair, pins: usize, style: Style) {
     let name = fresh_name(rng, &pair.cells);
-    let [cc, co, sc, so] = ways(rng, pins, style);
+    let mut lines = ways(rng, pins, style);
+    let deep = style != Style::Largest && rng.once_in(3);
+    if deep {
+        for row in lines.iter_mut().flatten().flatten() {
+            *row = deepened(rng, *row);
+        }
+    }
+    let [cc, co, sc, so] = lines;
+    let word = if deep { "Name3" } else { "Name" };
     let head = vec![
-        b"Name".to_vec(),
+        word.as_bytes().to_vec(),
         name.clone(),
         pins.to_string().into_bytes(),
     ];
@@ -294,7 +321,7 @@ pub fn add_cell(rng: &mut Random, pair: &mut Pair, pins: usize, style: Style) {
         pair.lib.lines.push(rows_line(word, &groups));
     }
     pair.lib.lines.push(fields("End"));
-    pair.cells.push(CellForm { name, pins });
+    pair.cells.push(CellForm { name, pins, deep });
 }
 
 pub fn add_cells(rng: &mut Random, pair: &mut Pair, count: usize, style: Style) {

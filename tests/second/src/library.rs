@@ -31,6 +31,15 @@ pub struct Ways {
     pub observe: [Group; MOST_PINS],
 }
 
+/// One way to set or observe: what it adds to the sum of its columns, and the columns that it names,
+/// whatever bits its entry gives to the depth.
+#[derive(Clone, Copy)]
+pub struct Row {
+    pub depth: u32,
+    /// From bit 0: the last pin at 1, the last pin at 0, and on to the output.
+    pub columns: u32,
+}
+
 pub struct Cell {
     name: Name,
     pub pins: usize,
@@ -41,11 +50,11 @@ pub struct Cell {
 #[derive(Default)]
 pub struct Library {
     pub cells: Vec<Cell>,
-    rows: Vec<u32>,
+    rows: Vec<Row>,
 }
 
 impl Library {
-    pub fn rows(&self, group: Group) -> &[u32] {
+    pub fn rows(&self, group: Group) -> &[Row] {
         &self.rows[group.start as usize..group.end as usize]
     }
 
@@ -68,7 +77,7 @@ pub fn read(text: &[u8]) -> Result<Library, Refusal> {
     // The groups of the line read last; one list serves every line.
     let mut groups = Vec::new();
     while let Some(line) = lines.next() {
-        let (name, pins) = name_line(&line, &library).map_err(at(line.number))?;
+        let (name, pins, form) = name_line(&line, &library).map_err(at(line.number))?;
         let mut cell = Cell {
             name,
             pins,
@@ -82,7 +91,8 @@ pub fn read(text: &[u8]) -> Result<Library, Refusal> {
             ("SO", Use::Observe),
         ] {
             let line = within(&mut lines)?;
-            rows_line(&line, word, purpose, pins, &mut library.rows, &mut groups)
+            let rows = &mut library.rows;
+            rows_line(&line, word, purpose, pins, form, rows, &mut groups)
                 .map_err(at(line.number))?;
             let ways = match word {
                 "CC" | "CO" => &mut cell.combinational,
@@ -118,14 +128,31 @@ fn within<'a>(lines: &mut Lines<'a>) -> Result<Line<'a>, Refusal> {
     })
 }
 
-/// `Name,NAME,n`.
-fn name_line(line: &Line, library: &Library) -> Result<(Name, usize), u32> {
+/// How the rows of an entry are written.
+#[derive(Clone, Copy)]
+struct Form {
+    depth_bits: u32,
+    most_digits: usize,
+}
+
+/// `Name,NAME,n` or `Name3,NAME,n`.
+fn name_line(line: &Line, library: &Library) -> Result<(Name, usize, Form), u32> {
     let mut fields = text::fields(line.bytes);
-    let word = fields.next();
+    let form = match fields.next() {
+        Some(b"Name") => Some(Form {
+            depth_bits: 1,
+            most_digits: 7,
+        }),
+        Some(b"Name3") => Some(Form {
+            depth_bits: 3,
+            most_digits: 8,
+        }),
+        _ => None,
+    };
     let name = fields.next().and_then(text::name);
     let pins = fields.next().and_then(text::decimal);
-    let (Some(b"Name"), Some(name), Some(pins), None, true) =
-        (word, name, pins, fields.next(), line.ended)
+    let (Some(form), Some(name), Some(pins), None, true) =
+        (form, name, pins, fields.next(), line.ended)
     else {
         return Err(LIBRARY_FORM);
     };
@@ -139,7 +166,7 @@ fn name_line(line: &Line, library: &Library) -> Result<(Name, usize), u32> {
     if library.cells.len() == MOST_CELLS {
         return Err(CELLS_MANY);
     }
-    Ok((name, pins))
+    Ok((name, pins, form))
 }
 
 /// A line of rows. The rows are added to the list and the groups replaced.
@@ -148,7 +175,8 @@ fn rows_line(
     word: &str,
     purpose: Use,
     pins: usize,
-    rows: &mut Vec<u32>,
+    form: Form,
+    rows: &mut Vec<Row>,
     groups: &mut Vec<Group>,
 ) -> Result<(), u32> {
     groups.clear();
@@ -175,12 +203,15 @@ fn rows_line(
             groups.push(Group { start, end: start });
             continue;
         }
-        let row = text::octal(field).ok_or(LIBRARY_FORM)?;
+        let row = text::octal(field, form.most_digits).ok_or(LIBRARY_FORM)?;
         if !joined {
             let start = rows.len() as u32;
             groups.push(Group { start, end: start });
         }
-        rows.push(row);
+        rows.push(Row {
+            depth: row & ((1 << form.depth_bits) - 1),
+            columns: row >> form.depth_bits,
+        });
         groups.last_mut().unwrap().end = rows.len() as u32;
         joined = false;
     }
@@ -198,22 +229,23 @@ fn rows_line(
     {
         return Err(GROUPS_BAD);
     }
-    // The highest column: pin 1 at 0 where the output is set, else "observe the output".
-    let top = match purpose {
+    // How many columns there are: up to pin 1 at 0 where the output is set, else up to "observe the
+    // output".
+    let width = match purpose {
         Use::Set => 2 * pins,
         Use::Observe => 2 * pins + 3,
     };
     let rows = &rows[first..];
-    if rows.iter().any(|row| row >> (top + 1) != 0) {
+    if rows.iter().any(|row| row.columns >> width != 0) {
         return Err(BIT_ABOVE);
     }
     // Where one group of a CC or SC line is Z, the rows of the other need not name a pin.
     let alone = groups.iter().any(Group::is_empty);
-    let unnamed = |row: u32| match purpose {
-        Use::Set => row >> 1 == 0 && !alone,
-        Use::Observe => row >> top == 0,
+    let unnamed = |row: &Row| match purpose {
+        Use::Set => row.columns == 0 && !alone,
+        Use::Observe => row.columns >> (width - 1) == 0,
     };
-    if rows.iter().any(|&row| unnamed(row)) {
+    if rows.iter().any(unnamed) {
         return Err(ROW_IDLE);
     }
     Ok(())

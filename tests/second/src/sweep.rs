@@ -1,7 +1,7 @@
 //! The sweeps: costs of setting and of observing every line, and how many sweeps it took.
 
 use crate::cost::{add, Cost, NEVER};
-use crate::library::{Cell, Library, Ways};
+use crate::library::{Cell, Library, Row, Ways};
 use crate::netlist::{Gate, Netlist, MOST_LINES};
 
 /// Sweeps for CC, SC, CO and SO, the one that changes nothing included.
@@ -97,13 +97,17 @@ fn observe(
         let mut changed = false;
         for gate in netlist.gates.iter().rev() {
             let groups = &ways(&library.cells[gate.cell]).observe;
-            // Every row of the group has this bit.
-            let observed = 1 << (2 * gate.pins + 3);
+            // Every row of the group has this column.
+            let observed = 1 << (2 * gate.pins + 2);
             for pin in 0..gate.pins {
                 let line = gate.pin(pin);
                 let mut least = costs[line];
                 for &row in library.rows(groups[pin]) {
-                    let values = row_sum(row & !observed, gate, setting);
+                    let named = Row {
+                        columns: row.columns & !observed,
+                        ..row
+                    };
+                    let values = row_sum(named, gate, setting);
                     least = least.min(add(values, costs[gate.output()]));
                 }
                 changed |= costs[line] != least;
@@ -119,9 +123,9 @@ fn observe(
 
 /// The depth and the costs of the values that a row names, of pins and of the output.
 #[inline]
-fn row_sum(row: u32, gate: &Gate, costs: &Setting) -> Cost {
-    let mut sum = row & 1;
-    let mut columns = row >> 1;
+fn row_sum(row: Row, gate: &Gate, costs: &Setting) -> Cost {
+    let mut sum = row.depth;
+    let mut columns = row.columns;
     while columns != 0 {
         let column = columns.trailing_zeros() as usize;
         // Two columns to a line: "at 1" below "at 0".

@@ -2,7 +2,7 @@
 
 use crate::figures::*;
 use crate::generate::{fields, groups_of, ladder, pair, ENTRY};
-use crate::library::{self, Library, Ways, MOST_ROWS};
+use crate::library::{self, Library, Row, Ways, MOST_ROWS};
 use crate::netlist::{self, Netlist};
 use crate::random::Random;
 use crate::{analyse, report_into, sweep, Answer, LARGEST, NEVER, OVER};
@@ -54,6 +54,8 @@ fn whole_reports() {
     assert_eq!(report(C1490, C1490_NET), C1490_REPORT);
     assert_eq!(report(NAND2, LATCH_NET), LATCH_REPORT);
     assert_eq!(report(TIES, TIES_NET), TIES_REPORT);
+    assert_eq!(report(C1130_DEEP, C1130_NET), C1130_REPORT);
+    assert_eq!(report(DELAY, DELAY_NET), DELAY_REPORT);
     assert_eq!(report("", UNDRIVEN_NET), UNDRIVEN_REPORT);
     assert_eq!(report("", ""), EMPTY_REPORT);
     assert_eq!(report(NAND2, ""), EMPTY_REPORT);
@@ -315,6 +317,25 @@ fn library_rows() {
     lib_refused(&eight.replacen("2000000", "1777777", 1), 8, 3);
 }
 
+/// Three-bit depths.
+#[test]
+fn depths() {
+    let rows = ["10000000"; 8].join(",");
+    let eight = format!("Name3,A,8\nCC,1777770,17\nCO,{rows}\nSC,10,20\nSO,{rows}\nEnd\n");
+    report(&eight, "");
+    lib_refused(&eight.replace("1777770", "10000000"), 7, 2);
+    lib_refused(&eight.replace("1777770", "100000000"), 3, 2);
+    lib_refused(&eight.replace("1777770", "7"), 8, 2);
+    lib_refused(&eight.replacen("10000000", "7777777", 1), 8, 3);
+    lib_refused(&eight.replace("Name3", "Name"), 7, 2);
+    lib_refused("Name,A,8\nCC,10000000,2\n", 3, 2);
+    for word in ["Name33", "Name1", "name3", "3", "Name 3"] {
+        lib_refused(&eight.replace("Name3", word), 3, 1);
+    }
+    lib_refused(&format!("{C1130_DEEP}{C1130}"), 4, 7);
+    lib_refused(&format!("{C1130}{C1130_DEEP}"), 4, 7);
+}
+
 /// Cells without pins, and groups without rows.
 #[test]
 fn ties() {
@@ -471,9 +492,10 @@ fn plans(library: &Library, netlist: &Netlist, input: u64, sequential: bool) -> 
         }
     }
     // The sum over the columns of pins and output, straight from the paper's bit numbers.
-    let sum = |row: u32, gate: &netlist::Gate, set: &[[Option<u64>; 2]]| -> Option<u64> {
+    let sum = |row: Row, gate: &netlist::Gate, set: &[[Option<u64>; 2]]| -> Option<u64> {
         let n = gate.pins;
-        let mut sum = u64::from(row & 1);
+        let mut sum = u64::from(row.depth);
+        let row = row.columns << 1;
         for i in 1..=n {
             for (bit, value) in [(2 * (n - i) + 2, 0), (2 * (n - i) + 1, 1)] {
                 if row >> bit & 1 == 1 {

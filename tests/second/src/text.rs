@@ -83,9 +83,9 @@ pub fn decimal(field: &[u8]) -> Option<u32> {
     number(field, 10, 5)
 }
 
-/// 1 to 7 octal digits without a leading zero.
-pub fn octal(field: &[u8]) -> Option<u32> {
-    number(field, 8, 7)
+/// 1 to so many octal digits without a leading zero.
+pub fn octal(field: &[u8], most: usize) -> Option<u32> {
+    number(field, 8, most)
 }
 
 fn number(field: &[u8], base: u32, most: usize) -> Option<u32> {

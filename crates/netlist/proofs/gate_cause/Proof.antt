@@ -4,7 +4,7 @@ use mathlib.Core.List.{[]}
 use mathlib.Core.Path.{sym, ap, _∙_}
 use Prim.Native.Nat.{ℕ}
 use lib.Dec.{leb, eqb}
-use Rattle.cell_library.specs.Cells.{Cell}
+use Rattle.cell_library.specs.Cells.{plain, Cell}
 use Rattle.cell_library.proofs.Names.{holds-count, holds-pins}
 use Rattle.netlist.proofs.Causes.{pinsAt-cell}
 use Rattle.netlist.proofs.Outcomes.{gate-flags}
@@ -20,7 +20,7 @@ counted c = c .before .before
 
 -- No cell, where a reader of a list wants one.
 abbrev noCell : Cell
-noCell = record { name = []; pins = 0; cc = []; co = []; sc = []; so = [] }
+noCell = record { name = []; pins = 0; heading = plain; cc = []; co = []; sc = []; so = [] }
 
 returns : tie.Need-returns
 returns c cells g lib is =

@@ -302,6 +302,8 @@ fn figures(all: &mut Comparison) {
     all.figure("C1130", C1130, C1130_NET, C1130_REPORT);
     all.figure("C1490", C1490, C1490_NET, C1490_REPORT);
     all.figure("latch", NAND2, LATCH_NET, LATCH_REPORT);
+    all.figure("C1130 under Name3", C1130_DEEP, C1130_NET, C1130_REPORT);
+    all.figure("depth 7", DELAY, DELAY_NET, DELAY_REPORT);
     all.figure("tie cells", TIES, TIES_NET, TIES_REPORT);
     all.figure("undriven line", "", UNDRIVEN_NET, UNDRIVEN_REPORT);
     all.figure("empty netlist", NAND2, "", EMPTY_REPORT);
@@ -400,7 +402,7 @@ fn one_byte(all: &mut Comparison) {
             let mut other = text.to_vec();
             other.remove(at);
             changed.push(other);
-            for byte in [text[at], b',', b'\n', b'0', b'M', b'Z', b' '] {
+            for byte in [text[at], b',', b'\n', b'0', b'3', b'M', b'Z', b' '] {
                 let mut other = text.to_vec();
                 other.insert(at, byte);
                 changed.push(other);

@@ -1,28 +1,23 @@
 -- `header_pins` meets its contract. Assumes nothing.
 use mathlib.Core.Bool.{Bool, _&&_}
 use mathlib.Core.Path.{_≡_, sym, ap, _∙_}
+use lib.Dec.{ltb}
 use borrow.Author.Tests.{not-true, not-false}
 use Rattle.reading.specs.Choice.{pick}
-use Rattle.text.specs.Bytes.{bytes}
-use Rattle.text.specs.Lines.{sameBytes}
 use Rattle.text.specs.Numeral.{nameForm, numeralRead}
-use Rattle.cell_library.specs.Passes.{pinsIn}
+use Rattle.cell_library.specs.Passes.{headings, pinsIn}
 use borrow.Author.Needs.{needs}
 use Rattle.cell_library.proofs.lines.header_pins.Statement.{statement}
 use Rattle.cell_library.proofs.lines.header_pins.Tie as tie
 
 abbrev begun : tie.After-is-name → tie.Start
-begun c = c .before .before .before .before .before .before
+begun c = c .before .before .before
 
 -- What the tests of the first two fields told.
 told : (c : tie.After-is-name)
     → let a = begun c .args in
-    (a .three && (c .before .same .result && c .is-name .result)) ≡ (a .three && (sameBytes (a .word .now) (bytes "Name") && nameForm (a .name .now)))
-unfolding bytes
-told c =
-    let a = begun c .args in
-    ap (λ (b : Bool). a .three && (b && c .is-name .result)) (c .before .same .ensures)
-    ∙ ap (λ (b : Bool). a .three && (sameBytes (a .word .now) (bytes "Name") && b)) (c .is-name .ensures)
+    (a .three && (ltb (a .heading) headings && c .is-name .result)) ≡ (a .three && (ltb (a .heading) headings && nameForm (a .name .now)))
+told c = let a = begun c .args in ap (λ (b : Bool). a .three && (ltb (a .heading) headings && b)) (c .is-name .ensures)
 
 returns : tie.Need-returns
 unfolding pinsIn numeralRead pick
@@ -36,8 +31,6 @@ pub header-pins-spec : {M : Type 1} → statement M
 header-pins-spec =
     tie.close
     (tie.spec
-    (λ c. search needs)
-    (λ c κs. search needs)
     (λ c κs. search needs)
     returns
     (λ c κs. search needs)

@@ -9,22 +9,22 @@ use Rattle.text.specs.Lines.{fields, fieldsFrom}
 use Rattle.text.specs.Numeral.{numeralRead}
 use Rattle.text.proofs.Laws.{fieldsFrom-start, nameForm-length}
 use Rattle.cell_library.specs.Library.{Fields}
-use Rattle.cell_library.specs.Passes.{pinsIn, headerNumber}
+use Rattle.cell_library.specs.Passes.{headingIn, pinsIn, headerNumber}
 use Rattle.cell_library.proofs.Cursors.{field-nth, field-next, field-last}
 use Rattle.cell_library.proofs.Entries.{name-bad, name-refused, name-read}
-use Rattle.cell_library.proofs.Passes.{pinsOf, pins-form}
+use Rattle.cell_library.proofs.Passes.{headingNo, pinsOf, pins-form}
 use borrow.Author.Needs.{needs}
 use Rattle.cell_library.proofs.lines.name_line.Statement.{statement}
 use Rattle.cell_library.proofs.lines.name_line.Tie as tie
 
-pins-same : {b d : Bool} {x y z u v w : List ℕ} → b ≡ d → x ≡ u → y ≡ v → z ≡ w → pinsIn b x y z ≡ pinsIn d u v w
+pins-same : {b d : Bool} {x u : ℕ} {y z v w : List ℕ} → b ≡ d → x ≡ u → y ≡ v → z ≡ w → pinsIn b x y z ≡ pinsIn d u v w
 pins-same e f g h = cc
 
 -- ---- the three fields
 
 module _ (c : tie.After-header-pins) where
   abbrev third : tie.After-field3
-  third = c .before .before .before
+  third = c .before .before .before .before
 
   abbrev second : tie.After-field2
   second = third .before .before
@@ -47,12 +47,15 @@ module _ (c : tie.After-header-pins) where
   name-is : second .field2 .result .now ≡ getD fs 1 []
   name-is = field-nth _ _ _ 0 1 behind-first (second .field2 .ensures)
 
+  heading-is : c .before .heading-in .result ≡ headingNo fs
+  heading-is = c .before .heading-in .ensures ∙ ap headingIn (field-nth _ _ 0 0 0 (fieldsFrom-start _) (first .field .ensures))
+
   told : numeralRead (c .header-pins .result) ≡ pinsOf fs
   told =
       c .header-pins .ensures
       ∙ pins-same
-      (c .before .is-last .ensures ∙ field-last _ _ _ _ 2 behind-second (third .field3 .ensures) (c .before .before .after3 .ensures))
-      (field-nth _ _ 0 0 0 (fieldsFrom-start _) (first .field .ensures))
+      (c .before .before .is-last .ensures ∙ field-last _ _ _ _ 2 behind-second (third .field3 .ensures) (c .before .before .before .after3 .ensures))
+      heading-is
       name-is
       (field-nth _ _ _ 0 2 behind-second (third .field3 .ensures))
 
@@ -81,7 +84,7 @@ put-header-requires : tie.Need-put-header-requires
 put-header-requires c κs =
     let v = headed (c .before .before) in
     let h = v .before .before in
-    (begun h .pre .1 .cells, rw (name-is h) (nameForm-length _ (pins-form _ _ _ _ _ (valued v)) .1))
+    (begun h .pre .1 .cells, rw (name-is h) (nameForm-length _ (pins-form _ _ _ _ _ (valued v) .1) .1))
 
 returns-2 : tie.Need-returns-2
 returns-2 c r past n shows =
@@ -98,13 +101,14 @@ returns-3 c r past n shows =
     let k = e .before in
     let h = headed k .before .before in
     let s = begun h in
-    name-read (fs h) r past n (s .args .s) _ shows (s .pre .0) _ (valued (headed k)) _
+    name-read (fs h) r past n (s .args .s) _ shows (s .pre .0) _ (valued (headed k)) _ (heading-is h) _
     (sym (numbered k) ∙ e .if1 .left) (rw (name-is h) at (put .put-header .ensures))
 
 pub name-line-spec : {M : Type 1} → statement M
 name-line-spec =
     tie.close
     (tie.spec
+    (λ c κs. search needs)
     (λ c κs. search needs)
     (λ c κs. search needs)
     (λ c κs. search needs)

@@ -1,11 +1,12 @@
 -- `pass_field` meets its contract: an M, a Z, a row, or what is none of them. Assumes nothing.
 use mathlib.Core.Bool.{false}
-use mathlib.Core.Path.{_≡_, refl, sym, _∙_}
-use Prim.Native.Nat.{_≤_}
+use mathlib.Core.Path.{_≡_, refl, sym, ap, _∙_}
+use Prim.Native.Nat.{ℕ, _≤_}
 use Rattle.sizes.specs.Sizes as Size
 use Rattle.reading.specs.Choice.{pick}
+use Rattle.cell_library.specs.Cells.{Row}
 use Rattle.cell_library.specs.Library.{isJoin, isZ}
-use Rattle.cell_library.specs.Passes.{farthest, fieldPassed, fieldStored}
+use Rattle.cell_library.specs.Passes.{farthest, rowPut, rowAdded, fieldPassed, fieldStored}
 use Rattle.cell_library.proofs.Passes.{value-row, bad-row, group-small}
 use native.Mathlib.Omega.{arith}
 use borrow.Author.Needs.{needs}
@@ -24,13 +25,16 @@ abbrev added : tie.After-put-rowless → tie.After-rowless-added
 added c = c .before .before
 
 abbrev unmarked : tie.After-octal → tie.Else2
-unmarked c = c .before
+unmarked c = c .before .before
 
 abbrev read-as : tie.After-group-for → tie.After-octal
 read-as c = c .before .before .before .before
 
+abbrev parted : tie.After-depth-of → tie.After-columns-of
+parted c = c .before .before
+
 abbrev grouped : tie.After-put-row → tie.After-group-for
-grouped c = c .before .before
+grouped c = parted (c .before) .before
 
 no-join : (c : tie.Else1) → isJoin (begun (c .before) .args .f .now) ≡ false
 no-join c = sym (c .before .is-join .ensures) ∙ c .if1 .left
@@ -55,8 +59,11 @@ returns c =
     let t = c .before .before .before in
     rw (sym (t .before .is-join .ensures) ∙ t .if1 .taken) (c .marked .ensures, search needs)
 
+row-same : {d e m n : ℕ} → d ≡ e → m ≡ n → _≡_ {A = Row} (record { depth = d; columns = m }) (record { depth = e; columns = n })
+row-same e f = cc
+
 put-row-requires : tie.Need-put-row-requires
-put-row-requires c κs = let g = small (c .before) in (g .1, g .0)
+put-row-requires c κs = let g = small (parted c .before) in (g .1, g .0)
 
 row-added-requires : tie.Need-row-added-requires
 row-added-requires c κs = small (grouped (c .before .before)) .0
@@ -75,15 +82,19 @@ returns-3 c =
     let put = c .before .before .before in
     let g = grouped put in
     let o = read-as g in
-    let row = value-row (o .octal .result) _ (start g .args .f .now) (o .octal .ensures) (g .before .before .v .given .1) in
-    rw (no-join (other (unmarked o .before)), no-rowless (unmarked o), row .0, row .1, ← g .group-for .ensures) (c .row-added .ensures, put .put-row .ensures)
+    let row = value-row _ _ (o .octal .result) (start g .args .f .now) (o .before .row-digits .ensures) (o .octal .ensures) _ (g .before .before .v .given .1) in
+    let columns = parted (put .before) .columns-of .ensures in
+    rw (no-join (other (unmarked o .before)), no-rowless (unmarked o), row .0, row .1, ← g .group-for .ensures) (
+      c .row-added .ensures ∙ ap (rowAdded (g .group-for .result)) columns,
+      put .put-row .ensures ∙ ap (λ (r : Row). rowPut (g .group-for .result .place) (g .group-for .result .rows) r (start g .args .table .now)) (row-same (put .before .depth-of .ensures) columns),
+    )
 
 returns-4 : tie.Need-returns-4
 unfolding fieldPassed fieldStored pick
 returns-4 c =
     let m = c .before .before in
     let o = m .before in
-    rw (no-join (other (unmarked o .before)), no-rowless (unmarked o), bad-row (o .octal .result) _ (o .octal .ensures) (c .before .enum-told .given .1)) (c .marked2 .ensures, search needs)
+    rw (no-join (other (unmarked o .before)), no-rowless (unmarked o), bad-row _ _ (o .octal .result) _ (o .before .row-digits .ensures) (o .octal .ensures) (c .before .enum-told .given .1)) (c .marked2 .ensures, search needs)
 
 pub pass-field-spec : {M : Type 1} → statement M
 pass-field-spec =
@@ -98,7 +109,10 @@ pass-field-spec =
     (λ c. search needs)
     returns-2
     (λ c κs. search needs)
+    (λ c κs. search needs)
     (λ c. search needs)
+    (λ c κs. search needs)
+    (λ c κs. search needs)
     (λ c κs. search needs)
     put-row-requires
     row-added-requires

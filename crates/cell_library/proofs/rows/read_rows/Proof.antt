@@ -43,7 +43,7 @@ returns c =
     let s = begun (c .before) in
     let line = s .args .line .now in
     record {
-      number = rw (rowNumber-walk (s .args .cell) (wordAt (s .args .place)) (s .args .pins) (s .pre .1) (fields line) (fields-some line), sym (word-told (c .before)) ∙ not-true _ (c .if1 .taken));
+      number = rw (rowNumber-walk (s .args .cell) (s .args .heading) (wordAt (s .args .place)) (s .args .pins) (s .pre .1) (fields line) (fields-some line), sym (word-told (c .before)) ∙ not-true _ (c .if1 .taken));
       table = λ z. absurd (omega arith);
     }
 
@@ -53,7 +53,7 @@ asked-for-requires c κs = begun (c .before .before) .pre .1
 pass-fields-requires : tie.Need-pass-fields-requires
 pass-fields-requires c κs =
     let s = begun (worded (c .before) .before) in
-    (rw (c .before .asked-for .ensures) (asked-place (s .args .cell) (wordAt (s .args .place)) (s .args .pins) (s .pre .0)), s .pre .2)
+    (rw (c .before .asked-for .ensures) (asked-place (s .args .cell) (s .args .heading) (wordAt (s .args .place)) (s .args .pins) (s .pre .0)), s .pre .2)
 
 returns-2 : tie.Need-returns-2
 returns-2 c =
@@ -63,7 +63,7 @@ returns-2 c =
     let s = begun (w .before) in
     let line = s .args .line .now in
     let from = field-next line _ 0 _ 0 (fieldsFrom-start line) (w .before .before .field .ensures) (asks .before .after .ensures) in
-    walk-read (s .args .cell) (wordAt (s .args .place)) (s .args .pins) (s .pre .1) (fields line) (fields-some line) (sym (word-told (w .before)) ∙ not-false _ (w .if1 .left))
+    walk-read (s .args .cell) (s .args .heading) (wordAt (s .args .place)) (s .args .pins) (s .pre .1) (fields line) (fields-some line) (sym (word-told (w .before)) ∙ not-false _ (w .if1 .left))
     _ _ _ _ _ _ (asks .asked-for .ensures) from (walk .pass-fields .ensures .0) (walk .pass-fields .ensures .1) (c .number-of .ensures)
 
 pub read-rows-spec : {M : Type 1} → statement M
