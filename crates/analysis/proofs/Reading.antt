@@ -16,9 +16,10 @@ use Rattle.cell_library.specs.Cells.{Cell}
 use Rattle.cell_library.specs.Layout.{libraryWords, LibraryHolds}
 use Rattle.cell_library.proofs.Laws.{sound-fits}
 use Rattle.cell_library.proofs.Places.{length-libraryWords}
+use Rattle.netlist.specs.declared.Rules.the-variants.{Old}
 use Rattle.netlist.specs.Layout.{netlistAfter}
 use Rattle.netlist.specs.Netlist.{netlist}
-use Rattle.netlist.specs.Admitting.{netlistEntry, ReadsLines, ReadsFrom, ReadsNetlist}
+use Rattle.netlist.specs.Admitting.{netlistEntry, ReadsAs, ReadsFrom, ReadsNetlist}
 use Rattle.netlist.proofs.Entering.{passes}
 use Rattle.outcome.specs.declared.Progress.{Progress}
 use Rattle.outcome.specs.declared.Progress.the-variants.{Unrefused, Later}
@@ -32,10 +33,10 @@ module _ (text lib before : List ℕ) (begun : Progress) where
   text-stays h = record { stays = λ _. (refl, refl); reads = λ o. absurd (h o) }
 
   module _ (o : begun ≡ Unrefused) (v : Verdict) (after : List ℕ)
-      (ensures : ReadsNetlist text lib before v after) where
+      (ensures : ReadsNetlist Old text lib before v after) where
     -- Behind the reader's entry.
     lines-read : netlistEntry (length text) (length lib) (length before) ≡ read tt
-        → (cells : List Cell) → LibraryHolds lib cells → ReadsLines cells text before v after
+        → (cells : List Cell) → LibraryHolds lib cells → ReadsAs (netlist Old cells text) before v after
     unfolding ReadsNetlist ReadsFrom
     lines-read passed = rw passed at ensures
 
@@ -47,7 +48,7 @@ module _ (text lib before : List ℕ) (begun : Progress) where
           reads =
               λ _ passed cells stands.
               let e = lines-read passed cells stands in
-              let n = done-refused (netlist cells text) (r .number) (r .line) (rw q at (e .answers)) in
+              let n = done-refused (netlist Old cells text) (r .number) (r .line) (rw q at (e .answers)) in
               (rw n, e .leaves);
         }
 
@@ -59,7 +60,7 @@ module _ (text lib before : List ℕ) (begun : Progress) where
           reads =
               λ _ passed cells stands.
               let e = lines-read passed cells stands in
-              (done-read (netlist cells text) (rw q at (e .answers)) (λ ss n. rw n), e .leaves);
+              (done-read (netlist Old cells text) (rw q at (e .answers)) (λ ss n. rw n), e .leaves);
         }
 
 -- It is the netlist of the two texts that is read. The entry of the call has seen to the length of the text and of its table,

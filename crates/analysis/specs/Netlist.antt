@@ -7,6 +7,7 @@ use lib.ListN.{length}
 use Rattle.reading.specs.Refusal.{read}
 use Rattle.cell_library.specs.Cells.{Cell}
 use Rattle.cell_library.specs.Layout.{LibraryHolds}
+use Rattle.netlist.specs.declared.Rules.the-variants.{Old}
 use Rattle.netlist.specs.Admitting.{netlistEntry}
 use Rattle.netlist.specs.Layout.{netlistAfter}
 use Rattle.netlist.specs.Netlist.{netlist}
@@ -20,4 +21,4 @@ pub record TextRead (text lib before : List ℕ) (begun : Progress) (after : Lis
   pub stays : (begun ≡ Unrefused → ⊥) → (said ≡ begun) × (after ≡ before)
   pub reads : begun ≡ Unrefused → netlistEntry (length text) (length lib) (length before) ≡ read tt
       → (cells : List Cell) → LibraryHolds lib cells
-      → (said ≡ progressOf (netlist cells text)) × (after ≡ netlistAfter (netlist cells text) before)
+      → (said ≡ progressOf (netlist Old cells text)) × (after ≡ netlistAfter (netlist Old cells text) before)

@@ -4,6 +4,7 @@
 // It has no condition on its input. What it promises is in crate `outcome`: specs/Outcome.antt has its
 // answer and what it leaves in lent memory, specs/Demands.antt the three demands. The published sizes
 // of the tables are `sizes::LIBRARY`, `sizes::NETLIST` and `sizes::NUMBERS`.
+use netlist::Rules;
 use outcome::Answer;
 use outcome::Progress;
 use outcome::begin;
@@ -23,7 +24,7 @@ fn read_netlist(net: &[u8], library: &[u32], netlist: &mut [u32], begun: Progres
         Progress::AtEntry(_) => begun,
         Progress::Later(_) => begun,
         Progress::Unrefused => {
-            let statements = netlist::read_netlist(net, library, netlist);
+            let statements = netlist::read_netlist(Rules::Old, net, library, netlist);
             match statements {
                 Verdict::Refused(r) => Progress::Later(r),
                 Verdict::Accepted => Progress::Unrefused,

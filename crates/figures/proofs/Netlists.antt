@@ -6,6 +6,7 @@ use Prim.Native.Nat.{ℕ}
 use Rattle.text.specs.Bytes.{bytes, text}
 use Rattle.reading.specs.Refusal.{Read, refused, read}
 use Rattle.cell_library.specs.Cells.{plain, Cell}
+use Rattle.netlist.specs.declared.Rules.the-variants.{Old}
 use Rattle.netlist.specs.Netlist.{Statement, input, output, mark, gate, netlist, netlist-open}
 
 -- A library of one cell, by the name and the pins that a netlist asks for.
@@ -14,7 +15,7 @@ cells = record { name = bytes "NAND2"; pins = 2; heading = plain; cc = []; co = 
 
 unfoldable pub readAll : List (List ℕ) → List (Read (List Statement))
 readAll [] = []
-readAll (t ∷ ts) = netlist cells t ∷ readAll ts
+readAll (t ∷ ts) = netlist Old cells t ∷ readAll ts
 
 pub accepted : readAll
     (text ("input,1" ∷ "input,2" ∷ "gate,NAND2,3,1,4" ∷ "gate,NAND2,4,2,3" ∷ "output,3" ∷ [])

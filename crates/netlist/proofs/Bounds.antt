@@ -7,18 +7,19 @@ use Prim.Native.Nat.{ℕ, suc, _+_, _≤_}
 use native.Mathlib.Omega.{arith}
 use lib.ListN.{length}
 use Rattle.reading.specs.Numbers as No
-use Rattle.reading.specs.Refusal.{form}
+use Rattle.reading.specs.Refusal.{read, form}
 use Rattle.reading.proofs.Bounds.{Within, textNumber, within-bind, within-then, within-form, within-weigh}
 use Rattle.text.specs.Lines.{lines}
 use Rattle.text.proofs.Laws.{length-lines}
 use Rattle.cell_library.specs.Cells.{Cell}
 use Rattle.cell_library.specs.Library.{Fields}
-use Rattle.netlist.specs.Netlist.{Statement, causes, admit, admitted, lineForms, netlist}
+use Rattle.netlist.specs.declared.Rules.{Rules}
+use Rattle.netlist.specs.Netlist.{Statement, causes, admit, admitted, lineForms, textStatements, declared, netlist}
 
-forms-length : (cells : List Cell) (ls : List (Option Fields)) → length (lineForms cells ls) ≡ length ls
+forms-length : (rules : Rules) (cells : List Cell) (ls : List (Option Fields)) → length (lineForms rules cells ls) ≡ length ls
 unfolding lineForms
-forms-length cells [] = refl
-forms-length cells (l ∷ ls) = ap suc (forms-length cells ls)
+forms-length rules cells [] = refl
+forms-length rules cells (l ∷ ls) = ap suc (forms-length rules cells ls)
 
 module _ (n : ℕ) where
   pub admitted-within : (line : ℕ) (cells : List Cell) (ss : List Statement) (ws : List (Option Statement)) → line + length ws ≤ n
@@ -30,7 +31,9 @@ module _ (n : ℕ) where
       (λ s. within-then textNumber n (admit line cells ss s) _ (within-weigh textNumber n line _ (omega arith) refl)
       (admitted-within (suc line) cells (ss ++ (s ∷ [])) ws (omega arith)))
 
-  pub netlist-within : (cells : List Cell) (t : List ℕ) → length t + 1 ≤ n → Within textNumber n (netlist cells t)
-  unfolding netlist
-  netlist-within cells t k =
-      admitted-within 1 cells [] (lineForms cells (lines t)) (omega (arith, length-lines t, forms-length cells (lines t)))
+  pub netlist-within : (rules : Rules) (cells : List Cell) (t : List ℕ) → length t + 1 ≤ n → Within textNumber n (netlist rules cells t)
+  unfolding netlist textStatements declared
+  netlist-within rules cells t k =
+      within-bind textNumber n (textStatements rules cells t) (declared rules)
+      (admitted-within 1 cells [] (lineForms rules cells (lines t)) (omega (arith, length-lines t, forms-length rules cells (lines t))))
+      (λ ss. within-then textNumber n _ (read ss) (within-weigh textNumber n 0 _ (omega arith) refl) tt)

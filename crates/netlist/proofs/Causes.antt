@@ -17,9 +17,9 @@ use Rattle.reading.specs.Numbers as No
 use Rattle.reading.proofs.Laws.{by-test, clash, or-cases}
 use Rattle.cell_library.specs.Cells.{Cell}
 use Rattle.netlist.specs.Lowest.{lowest}
-use Rattle.netlist.specs.Netlist.{Gate, Mark, input, output, Statement, mark, gate, member, linesOf, linesMarked}
-use Rattle.netlist.specs.Netlist.{linesDriven, markedLines, drivenLines, isMarked, isInput}
-use Rattle.netlist.specs.Netlist.{isOutput, driven, lineBad, anyLineBad, unknownCell, pinsAt, countDiffers}
+use Rattle.netlist.specs.Netlist.{Gate, Mark, input, output, opened, Statement, mark, gate, member, linesOf, linesMarked}
+use Rattle.netlist.specs.Netlist.{linesClaimed, markedLines, claimedLines, isMarked, isInput}
+use Rattle.netlist.specs.Netlist.{isOutput, isOpen, claimed, lineBad, anyLineBad, unknownCell, pinsAt, countDiffers}
 use Rattle.netlist.specs.Netlist.{anyMember, drivenBefore, markedBefore, causes}
 use Rattle.netlist.specs.Layout.{driverWord, outputWord}
 use Rattle.netlist.specs.Admitting.{gateCause, markNumber}
@@ -91,42 +91,67 @@ member-among l f g h (s ∷ ss) e =
 
 -- ---- the words of a line, as tests
 
-pub input-drives : (l : ℕ) (s : Statement) → member l (linesMarked input s) ≡ true → member l (linesDriven s) ≡ true
-unfolding linesMarked linesDriven pick
-input-drives l (mark input k) e = e
-input-drives l (mark output k) e = e
-input-drives l (gate g) e = clash false (unfold member in e) refl
+-- Whether a mark claims its line: an input and an open line do, an output does not.
+abbrev pub claiming : Mark → Bool
+claiming input = true
+claiming output = false
+claiming opened = true
 
-pub input-driven : (l : ℕ) (ss : List Statement) → isInput l ss ≡ true → driven l ss ≡ true
-unfolding isMarked markedLines driven drivenLines
-input-driven l ss e = member-among l (linesMarked input) linesDriven (input-drives l) ss e
+pub mark-claims : (m : Mark) → claiming m ≡ true → (l : ℕ) (s : Statement) → member l (linesMarked m s) ≡ true
+    → member l (linesClaimed s) ≡ true
+unfolding linesMarked linesClaimed member pick
+mark-claims input c l (mark input k) e = e
+mark-claims input c l (mark output k) e = e
+mark-claims input c l (mark opened k) e = clash false e refl
+mark-claims input c l (gate g) e = clash false e refl
+mark-claims output c l s e = clash false c refl
+mark-claims opened c l (mark input k) e = clash false e refl
+mark-claims opened c l (mark output k) e = e
+mark-claims opened c l (mark opened k) e = e
+mark-claims opened c l (gate g) e = clash false e refl
 
-pub undriven-input : (l : ℕ) (ss : List Statement) → driven l ss ≡ false → isInput l ss ≡ false
-undriven-input l ss h = by-test (isInput l ss) (λ e. clash (driven l ss) (input-driven l ss e) h) (λ e. e)
+pub marked-claimed : (m : Mark) → claiming m ≡ true → (l : ℕ) (ss : List Statement) → isMarked m l ss ≡ true
+    → claimed l ss ≡ true
+unfolding isMarked markedLines claimed claimedLines
+marked-claimed m c l ss e = member-among l (linesMarked m) linesClaimed (mark-claims m c l) ss e
 
--- A mark that the statements have already, for which a second one is refused.
+pub unclaimed-marked : (m : Mark) → claiming m ≡ true → (l : ℕ) (ss : List Statement) → claimed l ss ≡ false
+    → isMarked m l ss ≡ false
+unclaimed-marked m c l ss h =
+    by-test (isMarked m l ss) (λ e. clash (claimed l ss) (marked-claimed m c l ss e) h) (λ e. e)
+
+-- A mark that the statements have already, or another claim where it is one, for which it is refused.
 unfoldable pub taken : Mark → List Statement → ℕ → Bool
-taken input ss l = driven l ss
+taken input ss l = claimed l ss
 taken output ss l = isOutput l ss
+taken opened ss l = claimed l ss
 
 unfoldable pub markWord : Mark → List Statement → ℕ → ℕ
 markWord input ss l = driverWord ss l
 markWord output ss l = outputWord ss l
+markWord opened ss l = driverWord ss l
+
+pub driver-taken : (ss : List Statement) (l : ℕ) → eqb (driverWord ss l) 0 ≡ not (claimed l ss)
+unfolding driverWord pick
+driver-taken ss l =
+    go (isInput l ss) (isOpen l ss) (claimed l ss) (marked-claimed input refl l ss) (marked-claimed opened refl l ss)
+  where
+    go : (i o d : Bool) → (i ≡ true → d ≡ true) → (o ≡ true → d ≡ true) → eqb (pick i 1 (pick o 3 (pick d 2 0))) 0 ≡ not d
+    go true o d h k = ap not (sym (h refl))
+    go false true d h k = ap not (sym (k refl))
+    go false false true h k = refl
+    go false false false h k = refl
 
 -- The word of a mark is 0 just where it is not taken.
 pub word-taken : (m : Mark) (ss : List Statement) (l : ℕ) → eqb (markWord m ss l) 0 ≡ not (taken m ss l)
-unfolding markWord taken driverWord outputWord pick
-word-taken input ss l = go (isInput l ss) (driven l ss) (input-driven l ss)
-  where
-    go : (i d : Bool) → (i ≡ true → d ≡ true) → eqb (pick i 1 (pick d 2 0)) 0 ≡ not d
-    go true d h = ap not (sym (h refl))
-    go false true h = refl
-    go false false h = refl
+unfolding markWord taken outputWord pick
+word-taken input ss l = driver-taken ss l
 word-taken output ss l = go (isOutput l ss)
   where
     go : (o : Bool) → eqb (pick o 1 0) 0 ≡ not o
     go true = refl
     go false = refl
+word-taken opened ss l = driver-taken ss l
 
 -- ---- the lowest cause
 
@@ -137,15 +162,16 @@ causes-counted cells ss s = search needs
 module _ (cells : List Cell) (ss : List Statement) where
   pub mark-cause : (m : Mark) (l : ℕ)
       → lowest (causes cells ss (mark m l)) ≡ pick (lineBad l) No.lineBad (pick (taken m ss l) (markNumber m) 0)
-  unfolding lowest causes linesOf linesMarked linesDriven anyLineBad unknownCell countDiffers anyMember drivenBefore markedBefore taken isMarked driven pick
-  mark-cause input l = rw (or-false (lineBad l), or-false (member l (drivenLines ss)))
+  unfolding lowest causes linesOf linesMarked linesClaimed anyLineBad unknownCell countDiffers anyMember drivenBefore markedBefore taken isMarked claimed pick
+  mark-cause input l = rw (or-false (lineBad l), or-false (member l (claimedLines ss)))
   mark-cause output l = rw (or-false (lineBad l), or-false (member l (markedLines output ss)))
+  mark-cause opened l = rw (or-false (lineBad l), or-false (member l (claimedLines ss)))
 
   -- a gate's own causes come first
   pub gate-causes : (g : Gate) → lowest (causes cells ss (gate g))
       ≡ pick (eqb (gateCause cells g) 0)
-      (pick (driven (g .line) ss) No.drivenBefore 0) (gateCause cells g)
-  unfolding causes gateCause lowest linesMarked linesDriven anyMember drivenBefore markedBefore driven pick Each
+      (pick (claimed (g .line) ss) No.drivenBefore 0) (gateCause cells g)
+  unfolding causes gateCause lowest linesMarked linesClaimed anyMember drivenBefore markedBefore claimed pick Each
   gate-causes g =
       lowest-append
       ((No.lineBad, anyLineBad (linesOf (gate g)))
@@ -156,7 +182,7 @@ module _ (cells : List Cell) (ss : List Statement) where
       ∷ (No.markedBefore, markedBefore ss (gate g))
       ∷ [])
       (search needs)
-      ∙ rw (or-false (member (g .line) (drivenLines ss)))
+      ∙ rw (or-false (member (g .line) (claimedLines ss)))
 
 pub pinsAt-cell : (cells : List Cell) (k : ℕ) (d : Cell) → k < length cells → pinsAt cells k ≡ (getD cells k d) .pins
 unfolding pinsAt

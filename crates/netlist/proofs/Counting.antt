@@ -12,7 +12,7 @@ use Rattle.sizes.specs.Sizes as Size
 use Rattle.reading.specs.Choice.{pick}
 use Rattle.reading.specs.Each.{Each}
 use Rattle.reading.proofs.Laws.{by-test, or-left, or-right, each-append}
-use Rattle.netlist.specs.Netlist.{Statement, input, output, mark, gate, member, linesOf, linesDriven, gatesIn, drivenLines, gatesOf}
+use Rattle.netlist.specs.Netlist.{Statement, input, output, opened, mark, gate, member, linesOf, linesClaimed, gatesIn, claimedLines, gatesOf}
 use Rattle.netlist.specs.Sound.{InRange, LinesInRange, Apart}
 
 -- ---- as many different numbers from 1 to n as n, at most
@@ -76,27 +76,29 @@ apart-few (suc n) xs a e =
 
 -- ---- the gates of statements
 
-gates-drive : (ss : List Statement) → length (gatesOf ss) ≤ length (drivenLines ss)
-unfolding gatesOf gatesIn drivenLines linesDriven flatMap
-gates-drive [] = omega arith
-gates-drive (mark input l ∷ ss) = omega (arith, gates-drive ss)
-gates-drive (mark output l ∷ ss) = gates-drive ss
-gates-drive (gate g ∷ ss) = omega (arith, gates-drive ss)
+gates-claim : (ss : List Statement) → length (gatesOf ss) ≤ length (claimedLines ss)
+unfolding gatesOf gatesIn claimedLines linesClaimed flatMap
+gates-claim [] = omega arith
+gates-claim (mark input l ∷ ss) = omega (arith, gates-claim ss)
+gates-claim (mark output l ∷ ss) = gates-claim ss
+gates-claim (mark opened l ∷ ss) = omega (arith, gates-claim ss)
+gates-claim (gate g ∷ ss) = omega (arith, gates-claim ss)
 
-driven-good : (s : Statement) → LinesInRange s → Each InRange (linesDriven s)
-unfolding LinesInRange linesOf linesDriven Each
-driven-good (mark input l) h = h
-driven-good (mark output l) h = tt
-driven-good (gate g) h = (h .0, tt)
+claimed-good : (s : Statement) → LinesInRange s → Each InRange (linesClaimed s)
+unfolding LinesInRange linesOf linesClaimed Each
+claimed-good (mark input l) h = h
+claimed-good (mark output l) h = tt
+claimed-good (mark opened l) h = h
+claimed-good (gate g) h = (h .0, tt)
 
-driven-in-range : (ss : List Statement) → Each LinesInRange ss → Each InRange (drivenLines ss)
-unfolding drivenLines flatMap Each
-driven-in-range [] h = tt
-driven-in-range (s ∷ ss) h =
-    each-append InRange (linesDriven s) (flatMap linesDriven ss) (driven-good s (h .0)) (driven-in-range ss (h .1))
+claimed-in-range : (ss : List Statement) → Each LinesInRange ss → Each InRange (claimedLines ss)
+unfolding claimedLines flatMap Each
+claimed-in-range [] h = tt
+claimed-in-range (s ∷ ss) h =
+    each-append InRange (linesClaimed s) (flatMap linesClaimed ss) (claimed-good s (h .0)) (claimed-in-range ss (h .1))
 
 -- Statements with lines in range, none driven twice, have at most 1,000 gates.
-pub gates-few : (ss : List Statement) → Each LinesInRange ss → Apart (drivenLines ss) → length (gatesOf ss) ≤ Size.gates
+pub gates-few : (ss : List Statement) → Each LinesInRange ss → Apart (claimedLines ss) → length (gatesOf ss) ≤ Size.gates
 gates-few ss range apart =
-    let lines : length (drivenLines ss) ≤ Size.lines = apart-few Size.lines (drivenLines ss) apart (unfold InRange in driven-in-range ss range) in
-    omega (arith, gates-drive ss)
+    let lines : length (claimedLines ss) ≤ Size.lines = apart-few Size.lines (claimedLines ss) apart (unfold InRange in claimed-in-range ss range) in
+    omega (arith, gates-claim ss)

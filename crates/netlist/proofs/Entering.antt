@@ -17,7 +17,9 @@ use Rattle.reading.specs.declared.Verdict.the-variants.{Accepted, Refused}
 use Rattle.reading.proofs.Laws.{or-right, weigh-one}
 use Rattle.cell_library.specs.Cells.{Cell}
 use Rattle.cell_library.specs.Layout.{LibraryHolds}
-use Rattle.netlist.specs.Admitting.{netlistEntry, ReadsLines, ReadsFrom, ReadsNetlist}
+use Rattle.netlist.specs.declared.Rules.{Rules}
+use Rattle.netlist.specs.Netlist.{netlist}
+use Rattle.netlist.specs.Admitting.{netlistEntry, ReadsAs, ReadsFrom, ReadsNetlist}
 
 module _ (text library table : ℕ) where
   -- What is known behind the entry.
@@ -35,9 +37,9 @@ module _ (text library table : ℕ) where
 
 -- ---- what the reader answers and leaves
 
-module _ (text library before : List ℕ) (v : Verdict)
+module _ (rules : Rules) (text library before : List ℕ) (v : Verdict)
     (enters : verdictRead v ≡ netlistEntry (length text) (length library) (length before)) where
-  pub shut : (r : Refusal) → v ≡ Refused r → ReadsNetlist text library before v before
+  pub shut : (r : Refusal) → v ≡ Refused r → ReadsNetlist rules text library before v before
   unfolding ReadsNetlist ReadsFrom verdictRead
   shut r q = rw (← enters, q) (refl, refl)
 
@@ -46,7 +48,7 @@ module _ (text library before : List ℕ) (v : Verdict)
   unshut q = sym enters ∙ rw q
 
   pub behind : v ≡ Accepted → (w : Verdict) (after : List ℕ)
-      → ((cells : List Cell) → LibraryHolds library cells → ReadsLines cells text before w after)
-      → ReadsNetlist text library before w after
+      → ((cells : List Cell) → LibraryHolds library cells → ReadsAs (netlist rules cells text) before w after)
+      → ReadsNetlist rules text library before w after
   unfolding ReadsNetlist ReadsFrom
   behind q w after reads = rw (unshut q) reads

@@ -13,12 +13,14 @@ use Rattle.text.specs.Lines.{lines}
 use Rattle.reading.specs.Choice.{pick}
 use Rattle.reading.specs.Each.{Each}
 use Rattle.reading.specs.Refusal.{refused, read}
-use Rattle.reading.proofs.Laws.{by-test, clash, each-member, refused-read}
+use Rattle.reading.proofs.Laws.{by-test, clash, each-member, refused-read, bind-read}
 use Rattle.cell_library.specs.Cells.{Cell}
-use Rattle.netlist.specs.Netlist.{Gate, Mark, input, output, Statement, mark, gate, kindOf, member, linesOf, linesMarked, linesDriven, gatesIn, mentionedLines, markedLines, drivenLines, gatesOf, mentioned, isMarked, isInput, pinsAt, admitted, lineForms, netlist}
+use Rattle.netlist.specs.declared.Rules.{Rules}
+use Rattle.netlist.specs.Netlist.{Gate, Mark, input, output, Statement, mark, gate, kindOf, member, linesOf, linesMarked, linesClaimed, gatesIn, mentionedLines, markedLines, claimedLines, gatesOf, mentioned, isMarked, isInput, pinsAt, admitted, lineForms, textStatements, declared, netlist}
 use Rattle.netlist.specs.Admitting.{refusalOf, extended}
 use Rattle.netlist.specs.Sound.{InRange, LinesInRange, GateSound, Apart, Sound, DrivenOnce}
-use Rattle.netlist.proofs.Causes.{member-left, member-right, member-cases, member-among, input-drives, pinsAt-cell}
+use Rattle.netlist.proofs.Causes.{member-left, member-right, member-cases, member-among, mark-claims, pinsAt-cell}
+use Rattle.netlist.proofs.Opening.{declared-read}
 use Rattle.netlist.proofs.Sounding.{sound-none, sound-next}
 use Rattle.netlist.proofs.Reading.{admitted-more, admitted-refused}
 
@@ -65,9 +67,14 @@ module _ (cells : List Cell) where
       (λ t. refused-read (sym (admitted-refused line cells ss w ws (eqb-false (refusalOf cells ss w) 0 t)) ∙ e))
 
   -- The facts of every netlist text that is read.
-  pub netlist-sound : (text : List ℕ) (ss : List Statement) → netlist cells text ≡ read ss → Sound cells ss
-  unfolding netlist
-  netlist-sound text ss e = admitted-sound 1 [] (lineForms cells (lines text)) ss (sound-none cells) e
+  pub netlist-sound : (rules : Rules) (text : List ℕ) (ss : List Statement) → netlist rules cells text ≡ read ss → Sound cells ss
+  unfolding netlist textStatements
+  netlist-sound rules text ss e =
+      bind-read (textStatements rules cells text) (declared rules) ss
+      (λ rs read-all held.
+      admitted-sound 1 [] (lineForms rules cells (lines text)) ss (sound-none cells)
+      (read-all ∙ ap read (declared-read rules rs ss held)))
+      e
 
 -- ---- the facts by membership
 
@@ -92,40 +99,40 @@ module _ (g : Gate) where
   gate-mentioned l (gate h ∷ ss) (List·Memᴰ·tail i) j =
       member-right l (h .line ∷ h .pins) (mentionedLines ss) (gate-mentioned l ss i j)
 
-  gate-drives : (ss : List Statement) → List·Memᴰ g (gatesOf ss) → member (g .line) (drivenLines ss) ≡ true
-  unfolding gatesOf gatesIn drivenLines linesDriven member flatMap
-  gate-drives [] i = absurd (List·Memᴰ·not-nil i)
-  gate-drives (mark m k ∷ ss) i =
-      member-right (g .line) (linesDriven (mark m k)) (drivenLines ss) (gate-drives ss i)
-  gate-drives (gate h ∷ ss) (List·Memᴰ·head e) = rw (eq-eqb (h .line) (g .line) (ap (λ (x : Gate). x .line) (sym e)))
-  gate-drives (gate h ∷ ss) (List·Memᴰ·tail i) = rw (gate-drives ss i) (or-true (eqb (h .line) (g .line)))
+  gate-claims : (ss : List Statement) → List·Memᴰ g (gatesOf ss) → member (g .line) (claimedLines ss) ≡ true
+  unfolding gatesOf gatesIn claimedLines linesClaimed member flatMap
+  gate-claims [] i = absurd (List·Memᴰ·not-nil i)
+  gate-claims (mark m k ∷ ss) i =
+      member-right (g .line) (linesClaimed (mark m k)) (claimedLines ss) (gate-claims ss i)
+  gate-claims (gate h ∷ ss) (List·Memᴰ·head e) = rw (eq-eqb (h .line) (g .line) (ap (λ (x : Gate). x .line) (sym e)))
+  gate-claims (gate h ∷ ss) (List·Memᴰ·tail i) = rw (gate-claims ss i) (or-true (eqb (h .line) (g .line)))
 
-gates-once : (ss : List Statement) → Apart (drivenLines ss) → DrivenOnce (gatesOf ss)
-unfolding gatesOf gatesIn drivenLines flatMap
+gates-once : (ss : List Statement) → Apart (claimedLines ss) → DrivenOnce (gatesOf ss)
+unfolding gatesOf gatesIn claimedLines flatMap
 gates-once [] a = tt
-gates-once (mark m l ∷ ss) a = gates-once ss (apart-right (linesDriven (mark m l)) (drivenLines ss) a)
+gates-once (mark m l ∷ ss) a = gates-once ss (apart-right (linesClaimed (mark m l)) (claimedLines ss) a)
 gates-once (gate g ∷ ss) a =
-    let alone : (member (g .line) (drivenLines ss) ≡ false) × Apart (drivenLines ss) = unfold linesDriven Apart in a in
-    ((λ h i e. clash (member (h .line) (drivenLines ss)) (gate-drives h ss i) (rw e at (alone .0))), gates-once ss (alone .1))
+    let alone : (member (g .line) (claimedLines ss) ≡ false) × Apart (claimedLines ss) = unfold linesClaimed Apart in a in
+    ((λ h i e. clash (member (h .line) (claimedLines ss)) (gate-claims h ss i) (rw e at (alone .0))), gates-once ss (alone .1))
 
-input-once : (ss : List Statement) → Apart (drivenLines ss) → (g : Gate) → List·Memᴰ g (gatesOf ss)
+input-once : (ss : List Statement) → Apart (claimedLines ss) → (g : Gate) → List·Memᴰ g (gatesOf ss)
     → isInput (g .line) ss ≡ true → ⊥
-unfolding gatesOf gatesIn drivenLines isMarked markedLines flatMap
+unfolding gatesOf gatesIn claimedLines isMarked markedLines flatMap
 input-once [] a g i e = List·Memᴰ·not-nil i
 input-once (mark m l ∷ ss) a g i e =
     ⊎-elim
     (λ t.
-    apart-both (g .line) (linesDriven (mark m l)) (drivenLines ss) a (input-drives (g .line) (mark m l) t) (gate-drives g ss i))
-    (λ t. input-once ss (apart-right (linesDriven (mark m l)) (drivenLines ss) a) g i t)
+    apart-both (g .line) (linesClaimed (mark m l)) (claimedLines ss) a (mark-claims input refl (g .line) (mark m l) t) (gate-claims g ss i))
+    (λ t. input-once ss (apart-right (linesClaimed (mark m l)) (claimedLines ss) a) g i t)
     (member-cases (g .line) (linesMarked input (mark m l)) (markedLines input ss) e)
 input-once (gate h ∷ ss) a g (List·Memᴰ·head q) e =
-    let alone : (member (h .line) (drivenLines ss) ≡ false) × Apart (drivenLines ss) = unfold linesDriven Apart in a in
-    let drives : member (g .line) (drivenLines ss) ≡ true =
-    member-among (g .line) (linesMarked input) linesDriven (input-drives (g .line)) ss (unfold linesMarked in e)
+    let alone : (member (h .line) (claimedLines ss) ≡ false) × Apart (claimedLines ss) = unfold linesClaimed Apart in a in
+    let drives : member (g .line) (claimedLines ss) ≡ true =
+    member-among (g .line) (linesMarked input) linesClaimed (mark-claims input refl (g .line)) ss (unfold linesMarked in e)
     in
-    clash (member (h .line) (drivenLines ss)) (rw (ap (λ (x : Gate). x .line) q) at drives) (alone .0)
+    clash (member (h .line) (claimedLines ss)) (rw (ap (λ (x : Gate). x .line) q) at drives) (alone .0)
 input-once (gate h ∷ ss) a g (List·Memᴰ·tail i) e =
-    input-once ss (apart-right (linesDriven (gate h)) (drivenLines ss) a) g i (unfold linesMarked in e)
+    input-once ss (apart-right (linesClaimed (gate h)) (claimedLines ss) a) g i (unfold linesMarked in e)
 
 mention-good : (l : ℕ) (ss : List Statement) → Each LinesInRange ss → mentioned l ss ≡ true → InRange l
 unfolding mentioned mentionedLines flatMap Each LinesInRange
@@ -146,10 +153,10 @@ module _ (cells : List Cell) (ss : List Statement) (so : Sound cells ss) where
 
   -- No two gates drive one line, and no gate an input.
   pub driven-once : DrivenOnce (gatesOf ss)
-  driven-once = gates-once ss (so .driven)
+  driven-once = gates-once ss (so .claimed)
 
   pub gate-no-input : (g : Gate) → List·Memᴰ g (gatesOf ss) → isInput (g .line) ss ≡ false
-  gate-no-input g i = by-test (isInput (g .line) ss) (λ t. absurd (input-once ss (so .driven) g i t)) (λ t. t)
+  gate-no-input g i = by-test (isInput (g .line) ss) (λ t. absurd (input-once ss (so .claimed) g i t)) (λ t. t)
 
   -- Each line that is mentioned, and so each input and output, is in range.
   pub mentioned-in-range : (l : ℕ) → mentioned l ss ≡ true → InRange l

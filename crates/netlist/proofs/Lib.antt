@@ -4,6 +4,7 @@ pub mod Counting
 pub mod Entering
 pub mod Forms
 pub mod Laws
+pub mod Opening
 pub mod Outcomes
 pub mod Places
 pub mod Reading

@@ -30,14 +30,16 @@ use Rattle.netlist.specs.Netlist.{
   Mark,
   input,
   output,
+  opened,
   Statement,
   mark,
   gate,
   kindOf,
   gateKind,
-  driven,
+  lastKind,
+  claimed,
   linesOf,
-  linesDriven,
+  linesClaimed,
   gatesOf,
   lineBad,
   anyLineBad,
@@ -59,6 +61,7 @@ use Rattle.netlist.specs.Admitting.{
   Decided,
   markPlace,
   markNumber,
+  markValue,
   mentionAll,
   gateStored,
   gateAdded,
@@ -73,6 +76,7 @@ use Rattle.netlist.proofs.Storing.{stored-mark, stored-gate}
 number-some : (m : Mark) → markNumber m ≡ 0 → ⊥
 number-some input e = omega arith
 number-some output e = omega arith
+number-some opened e = omega arith
 
 module _ (cells : List Cell) {table : List ℕ} {ss : List Statement} (holds : NetlistHolds table ss) where
   -- A statement that is refused leaves the table as it was.
@@ -101,6 +105,7 @@ module _ (cells : List Cell) {table : List ℕ} {ss : List Statement} (holds : N
         go : (k : Mark) → getD (netlistWords ss ++ holds .past) (markPlace k l) 0 ≡ markWord k ss l
         go input = driver-word ss (holds .past) l (lineBad-range l good .0) (lineBad-range l good .1)
         go output = output-word ss (holds .past) l (lineBad-range l good .0) (lineBad-range l good .1)
+        go opened = driver-word ss (holds .past) l (lineBad-range l good .0) (lineBad-range l good .1)
 
     -- The word of a mark, as a test.
     is-taken : (getD table (markPlace m l) 0 ≡ 0 → ⊥) → taken m ss l ≡ true
@@ -115,12 +120,12 @@ module _ (cells : List Cell) {table : List ℕ} {ss : List Statement} (holds : N
     mark-second h = refuses (some (mark m l)) (markNumber m) (number-some m) (rw (mark-cause cells ss m l, good, is-taken h))
 
     pub mark-admitted : getD table (markPlace m l) 0 ≡ 0
-        → Decided cells ss (some (mark m l)) (holds .past) 0 (set (set table (markPlace m l) 1) (mentionPlace l) 1)
+        → Decided cells ss (some (mark m l)) (holds .past) 0 (set (set table (markPlace m l) (markValue m)) (mentionPlace l) 1)
     unfolding refusalOf mentionAll pick
     mark-admitted h =
         admits (mark m l) _ (rw (mark-cause cells ss m l, good, is-free h))
-        (ap (λ (t : List ℕ). mentionAll (l ∷ []) (set t (markPlace m l) 1)) (holds .words)
-        ∙ stored-mark ss (holds .past) m l good)
+        (ap (λ (t : List ℕ). mentionAll (l ∷ []) (set t (markPlace m l) (markValue m))) (holds .words)
+        ∙ stored-mark ss (holds .past) m l good (is-free h))
 
   pub mark-bad : (m : Mark) (l : ℕ) → lineBad l ≡ true → Decided cells ss (some (mark m l)) (holds .past) No.lineBad table
   unfolding refusalOf pick
@@ -206,12 +211,12 @@ module _ (cells : List Cell) {table : List ℕ} {ss : List Statement} (holds : N
         (rw (gate-causes cells ss g, ← none, is-taken cells holds input (g .line) good h))
 
     module _ (free : getD table (driverPlace (g .line)) 0 ≡ 0) where
-      undriven : driven (g .line) ss ≡ false
+      undriven : claimed (g .line) ss ≡ false
       unfolding taken
       undriven = is-free cells holds input (g .line) good free
 
       free-before : drivenBefore ss (gate g) ≡ false
-      unfolding drivenBefore linesDriven anyMember driven
+      unfolding drivenBefore linesClaimed anyMember claimed
       free-before = rw undriven
 
       count : getD table 0 0 ≡ length (gatesOf ss)
@@ -239,19 +244,27 @@ module _ (cells : List Cell) {table : List ℕ} {ss : List Statement} (holds : N
 
 -- ---- which statement the numbers stand for
 
-kind-low : (m : Mark) → kindOf m < gateKind
+kind-low : (m : Mark) → kindOf m ≤ lastKind
 kind-low input = omega arith
 kind-low output = omega arith
+kind-low opened = omega arith
+
+kind-no-gate : (m : Mark) → kindOf m ≡ gateKind → ⊥
+kind-no-gate input e = omega arith
+kind-no-gate output e = omega arith
+kind-no-gate opened e = omega arith
 
 -- A mark is known by its kind.
 ofKind : ℕ → Mark
 ofKind zero = input
-ofKind (suc n) = output
+ofKind (suc zero) = output
+ofKind (suc (suc n)) = opened
 
 ofKind-kind : (m : Mark) → ofKind (kindOf m) ≡ m
 unfolding ofKind
 ofKind-kind input = refl
 ofKind-kind output = refl
+ofKind-kind opened = refl
 
 same-kind : (m k : Mark) → kindOf m ≡ kindOf k → m ≡ k
 same-kind m k e = sym (ofKind-kind m) ∙ ap ofKind e ∙ ofKind-kind k
@@ -268,12 +281,12 @@ module _ (p : RawStatement) where
     unfolding StandsFor
     kind-mark m none is k = ⊎-elim (λ f. clash (p .form) e f) (λ h. absurd (omega (arith, kind-low m))) is
     kind-mark m (some (mark n l)) is k = rw (is .line, same-kind n m (sym (is .kind) ∙ k))
-    kind-mark m (some (gate g)) is k = absurd (omega (arith, kind-low m, is .kind))
+    kind-mark m (some (gate g)) is k = absurd (kind-no-gate m (sym k ∙ is .kind))
 
     pub kind-gate : (w : Option Statement) → StandsFor p w → p .kind ≡ gateKind → (g : Gate) × (w ≡ some (gate g)) × IsGate g p
     unfolding StandsFor
     kind-gate none is k = ⊎-elim (λ f. clash (p .form) e f) (λ h. absurd (omega arith)) is
-    kind-gate (some (mark m l)) is k = absurd (omega (arith, kind-low m, is .kind))
+    kind-gate (some (mark m l)) is k = absurd (kind-no-gate m (sym (is .kind) ∙ k))
     kind-gate (some (gate g)) is k = (g, refl, is)
 
   pub kind-unknown : (w : Option Statement) → StandsFor p w → ((m : Mark) → p .kind ≡ kindOf m → ⊥) → (p .kind ≡ gateKind → ⊥)

@@ -21,12 +21,13 @@ use Rattle.reading.specs.Refusal.{refused, read, _>>=_, _>>_, form}
 use Rattle.reading.specs.Verdict.{verdictRead, doneRead}
 use Rattle.reading.specs.declared.Verdict.{Verdict}
 use Rattle.cell_library.specs.Cells.{Cell}
+use Rattle.netlist.specs.declared.Rules.{Rules}
 use Rattle.netlist.specs.Lowest.{lowest, verdict}
-use Rattle.netlist.specs.Netlist.{Statement, member, mentionedLines, markedLines, drivenLines, gatesOf, mentioned}
-use Rattle.netlist.specs.Netlist.{isMarked, driven, causes, admit, admitted, statementOf, lineForm, lineForms, netlist}
+use Rattle.netlist.specs.Netlist.{Statement, member, mentionedLines, markedLines, claimedLines, gatesOf, mentioned}
+use Rattle.netlist.specs.Netlist.{isMarked, claimed, causes, admit, admitted, statementOf, lineForm, lineForms, textStatements}
 use Rattle.netlist.specs.Layout.{gateWords, driverWord, outputWord, mentionWord, lineParts, lineWords}
 use Rattle.netlist.specs.Layout.{netlistWords, NetlistHolds, netlistAfter}
-use Rattle.netlist.specs.Admitting.{refusalOf, extended, Decided, wordsAfter, ReadsLines}
+use Rattle.netlist.specs.Admitting.{refusalOf, extended, Decided, wordsAfter, ReadsAs}
 use Rattle.netlist.specs.Sound.{Sound}
 use Rattle.netlist.proofs.Weighing.{weigh-lowest}
 use Rattle.netlist.proofs.Causes.{causes-counted}
@@ -70,7 +71,7 @@ zeros : (n d : ℕ) (gs : List ℕ) → gs ≡ replicate d 0
     → _≡_ {A = List ℕ}
     (0 ∷ ((lineWords (driverWord []) n 1 ++ (lineWords (outputWord []) n 1 ++ (lineWords (mentionWord []) n 1 ++ []))) ++ gs))
     (replicate (suc (n + (n + (n + 0)) + d)) 0)
-unfolding driverWord outputWord mentionWord isMarked markedLines driven drivenLines mentioned mentionedLines flatMap member pick
+unfolding driverWord outputWord mentionWord isMarked markedLines claimed claimedLines mentioned mentionedLines flatMap member pick
 zeros n d gs e =
     rw (
       e,
@@ -106,20 +107,20 @@ line-ended text at next h e q = omega (arith, nextAfter-within text at (part 10 
 
 -- What is read so far: the statements, which were admitted and which the table holds, and the lines from the cursor on still
 -- to be read.
-pub record Reading (cells : List Cell) (text : List ℕ) (at number : ℕ) (table past : List ℕ) : Type 0 where
+pub record Reading (rules : Rules) (cells : List Cell) (text : List ℕ) (at number : ℕ) (table past : List ℕ) : Type 0 where
   pub statements : List Statement
-  pub rest : netlist cells text ≡ admitted number cells statements (lineForms cells (linesFrom text at))
+  pub rest : textStatements rules cells text ≡ admitted number cells statements (lineForms rules cells (linesFrom text at))
   pub sound : Sound cells statements
   pub held : table ≡ netlistWords statements ++ past
 
-pub reading-start : (cells : List Cell) (text before : List ℕ) → Size.netlist ≤ length before
-    → Reading cells text 0 1 (cleared Size.netlist before) (drop Size.netlist (cleared Size.netlist before))
-unfolding netlist
-reading-start cells text before h =
+pub reading-start : (rules : Rules) (cells : List Cell) (text before : List ℕ) → Size.netlist ≤ length before
+    → Reading rules cells text 0 1 (cleared Size.netlist before) (drop Size.netlist (cleared Size.netlist before))
+unfolding textStatements
+reading-start rules cells text before h =
     record { statements = []; rest = rw (linesFrom-start text); sound = sound-none cells; held = rw (cleared-past before h) (cleared-empty before h) }
 
-module _ {cells : List Cell} {text : List ℕ} {at number : ℕ} {table past : List ℕ}
-    (so-far : Reading cells text at number table past) where
+module _ {rules : Rules} {cells : List Cell} {text : List ℕ} {at number : ℕ} {table past : List ℕ}
+    (so-far : Reading rules cells text at number table past) where
   -- The table holds the statements read so far.
   abbrev pub holding : NetlistHolds table (so-far .statements)
   holding = record { past = past; words = so-far .held }
@@ -127,18 +128,18 @@ module _ {cells : List Cell} {text : List ℕ} {at number : ℕ} {table past : L
   -- The line at the cursor, which byte 10 ends.
   module _ (ended : at + length (part 10 text at) < length text) where
     abbrev here : Option Statement
-    here = statementOf cells (fields (part 10 text at))
+    here = statementOf rules cells (fields (part 10 text at))
 
     abbrev behind : List (Option Statement)
-    behind = lineForms cells (linesFrom text (nextAfter text at (part 10 text at)))
+    behind = lineForms rules cells (linesFrom text (nextAfter text at (part 10 text at)))
 
-    line-here : lineForms cells (linesFrom text at) ≡ here ∷ behind
+    line-here : lineForms rules cells (linesFrom text at) ≡ here ∷ behind
     unfolding lineForms lineForm
     line-here = rw (linesFrom-line text at ended)
 
     module _ {r : ℕ} {after : List ℕ} (decided : Decided cells (so-far .statements) here past r after) where
       pub reading-more : {next : ℕ} → next ≡ nextAfter text at (part 10 text at) → r ≡ 0
-          → Reading cells text next (number + 1) after past
+          → Reading rules cells text next (number + 1) after past
       unfolding wordsAfter pick
       reading-more moved z =
           record {
@@ -151,7 +152,7 @@ module _ {cells : List Cell} {text : List ℕ} {at number : ℕ} {table past : L
             held = decided .leaves ∙ rw z;
           }
 
-      pub reading-refused : (r ≡ 0 → ⊥) → netlist cells text ≡ refused r number
+      pub reading-refused : (r ≡ 0 → ⊥) → textStatements rules cells text ≡ refused r number
       reading-refused bad =
           so-far .rest
           ∙ ap (admitted number cells (so-far .statements)) line-here
@@ -159,23 +160,23 @@ module _ {cells : List Cell} {text : List ℕ} {at number : ℕ} {table past : L
           ∙ rw (← decided .answers)
 
   pub reading-unended : at < length text → at + length (part 10 text at) ≡ length text
-      → netlist cells text ≡ refused No.netlistForm number
+      → textStatements rules cells text ≡ refused No.netlistForm number
   unfolding lineForms lineForm admitted form _>>=_
   reading-unended h e = so-far .rest ∙ rw (linesFrom-unended text at h e)
 
-  pub reading-end : length text ≤ at → netlist cells text ≡ read (so-far .statements)
+  pub reading-end : length text ≤ at → textStatements rules cells text ≡ read (so-far .statements)
   unfolding lineForms admitted
   reading-end h = so-far .rest ∙ rw (linesFrom-end text at h)
 
 -- ---- what the reader answers and leaves
 
-module _ (cells : List Cell) (text before : List ℕ) (answer : Verdict) (after : List ℕ) where
-  pub left-refused : {number line n : ℕ} → netlist cells text ≡ refused number line → verdictRead answer ≡ refused number line
-      → after ≡ replicate n 0 → n ≡ length before → ReadsLines cells text before answer after
+module _ (rules : Rules) (cells : List Cell) (text before : List ℕ) (answer : Verdict) (after : List ℕ) where
+  pub left-refused : {number line n : ℕ} → textStatements rules cells text ≡ refused number line → verdictRead answer ≡ refused number line
+      → after ≡ replicate n 0 → n ≡ length before → ReadsAs (textStatements rules cells text) before answer after
   unfolding doneRead netlistAfter
   left-refused e said z same = record { answers = rw e said; leaves = rw (e, ← same) z }
 
-  pub left-read : {ss : List Statement} → netlist cells text ≡ read ss → verdictRead answer ≡ read tt
-      → after ≡ netlistWords ss ++ drop Size.netlist before → ReadsLines cells text before answer after
+  pub left-read : {ss : List Statement} → textStatements rules cells text ≡ read ss → verdictRead answer ≡ read tt
+      → after ≡ netlistWords ss ++ drop Size.netlist before → ReadsAs (textStatements rules cells text) before answer after
   unfolding doneRead netlistAfter
   left-read e said words = record { answers = rw e said; leaves = rw e words }

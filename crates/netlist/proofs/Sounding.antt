@@ -20,6 +20,7 @@ use Rattle.netlist.specs.Netlist.{
   Mark,
   input,
   output,
+  opened,
   Statement,
   mark,
   gate,
@@ -27,10 +28,10 @@ use Rattle.netlist.specs.Netlist.{
   member,
   linesOf,
   linesMarked,
-  linesDriven,
+  linesClaimed,
   gatesIn,
   markedLines,
-  drivenLines,
+  claimedLines,
   gatesOf,
   lineBad,
   anyLineBad,
@@ -94,11 +95,12 @@ clean cells ss s h =
     }
 
 -- A statement drives, and marks, at most one line.
-lone-driven : (s : Statement) → Apart (linesDriven s)
-unfolding linesDriven Apart member
-lone-driven (mark input l) = (refl, tt)
-lone-driven (mark output l) = tt
-lone-driven (gate g) = (refl, tt)
+lone-claimed : (s : Statement) → Apart (linesClaimed s)
+unfolding linesClaimed Apart member
+lone-claimed (mark input l) = (refl, tt)
+lone-claimed (mark output l) = tt
+lone-claimed (mark opened l) = (refl, tt)
+lone-claimed (gate g) = (refl, tt)
 
 lone-marked : (m : Mark) (s : Statement) → Apart (linesMarked m s)
 unfolding linesMarked
@@ -125,8 +127,8 @@ module _ (cells : List Cell) where
       )
 
   pub sound-none : Sound cells []
-  unfolding gatesOf drivenLines markedLines flatMap Each Apart
-  sound-none = record { lines = tt; gates = tt; few = omega arith; driven = tt; marked = tt }
+  unfolding gatesOf claimedLines markedLines flatMap Each Apart
+  sound-none = record { lines = tt; gates = tt; few = omega arith; claimed = tt; marked = tt }
 
   -- One statement more, on good lines, of which it drives none that is driven before.
   module _ (ss : List Statement) (s : Statement) (so : Sound cells ss) where
@@ -134,11 +136,11 @@ module _ (cells : List Cell) where
     unfolding Each LinesInRange
     more-range good = each-append LinesInRange ss (s ∷ []) (so .lines) (in-range (linesOf s) good, tt)
 
-    more-apart : drivenBefore ss s ≡ false → Apart (drivenLines (ss ++ (s ∷ [])))
-    unfolding drivenLines drivenBefore
+    more-apart : drivenBefore ss s ≡ false → Apart (claimedLines (ss ++ (s ∷ [])))
+    unfolding claimedLines drivenBefore
     more-apart free =
-        rw (one-more linesDriven ss s)
-        (apart-append (drivenLines ss) (linesDriven s) (so .driven) (lone-driven s) free)
+        rw (one-more linesClaimed ss s)
+        (apart-append (claimedLines ss) (linesClaimed s) (so .claimed) (lone-claimed s) free)
 
   -- A gate on good lines that drives none driven before finds less than 1,000 gates: there is a place for it.
   pub gate-space : (ss : List Statement) (g : Gate) → Sound cells ss → anyLineBad (linesOf (gate g)) ≡ false
@@ -176,7 +178,7 @@ module _ (cells : List Cell) where
             rw (one-more gatesIn ss s)
             (each-append (GateSound cells) (gatesOf ss) (gatesIn s) (so .gates) (more-gates ss s c));
         few = gates-few (ss ++ (s ∷ [])) range apart;
-        driven = apart;
+        claimed = apart;
         marked =
             rw (one-more (linesMarked output) ss s)
             (apart-append (markedLines output ss) (linesMarked output s) (so .marked) (lone-marked output s) (c .unmarked));

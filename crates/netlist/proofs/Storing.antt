@@ -17,15 +17,15 @@ use Rattle.sizes.specs.Sizes as Size
 use Rattle.table.specs.Blocks.{fitted, blocks}
 use Rattle.table.proofs.Places.{length-fitted, length-blocks, blocks-append}
 use Rattle.reading.specs.Choice.{pick}
-use Rattle.reading.proofs.Laws.{by-test, or-left, or-right}
-use Rattle.netlist.specs.Netlist.{Gate, Mark, input, output, Statement, mark, gate, member, linesOf, linesMarked}
-use Rattle.netlist.specs.Netlist.{linesDriven, gatesIn, mentionedLines, markedLines, drivenLines, gatesOf, mentioned}
-use Rattle.netlist.specs.Netlist.{isMarked, isInput, isOutput, driven, lineBad, anyLineBad}
+use Rattle.reading.proofs.Laws.{by-test, clash, or-left, or-right}
+use Rattle.netlist.specs.Netlist.{Gate, Mark, input, output, opened, Statement, mark, gate, member, linesOf, linesMarked}
+use Rattle.netlist.specs.Netlist.{linesClaimed, gatesIn, mentionedLines, markedLines, claimedLines, gatesOf, mentioned}
+use Rattle.netlist.specs.Netlist.{isMarked, isInput, isOutput, isOpen, claimed, lineBad, anyLineBad}
 use Rattle.netlist.specs.Layout.{gateWords, driverWord, outputWord, mentionWord, lineParts, lineWords, partWords}
 use Rattle.netlist.specs.Layout.{netlistWords}
-use Rattle.netlist.specs.Admitting.{markPlace, mentionAll}
+use Rattle.netlist.specs.Admitting.{markPlace, markValue, mentionAll}
 use Rattle.netlist.proofs.Places.{length-gateWords, length-lineWords, length-partWords, getD-lineWords, zeroWord}
-use Rattle.netlist.proofs.Causes.{one-more, member-more, lineBad-range, undriven-input}
+use Rattle.netlist.proofs.Causes.{one-more, member-more, lineBad-range, claiming, mark-claims, unclaimed-marked, taken}
 
 -- ---- lists
 
@@ -216,18 +216,25 @@ module _ (ss : List Statement) (s : Statement) where
   unfolding isMarked markedLines
   isMarked-more m k = member-more k (linesMarked m) ss s
 
-  driven-more : (k : ℕ) → driven k after ≡ (driven k ss || member k (linesDriven s))
-  unfolding driven drivenLines
-  driven-more k = member-more k linesDriven ss s
+  claimed-more : (k : ℕ) → claimed k after ≡ (claimed k ss || member k (linesClaimed s))
+  unfolding claimed claimedLines
+  claimed-more k = member-more k linesClaimed ss s
 
   same-output : (k : ℕ) → member k (linesMarked output s) ≡ false → outputWord after k ≡ outputWord ss k
   unfolding outputWord
   same-output k h = rw (isMarked-more output k, h, or-false (isOutput k ss))
 
-  same-driver : (k : ℕ) → member k (linesMarked input s) ≡ false → member k (linesDriven s) ≡ false
-      → driverWord after k ≡ driverWord ss k
+  same-mark : (m : Mark) → claiming m ≡ true → (k : ℕ) → member k (linesClaimed s) ≡ false → isMarked m k after ≡ isMarked m k ss
+  same-mark m c k q =
+      let unmarked : member k (linesMarked m s) ≡ false =
+      by-test (member k (linesMarked m s)) (λ t. clash (member k (linesClaimed s)) (mark-claims m c k s t) q) (λ t. t)
+      in
+      rw (isMarked-more m k, unmarked, or-false (isMarked m k ss))
+
+  same-driver : (k : ℕ) → member k (linesClaimed s) ≡ false → driverWord after k ≡ driverWord ss k
   unfolding driverWord
-  same-driver k h q = rw (isMarked-more input k, driven-more k, h, q, or-false (isInput k ss), or-false (driven k ss))
+  same-driver k q =
+      rw (same-mark input refl k q, same-mark opened refl k q, claimed-more k, q, or-false (claimed k ss))
 
   -- What a statement changes of the parts besides the lines mentioned: part p, at line l alone, to v.
   record Changes (p l v : ℕ) : Type 0 where
@@ -257,59 +264,87 @@ module _ (ss : List Statement) (s : Statement) where
 abbrev partOf : Mark → ℕ
 partOf input = 0
 partOf output = 1
+partOf opened = 0
 
 mark-place : (m : Mark) (l : ℕ) → markPlace m l ≡ partOf m * Size.lines + l
 mark-place input l = omega arith
 mark-place output l = refl
+mark-place opened l = omega arith
 
 module _ (ss : List Statement) (l : ℕ) where
   other-not : (k : ℕ) → (k ≡ l → ⊥) → member k (l ∷ []) ≡ false
   unfolding member
   other-not k apart = rw (ne-eqb l k (λ e. apart (sym e)))
 
-  mark-changes : (m : Mark) → Changes ss (mark m l) (partOf m) l 1
-  unfolding lineParts linesMarked linesDriven driverWord outputWord member pick
-  mark-changes input =
+  mark-changes : (m : Mark) → taken m ss l ≡ false → Changes ss (mark m l) (partOf m) l (markValue m)
+  unfolding lineParts linesMarked linesClaimed driverWord outputWord taken member pick
+  mark-changes input free =
       record {
         part = omega arith;
         here = rw (isMarked-more ss (mark input l) input l, eq-eqb l l refl, or-true (isInput l ss));
-        other = λ k apart. same-driver ss (mark input l) k (other-not k apart) (other-not k apart);
+        other = λ k apart. same-driver ss (mark input l) k (other-not k apart);
         rest =
             ap (λ (f : ℕ → ℕ). driverWord (ss ++ (mark input l ∷ [])) ∷ f ∷ mentionWord ss ∷ [])
             (fun-ext (λ k. sym (same-output ss (mark input l) k refl)));
       }
-  mark-changes output =
+  mark-changes output free =
       record {
         part = omega arith;
         here = rw (isMarked-more ss (mark output l) output l, eq-eqb l l refl, or-true (isOutput l ss));
         other = λ k apart. same-output ss (mark output l) k (other-not k apart);
         rest =
             ap (λ (f : ℕ → ℕ). f ∷ outputWord (ss ++ (mark output l ∷ [])) ∷ mentionWord ss ∷ [])
-            (fun-ext (λ k. sym (same-driver ss (mark output l) k refl refl)));
+            (fun-ext (λ k. sym (same-driver ss (mark output l) k refl)));
+      }
+  mark-changes opened free =
+      let s = mark opened l in
+      record {
+        part = omega arith;
+        here =
+            rw (
+              isMarked-more ss s input l,
+              isMarked-more ss s opened l,
+              unclaimed-marked input refl l ss free,
+              eq-eqb l l refl,
+              or-true (isOpen l ss),
+            );
+        other = λ k apart. same-driver ss s k (other-not k apart);
+        rest =
+            ap (λ (f : ℕ → ℕ). driverWord (ss ++ (s ∷ [])) ∷ f ∷ mentionWord ss ∷ [])
+            (fun-ext (λ k. sym (same-output ss s k refl)));
       }
 
-pub stored-mark : (ss : List Statement) (past : List ℕ) (m : Mark) (l : ℕ) → lineBad l ≡ false
-    → mentionAll (l ∷ []) (set (netlistWords ss ++ past) (markPlace m l) 1) ≡ netlistWords (ss ++ (mark m l ∷ [])) ++ past
+pub stored-mark : (ss : List Statement) (past : List ℕ) (m : Mark) (l : ℕ) → lineBad l ≡ false → taken m ss l ≡ false
+    → mentionAll (l ∷ []) (set (netlistWords ss ++ past) (markPlace m l) (markValue m)) ≡ netlistWords (ss ++ (mark m l ∷ [])) ++ past
 unfolding linesOf anyLineBad gatesIn
-stored-mark ss past m l good =
+stored-mark ss past m l good free =
     let s = mark m l in
     let gates : gatesOf ss ≡ gatesOf (ss ++ (s ∷ [])) =
     unfold gatesOf in sym (one-more gatesIn ss s ∙ append-nil (flatMap gatesIn ss))
     in
-    ap (λ (i : ℕ). mentionAll (l ∷ []) (set (netlistWords ss ++ past) i 1)) (mark-place m l)
-    ∙ stored ss s past (partOf m) l 1 (mark-changes ss l m) good (rw good)
+    ap (λ (i : ℕ). mentionAll (l ∷ []) (set (netlistWords ss ++ past) i (markValue m))) (mark-place m l)
+    ∙ stored ss s past (partOf m) l (markValue m) (mark-changes ss l m free) good (rw good)
     ∙ ap (λ (gs : List Gate). laid (length gs) (lineParts (ss ++ (s ∷ []))) (gatesLaid gs past)) gates
     ∙ sym (netlist-laid (ss ++ (s ∷ [])) past)
 
-gate-changes : (ss : List Statement) (g : Gate) → driven (g .line) ss ≡ false → Changes ss (gate g) 0 (g .line) 2
-unfolding lineParts linesMarked linesDriven member driverWord pick
+gate-changes : (ss : List Statement) (g : Gate) → claimed (g .line) ss ≡ false → Changes ss (gate g) 0 (g .line) 2
+unfolding lineParts linesMarked linesClaimed member driverWord pick
 gate-changes ss g free =
     let s = gate g in
     let l = g .line in
     record {
       part = omega arith;
-      here = rw (isMarked-more ss s input l, driven-more ss s l, undriven-input l ss free, free, eq-eqb l l refl);
-      other = λ k apart. same-driver ss s k refl (other-not ss l k apart);
+      here =
+          rw (
+            isMarked-more ss s input l,
+            isMarked-more ss s opened l,
+            claimed-more ss s l,
+            unclaimed-marked input refl l ss free,
+            unclaimed-marked opened refl l ss free,
+            free,
+            eq-eqb l l refl,
+          );
+      other = λ k apart. same-driver ss s k (other-not ss l k apart);
       rest =
           ap (λ (f : ℕ → ℕ). driverWord (ss ++ (s ∷ [])) ∷ f ∷ mentionWord ss ∷ [])
           (fun-ext (λ k. sym (same-output ss s k refl)));
@@ -330,7 +365,7 @@ one-gate gs past g few =
     ∙ ap (fitted 0 size) (sym (blocks-append gateWords gs (g ∷ []) ∙ ap (λ (l : List ℕ). bs ++ l) (append-nil (gateWords g)))))
 
 pub stored-gate : (ss : List Statement) (past : List ℕ) (g : Gate) → anyLineBad (g .line ∷ g .pins) ≡ false
-    → driven (g .line) ss ≡ false → length (gatesOf ss) < Size.gates
+    → claimed (g .line) ss ≡ false → length (gatesOf ss) < Size.gates
     → set
     (sets (mentionAll (g .line ∷ g .pins) (set (netlistWords ss ++ past) (driverPlace (g .line)) 2))
     (gatePlace (length (gatesOf ss))) (gateWords g)) 0 (length (gatesOf ss) + 1)

@@ -1,13 +1,13 @@
 -- One statement over plain numbers, as `admit` takes it from texts and from records, and what admitting it comes to.
 -- Assumes nothing.
-use mathlib.Core.Bool.{true, false, _||_}
+use mathlib.Core.Bool.{Bool, true, false, not, _&&_, _||_}
 use mathlib.Core.List.{List, [], _∷_, _++_}
 use mathlib.Core.Logic.{_⊎_}
 use mathlib.Core.Option.{Option, none, some}
 use mathlib.Core.Path.{_≡_}
 use Prim.Native.Nat.{ℕ, _+_, _%_, _≤_, _<_, min}
 use lib.Dec.{eqb, ltb}
-use lib.ListN.{length, set, take}
+use lib.ListN.{length, getD, set, take}
 use lib.Seq.{sets}
 use Rattle.sizes.specs.Places.{driverPlace, outputPlace, mentionPlace, gatePlace}
 use Rattle.sizes.specs.Sizes as Size
@@ -21,8 +21,10 @@ use Rattle.cell_library.specs.Cells.{Cell}
 use Rattle.cell_library.specs.Layout.{LibraryHolds}
 use Rattle.netlist.specs.declared.Pins.{Pins}
 use Rattle.netlist.specs.declared.RawStatement.{RawStatement}
+use Rattle.netlist.specs.declared.Rules.{Rules}
 use Rattle.netlist.specs.Lowest.{lowest}
-use Rattle.netlist.specs.Netlist.{Gate, Mark, input, output, Statement, mark, gate, kindOf, gateKind, linesOf, anyLineBad}
+use Rattle.netlist.specs.Netlist.{Gate, Mark, input, output, opened, Statement, mark, gate, kindOf, gateKind, lastKind}
+use Rattle.netlist.specs.Netlist.{linesOf, anyLineBad, linesWhere, someLine}
 use Rattle.netlist.specs.Netlist.{unknownCell, countDiffers, causes, netlist}
 use Rattle.netlist.specs.Layout.{netlistWords, NetlistHolds, netlistAfter}
 use Rattle.netlist.specs.Sound.{Sound}
@@ -59,7 +61,7 @@ pub record IsGate (g : Gate) (p : RawStatement) : Type 0 where
 
 -- The statement that the numbers stand for; none is bad form, which they say themselves, or by a kind that is not known.
 unfoldable pub StandsFor : RawStatement → Option Statement → Type 0
-StandsFor p none = (p .form ≡ false) ⊎ (gateKind < p .kind)
+StandsFor p none = (p .form ≡ false) ⊎ (lastKind < p .kind)
 StandsFor p (some (mark m l)) = IsMark m l p
 StandsFor p (some (gate g)) = IsGate g p
 
@@ -101,14 +103,22 @@ Admits cells w before number after =
 
 -- ---- stores
 
--- Where the table says that a line has a mark, and the number that refuses a second one.
+-- Where the table says that a line has a mark, and the number that refuses a second one, or another claim.
 abbrev pub markPlace : Mark → ℕ → ℕ
 markPlace input l = driverPlace l
 markPlace output l = outputPlace l
+markPlace opened l = driverPlace l
 
 abbrev pub markNumber : Mark → ℕ
 markNumber input = No.drivenBefore
 markNumber output = No.markedBefore
+markNumber opened = No.drivenBefore
+
+-- What stands there of a line that has it.
+abbrev pub markValue : Mark → ℕ
+markValue input = 1
+markValue output = 1
+markValue opened = 3
 
 -- Marks lines as mentioned, one after the other.
 unfoldable pub mentionAll : List ℕ → List ℕ → List ℕ
@@ -141,20 +151,29 @@ netlistEntry text library table =
     ∷ (No.textLong, ltb Size.textBytes text)
     ∷ [])
 
--- What reading the lines of a text answers, and leaves in the lent table.
-pub record ReadsLines (cells : List Cell) (text before : List ℕ) (verdict : Verdict) (after : List ℕ) : Type 0 where
-  pub answers : verdictRead verdict ≡ doneRead (netlist cells text)
-  pub leaves : after ≡ netlistAfter (netlist cells text) before
+-- Whether the table says of a line that it is mentioned, and nothing that claims it: of a table that holds statements just where
+-- it is undeclared.
+abbrev pub wordsUndeclared : List ℕ → ℕ → Bool
+wordsUndeclared table l = not (eqb (getD table (mentionPlace l) 0) 0) && eqb (getD table (driverPlace l) 0) 0
+
+-- Whether it says so of some line.
+abbrev pub someUndeclared : List ℕ → Bool
+someUndeclared table = someLine (linesWhere (wordsUndeclared table) Size.lines 1)
+
+-- What a reading answers, and leaves in the lent table.
+pub record ReadsAs (o : Read (List Statement)) (before : List ℕ) (verdict : Verdict) (after : List ℕ) : Type 0 where
+  pub answers : verdictRead verdict ≡ doneRead o
+  pub leaves : after ≡ netlistAfter o before
 
 -- "Entry refusals leave lent memory untouched", whatever the library table has in it; behind the entry the text is read against
 -- the cells that the library table holds.
-unfoldable pub ReadsFrom : Read (Unit {0}) → List ℕ → List ℕ → List ℕ → Verdict → List ℕ → Type 0
-ReadsFrom (refused number line) text library before verdict after =
+unfoldable pub ReadsFrom : Rules → Read (Unit {0}) → List ℕ → List ℕ → List ℕ → Verdict → List ℕ → Type 0
+ReadsFrom rules (refused number line) text library before verdict after =
     (verdictRead verdict ≡ refused number line) × (after ≡ before)
-ReadsFrom (read u) text library before verdict after =
-    (cells : List Cell) → LibraryHolds library cells → ReadsLines cells text before verdict after
+ReadsFrom rules (read u) text library before verdict after =
+    (cells : List Cell) → LibraryHolds library cells → ReadsAs (netlist rules cells text) before verdict after
 
 -- What reading a netlist text answers, and leaves in the lent table.
-unfoldable pub ReadsNetlist : List ℕ → List ℕ → List ℕ → Verdict → List ℕ → Type 0
-ReadsNetlist text library before verdict after =
-    ReadsFrom (netlistEntry (length text) (length library) (length before)) text library before verdict after
+unfoldable pub ReadsNetlist : Rules → List ℕ → List ℕ → List ℕ → Verdict → List ℕ → Type 0
+ReadsNetlist rules text library before verdict after =
+    ReadsFrom rules (netlistEntry (length text) (length library) (length before)) text library before verdict after

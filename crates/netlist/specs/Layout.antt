@@ -9,15 +9,15 @@ use Rattle.sizes.specs.Sizes as Size
 use Rattle.table.specs.Blocks.{fitted, blocks}
 use Rattle.reading.specs.Choice.{pick}
 use Rattle.reading.specs.Refusal.{Read, refused, read}
-use Rattle.netlist.specs.Netlist.{Gate, Statement, isInput, isOutput, driven, mentioned, gatesOf}
+use Rattle.netlist.specs.Netlist.{Gate, Statement, isInput, isOutput, isOpen, claimed, mentioned, gatesOf}
 
 -- A gate: its cell, its line, and the lines of its pins, 0 after the last.
 unfoldable pub gateWords : Gate → List ℕ
 gateWords g = g .cell ∷ (g .line ∷ fitted 0 Size.pins (g .pins))
 
--- What drives a line: 0 nothing, 1 an input, 2 a gate.
+-- What drives a line: 0 nothing, 1 an input, 2 a gate, 3 nothing, and it is declared open.
 unfoldable pub driverWord : List Statement → ℕ → ℕ
-driverWord ss l = pick (isInput l ss) 1 (pick (driven l ss) 2 0)
+driverWord ss l = pick (isInput l ss) 1 (pick (isOpen l ss) 3 (pick (claimed l ss) 2 0))
 
 unfoldable pub outputWord : List Statement → ℕ → ℕ
 outputWord ss l = pick (isOutput l ss) 1 0

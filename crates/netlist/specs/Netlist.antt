@@ -1,6 +1,6 @@
 -- The netlist: its statements, and where a text of them stops. Document 01, "Netlist" and "Where a text stops", netlist line.
 -- Assumes nothing.
-use mathlib.Core.Bool.{Bool, false, not, _&&_, _||_}
+use mathlib.Core.Bool.{Bool, true, false, not, _&&_, _||_}
 use mathlib.Core.List.{List, [], _∷_, _++_, flatMap}
 use mathlib.Core.Option.{Option, none, some}
 use Prim.Native.Nat.{ℕ, zero, suc}
@@ -15,6 +15,8 @@ use Rattle.reading.specs.Numbers as No
 use Rattle.reading.specs.Refusal.{Read, read, _>>=_, _>>_, weigh, form, refusal-open}
 use Rattle.cell_library.specs.Cells.{Cell}
 use Rattle.cell_library.specs.Library.{Fields, cellNamed, library-open}
+use Rattle.netlist.specs.declared.Rules.{Rules}
+use Rattle.netlist.specs.declared.Rules.the-variants.{Old, New}
 
 -- A gate: its cell by its place in the library, from 0, the line that it drives, and the lines that its pins read, in
 -- order. A cell that the library does not have is the count of its cells, so that 12 is one test for texts and records.
@@ -23,23 +25,34 @@ pub record Gate : Type 0 where
   pub line : ℕ
   pub pins : List ℕ
 
--- The two marks of a line, `input,L` and `output,L`.
+-- The marks of a line, `input,L`, `output,L` and, of document 02, K5, `open,L`.
 pub data Mark : Type 0 where
   input : Mark
   output : Mark
+  opened : Mark
 
 -- "`input,L`, `output,L`, `gate,NAME,L,P1,..,Pn`. L is the line marked or driven, P1.. the lines read by the pins in order."
 pub data Statement : Type 0 where
   mark : Mark → (line : ℕ) → Statement
   gate : Gate → Statement
 
--- "kind (0 input, 1 output, 2 gate)"
+-- "kind (0 input, 1 output, 2 gate)"; "In record lists, kind 3 is open." (K5)
 abbrev pub kindOf : Mark → ℕ
 kindOf input = 0
 kindOf output = 1
+kindOf opened = 3
 
 abbrev pub gateKind : ℕ
 gateKind = 2
+
+-- The last kind that is known.
+abbrev pub lastKind : ℕ
+lastKind = 3
+
+-- By the old rules, "those in force just before" K5, nothing declares a line open; by the new ones `open,L` does.
+abbrev pub declaring : Rules → Bool
+declaring Old = false
+declaring New = true
 
 -- ---- form (10)
 
@@ -73,12 +86,13 @@ unfoldable pub gateOf : List Cell → Fields → Option Statement
 gateOf cells [] = none
 gateOf cells (name ∷ fs) = pick (nameForm name) (drivenBy (cellNamed name cells) (decimals fs)) none
 
-unfoldable pub statementOf : List Cell → Fields → Option Statement
-statementOf cells [] = none
-statementOf cells (f ∷ fs) =
+unfoldable pub statementOf : Rules → List Cell → Fields → Option Statement
+statementOf rules cells [] = none
+statementOf rules cells (f ∷ fs) =
     pick (sameBytes f (bytes "input")) (markOf input (lone fs))
     (pick (sameBytes f (bytes "output")) (markOf output (lone fs))
-    (pick (sameBytes f (bytes "gate")) (gateOf cells fs) none))
+    (pick (sameBytes f (bytes "gate")) (gateOf cells fs)
+    (pick (declaring rules && sameBytes f (bytes "open")) (markOf opened (lone fs)) none)))
 
 -- ---- what one statement says
 
@@ -92,11 +106,19 @@ unfoldable pub linesMarked : Mark → Statement → List ℕ
 linesMarked m (mark k l) = pick (eqb (kindOf m) (kindOf k)) (l ∷ []) []
 linesMarked m (gate g) = []
 
--- The line that it drives, if any: "driven .. (input or gate)".
-unfoldable pub linesDriven : Statement → List ℕ
-linesDriven (mark input l) = l ∷ []
-linesDriven (mark output l) = []
-linesDriven (gate g) = g .line ∷ []
+-- The line that it claims, if any: that it drives, "driven .. (input or gate)", or declares open.
+unfoldable pub linesClaimed : Statement → List ℕ
+linesClaimed (mark input l) = l ∷ []
+linesClaimed (mark output l) = []
+linesClaimed (mark opened l) = l ∷ []
+linesClaimed (gate g) = g .line ∷ []
+
+-- The lines that it asks a driver or `open,L` for: "a line that a pin reads or an output marks".
+unfoldable pub linesNeeded : Statement → List ℕ
+linesNeeded (mark input l) = []
+linesNeeded (mark output l) = l ∷ []
+linesNeeded (mark opened l) = []
+linesNeeded (gate g) = g .pins
 
 unfoldable pub gatesIn : Statement → List Gate
 gatesIn (mark m l) = []
@@ -110,8 +132,11 @@ mentionedLines ss = flatMap linesOf ss
 unfoldable pub markedLines : Mark → List Statement → List ℕ
 markedLines m ss = flatMap (linesMarked m) ss
 
-unfoldable pub drivenLines : List Statement → List ℕ
-drivenLines ss = flatMap linesDriven ss
+unfoldable pub claimedLines : List Statement → List ℕ
+claimedLines ss = flatMap linesClaimed ss
+
+unfoldable pub neededLines : List Statement → List ℕ
+neededLines ss = flatMap linesNeeded ss
 
 unfoldable pub gatesOf : List Statement → List Gate
 gatesOf ss = flatMap gatesIn ss
@@ -120,7 +145,8 @@ unfoldable pub member : ℕ → List ℕ → Bool
 member l [] = false
 member l (k ∷ ks) = eqb k l || member l ks
 
--- A line that stands anywhere in the netlist; a line marked so, an input, an output line; a line driven by an input or a gate.
+-- A line that stands anywhere in the netlist; a line marked so, an input, an output, an open line; a line driven by an input or
+-- a gate, or declared open.
 unfoldable pub mentioned : ℕ → List Statement → Bool
 mentioned l ss = member l (mentionedLines ss)
 
@@ -133,8 +159,11 @@ isInput l ss = isMarked input l ss
 abbrev pub isOutput : ℕ → List Statement → Bool
 isOutput l ss = isMarked output l ss
 
-unfoldable pub driven : ℕ → List Statement → Bool
-driven l ss = member l (drivenLines ss)
+abbrev pub isOpen : ℕ → List Statement → Bool
+isOpen l ss = isMarked opened l ss
+
+unfoldable pub claimed : ℕ → List Statement → Bool
+claimed l ss = member l (claimedLines ss)
 
 -- ---- refusals 11 to 15, of a statement after those before it
 
@@ -167,9 +196,10 @@ unfoldable pub anyMember : List ℕ → List ℕ → Bool
 anyMember [] ls = false
 anyMember (k ∷ ks) ls = member k ls || anyMember ks ls
 
--- "14 line driven before (input or gate)"
+-- "14 line driven before (input or gate)"; "A later input, gate or open line for a declared line is refused as 14, and so is an
+-- open line for a driven one." (K5)
 unfoldable pub drivenBefore : List Statement → Statement → Bool
-drivenBefore ss s = anyMember (linesDriven s) (drivenLines ss)
+drivenBefore ss s = anyMember (linesClaimed s) (claimedLines ss)
 
 -- "15 line marked output before"
 unfoldable pub markedBefore : List Statement → Statement → Bool
@@ -196,19 +226,49 @@ admitted line cells ss (w ∷ ws) = do
   admit line cells ss s
   admitted (suc line) cells (ss ++ (s ∷ [])) ws
 
-unfoldable pub lineForm : List Cell → Option Fields → Option Statement
-lineForm cells none = none
-lineForm cells (some fs) = statementOf cells fs
+unfoldable pub lineForm : Rules → List Cell → Option Fields → Option Statement
+lineForm rules cells none = none
+lineForm rules cells (some fs) = statementOf rules cells fs
 
-unfoldable pub lineForms : List Cell → List (Option Fields) → List (Option Statement)
-lineForms cells [] = []
-lineForms cells (l ∷ ls) = lineForm cells l ∷ lineForms cells ls
+unfoldable pub lineForms : Rules → List Cell → List (Option Fields) → List (Option Statement)
+lineForms rules cells [] = []
+lineForms rules cells (l ∷ ls) = lineForm rules cells l ∷ lineForms rules cells ls
 
 -- "Lines count from 1 in each text."
-unfoldable pub netlist : List Cell → List ℕ → Read (List Statement)
-netlist cells t = admitted 1 cells [] (lineForms cells (lines t))
+unfoldable pub textStatements : Rules → List Cell → List ℕ → Read (List Statement)
+textStatements rules cells t = admitted 1 cells [] (lineForms rules cells (lines t))
+
+-- ---- refusal 20, of all statements
+
+-- "a line read or marked but neither driven nor open"
+unfoldable pub undeclared : List Statement → ℕ → Bool
+undeclared ss l = member l (neededLines ss) && not (claimed l ss)
+
+-- Of so many lines from `first` on those for which a test holds, ascending.
+unfoldable pub linesWhere : (ℕ → Bool) → ℕ → ℕ → List ℕ
+linesWhere p zero first = []
+linesWhere p (suc n) first = pick (p first) (first ∷ linesWhere p n (suc first)) (linesWhere p n (suc first))
+
+unfoldable pub undeclaredLines : List Statement → List ℕ
+undeclaredLines ss = linesWhere (undeclared ss) Size.lines 1
+
+unfoldable pub someLine : List ℕ → Bool
+someLine [] = false
+someLine (l ∷ ls) = true
+
+-- The number of the new rules alone; no caller has them in force yet.
+abbrev pub undeclaredNumber : ℕ
+undeclaredNumber = 20
+
+-- "Refused: 20 for a line read or marked but neither driven nor open, at line 0, after all netlist lines and before 17." By the
+-- old rules there is no 20.
+unfoldable pub declared : Rules → List Statement → Read (List Statement)
+declared rules ss = weigh 0 ((undeclaredNumber, declaring rules && someLine (undeclaredLines ss)) ∷ []) >> read ss
+
+unfoldable pub netlist : Rules → List Cell → List ℕ → Read (List Statement)
+netlist rules cells t = textStatements rules cells t >>= declared rules
 
 -- Opens the page's definitions, where a figure computes with them.
 unfoldable pub netlist-open : ℕ
-unfolding bytes-open lines-open numeral-open refusal-open library-open flatMap with decimals lone markOf drivenBy gateOf statementOf linesOf linesMarked linesDriven gatesIn mentionedLines markedLines drivenLines gatesOf member mentioned isMarked driven lineBad anyLineBad unknownCell pinsAt countDiffers anyMember drivenBefore markedBefore causes admit admitted lineForm lineForms netlist
+unfolding bytes-open lines-open numeral-open refusal-open library-open flatMap with decimals lone markOf drivenBy gateOf statementOf linesOf linesMarked linesClaimed linesNeeded gatesIn mentionedLines markedLines claimedLines neededLines gatesOf member mentioned isMarked claimed lineBad anyLineBad unknownCell pinsAt countDiffers anyMember drivenBefore markedBefore causes admit admitted lineForm lineForms textStatements undeclared linesWhere undeclaredLines someLine declared netlist
 netlist-open = 0

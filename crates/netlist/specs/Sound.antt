@@ -9,7 +9,7 @@ use lib.ListN.{length}
 use Rattle.sizes.specs.Sizes as Size
 use Rattle.reading.specs.Each.{Each}
 use Rattle.cell_library.specs.Cells.{Cell}
-use Rattle.netlist.specs.Netlist.{Gate, Statement, output, member, linesOf, gatesOf, drivenLines, markedLines, pinsAt}
+use Rattle.netlist.specs.Netlist.{Gate, Statement, output, member, linesOf, gatesOf, claimedLines, markedLines, pinsAt}
 
 -- "Line numbers run from 1 to 1,000."
 unfoldable pub InRange : ℕ → Type 0
@@ -34,8 +34,8 @@ pub record Sound (cells : List Cell) (ss : List Statement) : Type 0 where
   pub lines : Each LinesInRange ss
   pub gates : Each (GateSound cells) (gatesOf ss)
   pub few : length (gatesOf ss) ≤ Size.gates
-  -- each line is driven at most once, and marked output at most once
-  pub driven : Apart (drivenLines ss)
+  -- each line is driven or declared open at most once, and marked output at most once
+  pub claimed : Apart (claimedLines ss)
   pub marked : Apart (markedLines output ss)
 
 -- The lines that gates drive are pairwise different.

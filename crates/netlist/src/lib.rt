@@ -17,8 +17,9 @@ ghost use Rattle.reading.specs.Verdict.{verdictRead};
 ghost use Rattle.cell_library.specs.Cells.{Cell};
 ghost use Rattle.cell_library.specs.Layout.{LibraryHolds};
 ghost use Rattle.netlist.specs.Lowest.{lowest};
-ghost use Rattle.netlist.specs.Netlist.{Gate, Mark, Statement, mark, gate, kindOf, lone, markOf, gateOf, statementOf, decimals, lineBad};
-ghost use Rattle.netlist.specs.Admitting.{PinsRead, IsMark, IsGate, StandsFor, gateCause, Admits, markPlace, markNumber, mentionAll, gateStored, oneMore, gateAdded, netlistEntry, ReadsLines, ReadsNetlist};
+ghost use Rattle.netlist.specs.Netlist.{Gate, Mark, Statement, mark, gate, kindOf, declaring, lone, markOf, gateOf, statementOf, decimals, lineBad, textStatements, declared, netlist};
+ghost use Rattle.netlist.specs.Layout.{NetlistHolds};
+ghost use Rattle.netlist.specs.Admitting.{PinsRead, IsMark, IsGate, StandsFor, gateCause, Admits, markPlace, markNumber, markValue, mentionAll, gateStored, oneMore, gateAdded, netlistEntry, wordsUndeclared, someUndeclared, ReadsAs, ReadsNetlist};
 use cell_library::cells::count;
 use cell_library::cells::find;
 use cell_library::cells::pins_of;
@@ -35,12 +36,33 @@ use text::is_name;
 use text::line;
 use text::same;
 
-// "kind (0 input, 1 output, 2 gate)"
+// "kind (0 input, 1 output, 2 gate)", and 3 open (K5)
 const INPUT: u32 = 0;
 
 const OUTPUT: u32 = 1;
 
 const GATE: u32 = 2;
+
+const OPEN: u32 = 3;
+
+// The number of the new rules for a line that nothing declares.
+const UNDECLARED: u32 = 20;
+
+// Which rules are in force: the old ones, by which nothing declares a line open, or the new ones (K5).
+pub enum Rules {
+    Old,
+    New,
+}
+
+// Whether `open,L` is a statement.
+fn declaring(rules: Rules) -> bool
+    ensures { λ r. ⌜ r ≡ declaring rules ⌝ }
+{
+    match rules {
+        Rules::Old => false,
+        Rules::New => true,
+    }
+}
 
 // One statement over plain numbers, not checked yet: whether it has good form, its kind, its cell's place
 // in the library, its line, the lines of as many pins as a gate has at most, 0 after the last, how many
@@ -119,10 +141,10 @@ fn put_gate(table: &mut [u32], g: u32, cell: u32, line: u32, pins: [u32; sizes::
 
 // ---- checking and admitting one statement
 
-// Checks a mark, of which the table has a word at a place and of which a second is refused by a number,
-// and admits it.
-fn admit_mark(table: &mut [u32], at: usize, second: u32, l: u32) -> u32
-    ensures { λ r. ⌜ ((cells : List Cell) (m : Mark) → at ≡ markPlace m l → second ≡ markNumber m
+// Checks a mark, of which the table has a value at a place, 0 where nothing stands against it, and of which
+// a second is refused by a number, and admits it.
+fn admit_mark(table: &mut [u32], at: usize, value: u32, second: u32, l: u32) -> u32
+    ensures { λ r. ⌜ ((cells : List Cell) (m : Mark) → at ≡ markPlace m l → value ≡ markValue m → second ≡ markNumber m
         → Admits cells (some (mark m l)) (now (table .entry)) r (now (table .exit))) ⌝ }
 {
     if line_bad(l) {
@@ -131,7 +153,7 @@ fn admit_mark(table: &mut [u32], at: usize, second: u32, l: u32) -> u32
     if word(table, at) != 0 {
         return second;
     }
-    put(table, at, 1);
+    put(table, at, value);
     mention(table, l);
     0
 }
@@ -214,15 +236,19 @@ pub fn admit(table: &mut [u32], library: &[u32], s: RawStatement) -> u32
     let kind = s.kind;
     let l = s.line;
     if kind == INPUT {
-        return admit_mark(table, l as usize, reading::DRIVEN_BEFORE, l);
+        return admit_mark(table, l as usize, 1, reading::DRIVEN_BEFORE, l);
     }
     if kind == OUTPUT {
         return admit_mark(
             table,
             sizes::OUTPUTS_AT + l as usize,
+            1,
             reading::MARKED_BEFORE,
             l,
         );
+    }
+    if kind == OPEN {
+        return admit_mark(table, l as usize, 3, reading::DRIVEN_BEFORE, l);
     }
     if kind == GATE {
         return admit_gate(table, library, s);
@@ -348,9 +374,9 @@ fn gate_from(line: &[u8], at: usize, library: &[u32]) -> RawStatement
     }
 }
 
-fn statement_of(line: &[u8], library: &[u32]) -> RawStatement
+fn statement_of(rules: Rules, line: &[u8], library: &[u32]) -> RawStatement
     ensures { λ r. ⌜ ((cells : List Cell) → LibraryHolds (now (library .entry)) cells
-        → StandsFor r (statementOf cells (fields (now (line .entry))))) ⌝ }
+        → StandsFor r (statementOf rules cells (fields (now (line .entry))))) ⌝ }
 {
     let f = field(line, 0);
     let at = after(line, 0, f);
@@ -363,14 +389,18 @@ fn statement_of(line: &[u8], library: &[u32]) -> RawStatement
     if same(f, b"gate") {
         return gate_from(line, at, library);
     }
+    let opens = declaring(rules) & same(f, b"open");
+    if opens {
+        return mark_from(line, at, OPEN);
+    }
     malformed()
 }
 
-fn read_line(line: &[u8], library: &[u32], table: &mut [u32]) -> u32
+fn read_line(rules: Rules, line: &[u8], library: &[u32], table: &mut [u32]) -> u32
     ensures { λ r. ⌜ ((cells : List Cell) → LibraryHolds (now (library .entry)) cells
-        → Admits cells (statementOf cells (fields (now (line .entry)))) (now (table .entry)) r (now (table .exit))) ⌝ }
+        → Admits cells (statementOf rules cells (fields (now (line .entry)))) (now (table .entry)) r (now (table .exit))) ⌝ }
 {
-    let s = statement_of(line, library);
+    let s = statement_of(rules, line, library);
     admit(table, library, s)
 }
 
@@ -388,10 +418,10 @@ fn refusal(table: &mut [u32], number: u32, line: usize) -> Verdict
 }
 
 // Reads the lines of a text against the cells of a library table.
-fn read_lines(text: &[u8], library: &[u32], table: &mut [u32]) -> Verdict
+fn read_lines(rules: Rules, text: &[u8], library: &[u32], table: &mut [u32]) -> Verdict
     requires { ⌜ (length (now text) ≤ Size.textBytes) × (Size.netlist ≤ length (now table)) ⌝ }
     ensures { λ r. ⌜ ((cells : List Cell) → LibraryHolds (now (library .entry)) cells
-        → ReadsLines cells (now (text .entry)) (now (table .entry)) r (now (table .exit))) ⌝ }
+        → ReadsAs (textStatements rules cells (now (text .entry))) (now (table .entry)) r (now (table .exit))) ⌝ }
 {
     clear(table, sizes::NETLIST);
     let n = text.len();
@@ -403,7 +433,7 @@ fn read_lines(text: &[u8], library: &[u32], table: &mut [u32]) -> Verdict
         if n < end {
             return refusal(table, reading::NETLIST_FORM, number);
         }
-        let cause = read_line(l, library, table);
+        let cause = read_line(rules, l, library, table);
         if cause != 0 {
             return refusal(table, cause, number);
         }
@@ -411,6 +441,55 @@ fn read_lines(text: &[u8], library: &[u32], table: &mut [u32]) -> Verdict
         number += 1;
     }
     Verdict::Accepted
+}
+
+// Whether a line is mentioned, and neither driven nor open.
+pub fn undeclared(table: &[u32], l: usize) -> bool
+    requires { ⌜ l ≤ Size.lines ⌝ }
+    ensures { λ r. ⌜ r ≡ wordsUndeclared (now (table .entry)) l ⌝ }
+{
+    let mentioned = word(table, sizes::MENTIONS_AT + l) != 0;
+    let unclaimed = word(table, l) == 0;
+    mentioned & unclaimed
+}
+
+// Whether some line is.
+pub fn some_undeclared(table: &[u32]) -> bool
+    ensures { λ r. ⌜ r ≡ someUndeclared (now (table .entry)) ⌝ }
+{
+    let mut l = 1;
+    while l <= sizes::LINES {
+        if undeclared(table, l) {
+            return true;
+        }
+        l += 1;
+    }
+    false
+}
+
+// What comes behind the lines of a text: the new rules ask that each line read or marked is driven or open.
+fn declare(rules: Rules, table: &mut [u32]) -> Verdict
+    ensures { λ r. ⌜ ((ss : List Statement) → NetlistHolds (now (table .entry)) ss
+        → ReadsAs (declared rules ss) (now (table .entry)) r (now (table .exit))) ⌝ }
+{
+    let asked = declaring(rules) & some_undeclared(table);
+    if asked {
+        return refusal(table, UNDECLARED, 0);
+    }
+    Verdict::Accepted
+}
+
+// The lines of a text, and what comes behind them.
+fn read_all(rules: Rules, text: &[u8], library: &[u32], table: &mut [u32]) -> Verdict
+    requires { ⌜ (length (now text) ≤ Size.textBytes) × (Size.netlist ≤ length (now table)) ⌝ }
+    ensures { λ r. ⌜ ((cells : List Cell) → LibraryHolds (now (library .entry)) cells
+        → ReadsAs (netlist rules cells (now (text .entry))) (now (table .entry)) r (now (table .exit))) ⌝ }
+{
+    let lines = read_lines(rules, text, library, table);
+    match lines {
+        Verdict::Refused(_) => lines,
+        Verdict::Accepted => declare(rules, table),
+    }
 }
 
 // The entry's two checks, by lengths.
@@ -436,13 +515,13 @@ fn entry(text: usize, library: usize, table: usize) -> Verdict
 
 // Reads a netlist text against the cells of a library table, into a table. A refusal at entry leaves the
 // table as it was, a later one leaves it zero.
-pub fn read_netlist(text: &[u8], library: &[u32], table: &mut [u32]) -> Verdict
-    ensures { λ r. ⌜ ReadsNetlist (now (text .entry)) (now (library .entry)) (now (table .entry)) r
+pub fn read_netlist(rules: Rules, text: &[u8], library: &[u32], table: &mut [u32]) -> Verdict
+    ensures { λ r. ⌜ ReadsNetlist rules (now (text .entry)) (now (library .entry)) (now (table .entry)) r
         (now (table .exit)) ⌝ }
 {
     let entered = entry(text.len(), library.len(), table.len());
     match entered {
         Verdict::Refused(_) => entered,
-        Verdict::Accepted => read_lines(text, library, table),
+        Verdict::Accepted => read_all(rules, text, library, table),
     }
 }

@@ -12,6 +12,7 @@ use Rattle.reading.proofs.Bounds.{Within, anyNumber, within-bind, within-then, 
 use Rattle.reading.proofs.Laws.{refused-read}
 use Rattle.cell_library.specs.Library.{library}
 use Rattle.cell_library.proofs.Bounds.{library-within}
+use Rattle.netlist.specs.declared.Rules.the-variants.{Old}
 use Rattle.netlist.specs.Netlist.{netlist}
 use Rattle.netlist.proofs.Bounds.{netlist-within}
 use Rattle.outcome.specs.Outcome.{Lent, Accepted, conclude, reading, entry, outcome, answer, givenTexts}
@@ -30,7 +31,7 @@ module _ (lib net : List ℕ) (m : Lent) where
   unfolding reading givenTexts conclude
   behind p q space =
       within-bind anyNumber lastLine (library lib) _ (within-any lastLine (library lib) (library-within lastLine lib (omega arith)))
-      (λ cells. within-bind anyNumber lastLine (netlist cells net) _ (within-any lastLine (netlist cells net) (netlist-within lastLine cells net (omega arith)))
+      (λ cells. within-bind anyNumber lastLine (netlist Old cells net) _ (within-any lastLine (netlist Old cells net) (netlist-within lastLine Old cells net (omega arith)))
       (λ ss. within-then anyNumber lastLine (weigh 0 _) _ (within-weigh anyNumber lastLine 0 _ (omega arith) refl) tt))
 
   from-entry : (e : Read (Unit {0})) → entry (givenTexts lib net) m ≡ e → Within anyNumber lastLine (e >> reading (givenTexts lib net) (length (m .report)))

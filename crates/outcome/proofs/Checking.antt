@@ -10,6 +10,7 @@ use lib.ListN.{length}
 use Rattle.reading.specs.Refusal.{refused, read}
 use Rattle.reading.proofs.Bounds.{Within, textNumber}
 use Rattle.cell_library.specs.Cells.{Cell}
+use Rattle.netlist.specs.declared.Rules.the-variants.{Old}
 use Rattle.netlist.specs.Netlist.{Statement}
 use Rattle.netlist.specs.Sound.{Sound}
 use Rattle.netlist.proofs.Bounds.{netlist-within}
@@ -24,6 +25,6 @@ pub texts-checked : (lib net : List ℕ) → Checked (givenTexts lib net)
 unfolding givenTexts
 texts-checked lib net =
     record {
-      sound = λ cells ss e. netlist-sound cells net ss e;
-      numbered = λ cells number line e. subst (Within textNumber _) e (netlist-within (length net + 1) cells net (omega arith)) .0;
+      sound = λ cells ss e. netlist-sound cells Old net ss e;
+      numbered = λ cells number line e. subst (Within textNumber _) e (netlist-within (length net + 1) Old cells net (omega arith)) .0;
     }

@@ -12,6 +12,7 @@ use Rattle.reading.specs.Refusal.{Read, refused, read, _>>=_, _>>_, weigh}
 use Rattle.cell_library.specs.Cells.{Cell}
 use Rattle.cell_library.specs.Library.{library}
 use Rattle.cell_library.specs.Layout.{libraryWords}
+use Rattle.netlist.specs.declared.Rules.the-variants.{Old}
 use Rattle.netlist.specs.Netlist.{Statement, mentioned, netlist}
 use Rattle.netlist.specs.Layout.{netlistWords}
 use Rattle.calculation.specs.Calculation.{Analysed, analysed}
@@ -47,7 +48,7 @@ pub record Given : Type 0 where
 -- Two texts.
 unfoldable pub givenTexts : List ℕ → List ℕ → Given
 givenTexts lib net =
-    record { library = lib; statements = λ cells. netlist cells net; long = textLong lib || textLong net }
+    record { library = lib; statements = λ cells. netlist Old cells net; long = textLong lib || textLong net }
 
 -- The two checks of the entry, at line 0.
 unfoldable pub entry : Given → Lent → Read (Unit {0})

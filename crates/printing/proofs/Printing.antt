@@ -18,6 +18,7 @@ use Rattle.reading.proofs.Laws.{refused-read, then-read}
 use Rattle.text.specs.Bytes.{bytes}
 use Rattle.cell_library.specs.Cells.{Cell}
 use Rattle.cell_library.specs.Library.{library}
+use Rattle.netlist.specs.declared.Rules.the-variants.{Old}
 use Rattle.netlist.specs.Netlist.{Statement, mentioned, netlist}
 use Rattle.calculation.specs.Calculation.{analysed}
 use Rattle.writer.specs.Decimal.{decimalBytes}
@@ -86,7 +87,7 @@ module _ (lib net before : List ℕ) where
       rw tables-long
       (reports-then (weigh 0 ((No.textLong, O.textLong lib || O.textLong net) ∷ [])) _ _
       (reports-bind (library lib) _ _
-      (λ cells. reports-bind (netlist cells net) _ _
+      (λ cells. reports-bind (netlist Old cells net) _ _
       (λ ss. always-reported cells ss (length before) room))))
 
   filled-by : (a : O.Accepted) → O.outcome given lent ≡ read a → O.left given lent .report ≡ a .report ++ drop (length (a .report)) before

@@ -15,7 +15,9 @@ use Rattle.text.specs.Lines.{lines}
 use Rattle.reading.specs.Refusal.{Read, refused, read, _>>=_, _>>_, weigh}
 use Rattle.cell_library.specs.Cells.{Cell}
 use Rattle.cell_library.specs.Library.{library}
-use Rattle.netlist.specs.Netlist.{Statement, admitted, lineForms, netlist, netlist-open}
+use Rattle.netlist.specs.declared.Rules.the-variants.{Old}
+use Rattle.netlist.specs.Netlist.{Statement, admitted, lineForms, textStatements, netlist, netlist-open}
+use Rattle.netlist.proofs.Opening.{old-declares}
 use Rattle.outcome.specs.Demands.{Promised}
 use Rattle.outcome.specs.declared.Summary.{Summary}
 use Rattle.outcome.specs.Outcome.{Lent, givenTexts, textLong, tableShort, conclude, reading, entry, outcome, answer, left, leftFrom}
@@ -26,14 +28,14 @@ use Rattle.records.specs.Outcome.{givenRecords}
 -- Against the cells of the library, each record says what the line at its place says. A line of bad form is said by a record
 -- of bad form, so that refused lists are tied too.
 unfoldable pub SaySame : List ℕ → List ℕ → List Record → Type 0
-SaySame lib net rs = (cells : List Cell) → library lib ≡ read cells → recordForms rs ≡ lineForms cells (lines net)
+SaySame lib net rs = (cells : List Cell) → library lib ≡ read cells → recordForms rs ≡ lineForms Old cells (lines net)
 
 module _ (lib net : List ℕ) (rs : List Record) (same : SaySame lib net rs) where
-  same-statements : (cells : List Cell) → library lib ≡ read cells → fromRecords rs cells ≡ netlist cells net
-  unfolding SaySame fromRecords netlist
-  same-statements cells e = ap (admitted 1 cells []) (same cells e)
+  same-statements : (cells : List Cell) → library lib ≡ read cells → fromRecords rs cells ≡ netlist Old cells net
+  unfolding SaySame fromRecords netlist textStatements
+  same-statements cells e = ap (admitted 1 cells []) (same cells e) ∙ sym (old-declares (admitted 1 cells [] (lineForms Old cells (lines net))))
 
-  by-library : (space : ℕ) (o : Read (List Cell)) → library lib ≡ o → (o >>= λ cells. fromRecords rs cells >>= λ ss. conclude cells ss space) ≡ (o >>= λ cells. netlist cells net >>= λ ss. conclude cells ss space)
+  by-library : (space : ℕ) (o : Read (List Cell)) → library lib ≡ o → (o >>= λ cells. fromRecords rs cells >>= λ ss. conclude cells ss space) ≡ (o >>= λ cells. netlist Old cells net >>= λ ss. conclude cells ss space)
   unfolding _>>=_
   by-library space (refused n l) e = refl
   by-library space (read cells) e = ap (λ (r : Read (List Statement)). r >>= λ ss. conclude cells ss space) (same-statements cells e)

@@ -13,7 +13,7 @@ use Rattle.plans.specs.System.{Visit}
 use Rattle.reading.specs.Choice.{pick}
 use Rattle.cell_library.specs.Cells.{Cell}
 use Rattle.cell_library.specs.Layout.{libraryWords}
-use Rattle.netlist.specs.Netlist.{Gate, Statement, gatesOf, isInput, isOutput, driven}
+use Rattle.netlist.specs.Netlist.{Gate, Statement, gatesOf, isInput, isOutput, isOpen, claimed}
 use Rattle.netlist.specs.Layout.{netlistWords, driverWord, outputWord}
 use Rattle.netlist.proofs.Places.{netlist-count, driver-word, output-word}
 use Rattle.calculation.specs.Nodes.{Kind, kindNumber}
@@ -129,11 +129,12 @@ module _ (cells : List Cell) (ss : List Statement) (sound : BothSound cells ss) 
 
   -- ---- the start
 
-  driver-price : (a b : Bool) (x : ℕ) → startNumber (pick a 1 (pick b 2 0)) x ≡ pick a x never
+  driver-price : (a b c : Bool) (x : ℕ) → startNumber (pick a 1 (pick b 3 (pick c 2 0))) x ≡ pick a x never
   unfolding startNumber pick
-  driver-price true b x = refl
-  driver-price false true x = refl
-  driver-price false false x = refl
+  driver-price true b c x = refl
+  driver-price false true c x = refl
+  driver-price false false true x = refl
+  driver-price false false false x = refl
 
   output-price : (a : Bool) (x : ℕ) → startNumber (pick a 1 0) x ≡ pick a x never
   unfolding startNumber pick
@@ -146,8 +147,8 @@ module _ (cells : List Cell) (ss : List Statement) (sound : BothSound cells ss) 
       rw (
         driver-word ss past l b h,
         output-word ss past l b h,
-        driver-price (isInput l ss) (driven l ss) 1,
-        driver-price (isInput l ss) (driven l ss) 0,
+        driver-price (isInput l ss) (isOpen l ss) (claimed l ss) 1,
+        driver-price (isInput l ss) (isOpen l ss) (claimed l ss) 0,
         output-price (isOutput l ss) 0,
       )
 

@@ -6,6 +6,7 @@ use Prim.Native.Nat.{ℕ}
 use lib.ListN.{set}
 use Rattle.sizes.specs.Places.{mentionPlace}
 use Rattle.netlist.specs.Netlist.{lineBad}
+use Rattle.netlist.specs.Admitting.{markPlace}
 use Rattle.netlist.proofs.Outcomes.{mark-bad, mark-second, mark-admitted}
 use borrow.Author.Needs.{needs}
 use Rattle.netlist.proofs.admit_mark.Statement.{statement}
@@ -26,15 +27,15 @@ good : (c : tie.Else1) → lineBad (begun c .args .l) ≡ false
 good c = sym (c .before .line-bad .ensures) ∙ c .if1 .left
 
 returns : tie.Need-returns
-returns c cells m place second ss so h = mark-bad cells h m _ (sym (c .before .line-bad .ensures) ∙ c .if1 .taken)
+returns c cells m place value second ss so h = mark-bad cells h m _ (sym (c .before .line-bad .ensures) ∙ c .if1 .taken)
 
 returns-2 : tie.Need-returns-2
-returns-2 c cells m place second ss so h =
+returns-2 c cells m place value second ss so h =
     rw second
     (mark-second cells h m _ (good (in-range (c .before))) (λ e. c .if2 .taken (c .before .word .ensures ∙ rw place e)))
 
 returns-3 : tie.Need-returns-3
-returns-3 c cells m place second ss so h =
+returns-3 c cells m place value second ss so h =
     let last = c .before .before in
     let put = stored last in
     let free = put .before .before in
@@ -48,7 +49,7 @@ returns-3 c cells m place second ss so h =
       leaves =
           last .mention .ensures
           ∙ ap (λ (t : List ℕ). set t (mentionPlace (a .l)) 1)
-          (put .put .ensures ∙ ap (λ (i : ℕ). set (a .table .now) i 1) place)
+          (put .put .ensures ∙ ap (λ (i : ℕ). set (a .table .now) i (a .value)) place ∙ ap (set (a .table .now) (markPlace m (a .l))) value)
           ∙ done .leaves;
     }
 

@@ -31,14 +31,14 @@ use Rattle.netlist.proofs.read_lines.Statement.{statement}
 use Rattle.netlist.proofs.read_lines.Tie as tie
 
 abbrev Inv-loop : tie.InvT-loop
-Inv-loop text library table₀ n at₀ number₀ table at number =
+Inv-loop rules text library table₀ n at₀ number₀ table at number =
     (at ≤ length text)
     × (number ≤ at + 1)
     × (length table ≡ length table₀)
-    × ((cells : List Cell) → LibraryHolds library cells → Reading cells text at number table (drop Size.netlist table₀))
+    × ((cells : List Cell) → LibraryHolds library cells → Reading rules cells text at number table (drop Size.netlist table₀))
 
 abbrev μ-loop : tie.MeasureT-loop
-μ-loop text library table₀ n at₀ number₀ table at number = length text - at
+μ-loop rules text library table₀ n at₀ number₀ table at number = length text - at
 
 -- ---- the places of the code that the answers speak of
 
@@ -88,8 +88,8 @@ decided : (c : tie.After-read-line Inv-loop μ-loop) (cells : List Cell)
     → let w = walking (ended c .before) in
     (lib : LibraryHolds (begun (cleared w) .args .library .now) cells)
     → let so-far = w .loop .inv .3 cells lib in
-    Decided cells (so-far .statements) (statementOf cells (fields (part 10 (text w) (w .loop .at))))
-    (drop Size.netlist (cleared w .clear .last .0)) (c .read-line .result) (c .read-line .last .1 .1 .0)
+    Decided cells (so-far .statements) (statementOf (begun (cleared w) .args .rules) cells (fields (part 10 (text w) (w .loop .at))))
+    (drop Size.netlist (cleared w .clear .last .0)) (c .read-line .result) (c .read-line .last .1 .1 .1 .0)
 decided c cells lib =
     let w = walking (ended c .before) in
     let so-far = w .loop .inv .3 cells lib in
@@ -103,7 +103,7 @@ loop-holds c =
       omega arith,
       omega arith,
       refl,
-      λ cells lib. rw (k .clear .ensures) (reading-start cells (a .text .now) (a .table .now) (begun k .pre .1)),
+      λ cells lib. rw (k .clear .ensures) (reading-start (a .rules) cells (a .text .now) (a .table .now) (begun k .pre .1)),
     )
 
 same-length : tie.Need-same-length Inv-loop μ-loop
@@ -126,23 +126,23 @@ returns c cells lib =
       t .if1 .taken,
     )
     in
-    left-refused cells s (before w) (left .refusal .result) _
+    left-refused (begun (cleared w) .args .rules) cells s (before w) (left .refusal .result) _
     (reading-unended (l .inv .3 cells lib) within unended)
     (left .refusal .ensures .0) (left .refusal .ensures .1) (same-size w)
 
 same-length-2 : tie.Need-same-length-2 Inv-loop μ-loop
 same-length-2 c =
     let r = read (refused-at c .before) in
-    c .before .before .refusal2 .kept .0 ∙ r .read-line .kept .1 .1 .0 ∙ same-size (walking (ended r .before))
+    c .before .before .refusal2 .kept .0 ∙ r .read-line .kept .1 .1 .1 .0 ∙ same-size (walking (ended r .before))
 
 returns-2 : tie.Need-returns-2 Inv-loop μ-loop
 returns-2 c cells lib =
     let left = c .before .before in
     let r = read (refused-at c .before) in
     let w = walking (ended r .before) in
-    left-refused cells (text w) (before w) (left .refusal2 .result) _
+    left-refused (begun (cleared w) .args .rules) cells (text w) (before w) (left .refusal2 .result) _
     (reading-refused (w .loop .inv .3 cells lib) (whole (ended r)) (decided r cells lib) (refused-at c .if2 .taken))
-    (left .refusal2 .ensures .0) (left .refusal2 .ensures .1) (r .read-line .kept .1 .1 .0 ∙ same-size w)
+    (left .refusal2 .ensures .0) (left .refusal2 .ensures .1) (r .read-line .kept .1 .1 .1 .0 ∙ same-size w)
 
 add-number : tie.Need-add-number Inv-loop μ-loop
 add-number c = omega (arith, begun (cleared (walking (ended (read (c .before)) .before))) .pre .0)
@@ -167,7 +167,7 @@ loop-again c =
     let l = w .loop in (
       ended r .if1 .left,
       omega (arith, nextAfter-within (text w) (l .at) (part 10 (text w) (l .at)) (l .inv .0), behind f, l .inv .1),
-      r .read-line .kept .1 .1 .0 ∙ l .inv .2,
+      r .read-line .kept .1 .1 .1 .0 ∙ l .inv .2,
       λ cells lib. reading-more (l .inv .3 cells lib) (whole (ended r)) (decided r cells lib) (behind f) (c .if2 .left),
     )
 
@@ -182,7 +182,7 @@ returns-3 c cells lib =
     let past : drop Size.netlist (cleared w .clear .last .0) ≡ drop Size.netlist (before w) =
     ap (drop Size.netlist) (cleared w .clear .ensures) ∙ cleared-past (before w) (begun (cleared w) .pre .1)
     in
-    left-read cells (text w) (before w) _ (w .loop .table) (reading-end so-far (c .loop-test .left)) refl
+    left-read (begun (cleared w) .args .rules) cells (text w) (before w) _ (w .loop .table) (reading-end so-far (c .loop-test .left)) refl
     (rw (← past) (so-far .held))
 
 pub read-lines-spec : {M : Type 1} → statement M

@@ -10,28 +10,28 @@ use Rattle.netlist.proofs.read_netlist.Tie as tie
 abbrev begins : tie.After-entry → tie.Start
 begins c = c .before .before .before .before
 
-abbrev accepted : tie.After-read-lines-arg → tie.After-entry
+abbrev accepted : tie.After-read-all-arg → tie.After-entry
 accepted c = c .before .before .before
 
-read-lines-requires : tie.Need-read-lines-requires
-read-lines-requires c κs =
+read-all-requires : tie.Need-read-all-requires
+read-all-requires c κs =
     let e = accepted c in
     let a = begins e .args in
-    entered _ _ _ (unshut (now (a .text)) (now (a .library)) (now (a .table)) (e .entry .result) (e .entry .ensures) (search needs))
+    entered _ _ _ (unshut (a .rules) (now (a .text)) (now (a .library)) (now (a .table)) (e .entry .result) (e .entry .ensures) (search needs))
 
 returns : tie.Need-returns
 returns c =
     let e = c .before .before in
     let a = begins e .args in
-    shut (now (a .text)) (now (a .library)) (now (a .table)) (e .entry .result) (e .entry .ensures) _ (c .enum-told .given .1)
+    shut (a .rules) (now (a .text)) (now (a .library)) (now (a .table)) (e .entry .result) (e .entry .ensures) _ (c .enum-told .given .1)
 
 returns-2 : tie.Need-returns-2
 returns-2 c =
     let r = c .before .before in
     let e = accepted (r .before) in
     let a = begins e .args in
-    behind (now (a .text)) (now (a .library)) (now (a .table)) (e .entry .result) (e .entry .ensures) (search needs)
-    (r .read-lines .result) _ (r .read-lines .ensures)
+    behind (a .rules) (now (a .text)) (now (a .library)) (now (a .table)) (e .entry .result) (e .entry .ensures) (search needs)
+    (r .read-all .result) _ (r .read-all .ensures)
 
 pub read-netlist-spec : {M : Type 1} → statement M
 read-netlist-spec =
@@ -40,7 +40,7 @@ read-netlist-spec =
     (λ c κs. search needs)
     (λ c. search needs)
     (λ c. search needs)
-    read-lines-requires
+    read-all-requires
     returns
     (λ c. search needs)
     returns-2)

@@ -1,12 +1,13 @@
 -- `statement_of` reads the statement of a line by its first field. Assumes nothing.
-use mathlib.Core.Bool.{Bool, false}
+use mathlib.Core.Bool.{Bool, false, _&&_}
 use mathlib.Core.List.{List}
-use mathlib.Core.Path.{_≡_, refl, ap, _∙_}
+use mathlib.Core.Path.{_≡_, refl, sym, ap, _∙_}
 use Prim.Native.Nat.{ℕ}
 use Rattle.reading.specs.Choice.{pick}
 use Rattle.text.specs.Bytes.{bytes}
 use Rattle.text.specs.Lines.{part, nextAfter, sameBytes}
-use Rattle.netlist.specs.Netlist.{input, output, statementOf}
+use Rattle.netlist.specs.declared.Rules.{Rules}
+use Rattle.netlist.specs.Netlist.{input, output, opened, declaring, statementOf}
 use Rattle.netlist.proofs.Forms.{stands-none, same-is, all-fields}
 use borrow.Author.Needs.{needs}
 use Rattle.netlist.proofs.statement_of.Statement.{statement}
@@ -25,6 +26,15 @@ no-input c = c .before .before
 
 abbrev no-output : tie.After-same3 → tie.Else2
 no-output c = c .before .before
+
+abbrev no-gate : tie.After-same4 → tie.Else3
+no-gate c = c .before .before .before
+
+abbrev first : tie.After-same4 → tie.After-after
+first c = cut (no-input (no-output (no-gate c .before) .before) .before)
+
+abbrev rules : tie.After-same4 → Rules
+rules c = begun (first c .before) .args .rules
 
 module _ (c : tie.After-after) where
   abbrev line : List ℕ
@@ -78,15 +88,43 @@ returns-3 c cells lib =
     )
     (c .gate-from .ensures cells lib)
 
+other-gate : (c : tie.Else3) → sameBytes (part 44 (line (cut (no-input (no-output (c .before) .before) .before))) 0) (bytes "gate") ≡ false
+unfolding bytes
+other-gate c = tested (cut (no-input (no-output (c .before) .before) .before)) (bytes "gate") (c .before .same3 .ensures) (c .if3 .left)
+
+-- What was answered of the word `open` and of the rules.
+opening : (c : tie.After-same4) {b : Bool} → (c .before .before .declaring .result && c .same4 .result) ≡ b
+    → (declaring (rules c) && sameBytes (part 44 (line (first c)) 0) (bytes "open")) ≡ b
+unfolding bytes
+opening c e =
+    let word : sameBytes (part 44 (line (first c)) 0) (bytes "open") ≡ c .same4 .result =
+    tested (first c) (bytes "open") (c .same4 .ensures) refl
+    in
+    ap (λ (b : Bool). b && sameBytes (part 44 (line (first c)) 0) (bytes "open")) (sym (c .before .before .declaring .ensures))
+    ∙ ap (λ (b : Bool). c .before .before .declaring .result && b) word
+    ∙ e
+
 returns-4 : tie.Need-returns-4
 unfolding bytes statementOf pick
 returns-4 c cells lib =
     let t = c .before in
-    let o = no-output (t .before) in
+    let g = no-gate (t .before) in
+    let o = no-output (g .before) in
+    let i = no-input (o .before) in
+    let f = cut (i .before) in
+    rw (all-fields (line f), other-input i, other-output o, other-gate g, opening (t .before) (t .if4 .taken), ← behind f)
+    (c .mark-from3 .ensures opened refl)
+
+returns-5 : tie.Need-returns-5
+unfolding bytes statementOf pick
+returns-5 c cells lib =
+    let t = c .before in
+    let g = no-gate (t .before) in
+    let o = no-output (g .before) in
     let i = no-input (o .before) in
     let f = cut (i .before) in
     stands-none _ _
-    (rw (all-fields (line f), other-input i, other-output o, tested f (bytes "gate") (t .before .same3 .ensures) (t .if3 .left)))
+    (rw (all-fields (line f), other-input i, other-output o, other-gate g, opening (t .before) (t .if4 .left)))
     (c .malformed .ensures)
 
 pub statement-of-spec : {M : Type 1} → statement M
@@ -108,4 +146,9 @@ statement-of-spec =
     (λ c κs. search needs)
     returns-3
     (λ c κs. search needs)
-    returns-4)
+    (λ c. search needs)
+    (λ c κs. search needs)
+    (λ c κs. search needs)
+    returns-4
+    (λ c κs. search needs)
+    returns-5)

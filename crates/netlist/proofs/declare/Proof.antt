@@ -1,0 +1,48 @@
+-- `declare` refuses 20 where the rules ask for it. Assumes nothing.
+use mathlib.Core.Bool.{Bool, _&&_}
+use mathlib.Core.Path.{_≡_, refl, sym, ap, _∙_}
+use denote.Ref.{now}
+use Rattle.reading.specs.Verdict.{verdictRead}
+use Rattle.netlist.specs.Netlist.{declaring}
+use Rattle.netlist.specs.Admitting.{someUndeclared}
+use Rattle.netlist.proofs.Opening.{declares-refused, declares-read}
+use borrow.Author.Needs.{needs}
+use Rattle.netlist.proofs.declare.Statement.{statement}
+use Rattle.netlist.proofs.declare.Tie as tie
+
+abbrev begins : tie.After-some-undeclared → tie.Start
+begins c = c .before .before .before .before
+
+-- What the two answers come to.
+asked : (c : tie.After-some-undeclared) {b : Bool} → (c .before .before .declaring .result && c .some-undeclared .result) ≡ b
+    → (declaring (begins c .args .rules) && someUndeclared (now (begins c .args .table))) ≡ b
+asked c e =
+    ap (λ (x : Bool). x && someUndeclared (now (begins c .args .table))) (sym (c .before .before .declaring .ensures))
+    ∙ ap (λ (x : Bool). c .before .before .declaring .result && x) (sym (c .some-undeclared .ensures))
+    ∙ e
+
+returns : tie.Need-returns
+returns c ss h =
+    let left = c .before .before in
+    let t = left .before .before in
+    let a = begins (t .before) .args in
+    declares-refused (a .rules) (now (a .table)) ss h _ _ (asked (t .before) (t .if1 .taken)) (left .refusal .ensures .0)
+    (left .refusal .ensures .1)
+
+returns-2 : tie.Need-returns-2
+unfolding verdictRead
+returns-2 c ss h =
+    let a = begins (c .before) .args in
+    declares-read (a .rules) (now (a .table)) ss h _ _ (asked (c .before) (c .if1 .left)) refl refl
+
+pub declare-spec : {M : Type 1} → statement M
+declare-spec =
+    tie.close
+    (tie.spec
+    (λ c κs. search needs)
+    (λ c κs. search needs)
+    (λ c κs. search needs)
+    (λ c. search needs)
+    returns
+    (λ c. search needs)
+    returns-2)
