@@ -7,6 +7,7 @@ use Prim.Native.Nat.{ℕ, suc, _+_, _≤_}
 use native.Mathlib.Omega.{arith}
 use lib.ListN.{length}
 use Rattle.reading.specs.Choice.{pick}
+use Rattle.reading.specs.Each.{Each}
 use Rattle.reading.proofs.Laws.{by-test, clash, and-left, and-right}
 use Rattle.cell_library.specs.Library.{anyOf}
 use Rattle.truth_tables.specs.Tables.{allOf, keep}
@@ -126,3 +127,26 @@ module _ {A B : Type 0} where
   unfolding keep pick
   keep-map p f [] = refl
   keep-map p f (x ∷ xs) = by-test (p (f x)) (λ e. rw (e, keep-map p f xs) refl) (λ e. rw (e, keep-map p f xs) refl)
+
+  pub map-append : (f : A → B) (xs ys : List A) → map f (xs ++ ys) ≡ map f xs ++ map f ys
+  map-append f [] ys = refl
+  map-append f (x ∷ xs) ys = rw (map-append f xs ys) refl
+
+  pub map-same : (f g : A → B) → ((x : A) → f x ≡ g x) → (xs : List A) → map f xs ≡ map g xs
+  map-same f g e [] = refl
+  map-same f g e (x ∷ xs) = rw (e x, map-same f g e xs) refl
+
+  pub map-each : (P : A → Type 0) (f g : A → B) → ((x : A) → P x → f x ≡ g x) → (xs : List A) → Each P xs → map f xs ≡ map g xs
+  unfolding Each
+  map-each P f g h [] e = refl
+  map-each P f g h (x ∷ xs) e = rw (h x (e .0), map-each P f g h xs (e .1)) refl
+
+pub map-map : {A B C : Type 0} (f : B → C) (g : A → B) (xs : List A) → map f (map g xs) ≡ map (λ x. f (g x)) xs
+map-map f g [] = refl
+map-map f g (x ∷ xs) = rw (map-map f g xs) refl
+
+-- What holds of each holds of those kept.
+pub each-kept : {A : Type 0} (P : A → Type 0) (p : A → Bool) (xs : List A) → Each P xs → Each P (keep p xs)
+unfolding Each keep pick
+each-kept P p [] e = tt
+each-kept P p (x ∷ xs) e = by-test (p x) (λ k. rw k (e .0, each-kept P p xs (e .1))) (λ k. rw k (each-kept P p xs (e .1)))

@@ -12,6 +12,7 @@ use Rattle.reading.specs.Choice.{pick}
 use Rattle.reading.specs.Each.{Each}
 use Rattle.reading.proofs.Laws.{by-test, each-append, each-map}
 use Rattle.cell_library.specs.Cells.{Row}
+use Rattle.truth_tables.proofs.Lists.{map-append, map-map, map-same}
 use Rattle.truth_tables.specs.Entries.{literalColumns, termColumns, observeColumn, settingRow, observingRow, settingGroup, observingGroup, rowNumber}
 use Rattle.truth_tables.specs.Tables.{Term, terms, Condition, keep, prime, primes, gives, putIn, changes, observing, Descends}
 
@@ -88,10 +89,6 @@ length-putIn zero a xs = refl
 length-putIn (suc k) a [] = refl
 length-putIn (suc k) a (x ∷ xs) = ap suc (length-putIn k a xs)
 
-map-append : {A B : Type 0} (f : A → B) (xs ys : List A) → map f (xs ++ ys) ≡ map f xs ++ map f ys
-map-append f [] ys = refl
-map-append f (x ∷ xs) ys = ap (λ (l : List _). f x ∷ l) (map-append f xs ys)
-
 -- A value of terms that weighs the first pin by w, over a value of the others.
 module _ (n w : ℕ) (g h : Term → ℕ) (weighs : (l : Option Bool) (t : Term) → length t ≡ n → h (l ∷ t) ≡ literalColumns l * w + g t) where
   values-of : (l : Option Bool) (ts : List Term) → Each (λ t. length t ≡ n) ts
@@ -119,10 +116,6 @@ ordered-terms (suc n) =
     rw (pow-suc 4 n)
     (subst (λ (w : ℕ). Ordered w (map termColumns (terms (suc n)))) (omega arith)
     (ordered-more n (4 ^ n) termColumns termColumns (λ l t e. rw e refl) (ordered-terms n)))
-
-map-same : {A B : Type 0} (f g : A → B) → ((x : A) → f x ≡ g x) → (xs : List A) → map f xs ≡ map g xs
-map-same f g e [] = refl
-map-same f g e (x ∷ xs) = rw (e x, map-same f g e xs) refl
 
 -- The same with a pin put in that is not named.
 pub ordered-putIn : (k n : ℕ) → Ordered (4 ^ suc n) (map (λ t. termColumns (putIn k none t)) (terms n))
@@ -164,10 +157,6 @@ ordered-kept w g p ts o =
 pub ordered-primes : (n : ℕ) (C : Condition) → Ordered (4 ^ n) (map termColumns (primes n C))
 unfolding primes
 ordered-primes n C = ordered-kept (4 ^ n) termColumns (prime n C) (terms n) (ordered-terms n)
-
-map-map : {A B C : Type 0} (f : B → C) (g : A → B) (xs : List A) → map f (map g xs) ≡ map (λ x. f (g x)) xs
-map-map f g [] = refl
-map-map f g (x ∷ xs) = rw (map-map f g xs) refl
 
 pub ordered-observing : (n : ℕ) (bits : List Bool) (k : ℕ) → 1 ≤ n → Ordered (4 ^ n) (map termColumns (observing n bits k))
 unfolding observing primes

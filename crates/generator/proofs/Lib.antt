@@ -1,0 +1,7 @@
+pub mod Pins
+pub mod Primes
+pub mod Passing
+pub mod Conditions
+pub mod Listing
+pub mod Tables
+pub mod Judging
