@@ -32,9 +32,9 @@ fn put_row(entry: &mut [u8], at: usize, any: bool, number: u32) -> usize
 {
     if any {
         let next = put_bytes(entry, at, b",M,");
-        return put_octal(entry, next, number);
+        return put_octal(entry, next, number as u64);
     }
-    put_octal(entry, at, number)
+    put_octal(entry, at, number as u64)
 }
 
 // A row, where it is prime.
