@@ -18,7 +18,7 @@ use Rattle.plans.specs.Sweep.{at, least, lower}
 use Rattle.plans.specs.Trace.{firstPlace, Mark, Trace, markAt, markOf, traceVisit}
 use Rattle.plans.proofs.Laws.{least-bound}
 use Rattle.gates.specs.Tables.{gateLines, byRole, groupVisit, gateVisit}
-use Rattle.trace.specs.Marks.{rowPlace, lastPin, Noted, Unnoted, NotedAs, AllNoted, Stands}
+use Rattle.trace.specs.Marks.{rowPlace, lastMark, Noted, Unnoted, NotedAs, AllNoted, Stands}
 use Rattle.trace.proofs.Tracing.{idle-visit}
 
 -- ---- four numbers of a table
@@ -114,7 +114,7 @@ module _ (kind : ℕ) (library netlist : List ℕ) where
       at-row = rowPlace kind netlist g e row
 
       abbrev noting : List ℕ
-      noting = sets table (markPlace l e) (suc (t .time) ∷ getD library at-row 0 ∷ getD library (at-row + 1) 0 ∷ lastPin library netlist g ∷ [])
+      noting = sets table (markPlace l e) (suc (t .time) ∷ getD library at-row 0 ∷ getD library (at-row + 1) 0 ∷ lastMark library netlist g ∷ [])
 
       abbrev new : Mark
       new = markOf (t .numbers) (t .time) v

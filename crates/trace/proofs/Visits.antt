@@ -20,7 +20,7 @@ use Rattle.gates.proofs.Gathering.{group-same, group-wider}
 use Rattle.sweep.proofs.Visits.{visit-is}
 use Rattle.sweep.proofs.Turning.{gather-first, rows-same}
 use Rattle.trace.specs.declared.Least.{Least}
-use Rattle.trace.specs.Marks.{rowPlace, lastPin, Stands}
+use Rattle.trace.specs.Marks.{rowPlace, lastMark, Stands}
 use Rattle.trace.specs.Runs.{LeastOf, Fits, turnVisit, Traced}
 use Rattle.trace.proofs.Marking.{stands-still, stands-lowered}
 use Rattle.trace.proofs.Rows.{first-same}
@@ -93,7 +93,7 @@ module _ (kind : ℕ) (library netlist numbers marks : List ℕ) (fits : Fits ki
 
       noted : (t : Trace) (line clock depth columns last : ℕ) → t .time ≡ clock → line ≡ getD lines 0 0
           → depth ≡ getD library (rowPlace kind netlist g e (said .row)) 0 → columns ≡ getD library (rowPlace kind netlist g e (said .row) + 1) 0
-          → last ≡ lastPin library netlist g → said .number < getD numbers place 0
+          → last ≡ lastMark library netlist g → said .number < getD numbers place 0
           → Stands kind library netlist t numbers marks
           → Stands kind library netlist (traceVisit lower t here) (set numbers (here .node) (said .number)) (sets marks (markPlace line e) ((clock + 1) ∷ depth ∷ columns ∷ last ∷ []))
       noted t line clock depth columns last q l d c p h s =
@@ -105,7 +105,7 @@ module _ (kind : ℕ) (library netlist numbers marks : List ℕ) (fits : Fits ki
 
       pub traced-lowered : (line clock depth columns last : ℕ) → line ≡ getD lines 0 0
           → depth ≡ getD library (rowPlace kind netlist g e (said .row)) 0 → columns ≡ getD library (rowPlace kind netlist g e (said .row) + 1) 0
-          → last ≡ lastPin library netlist g → said .number < getD numbers place 0
+          → last ≡ lastMark library netlist g → said .number < getD numbers place 0
           → (marks′ : List ℕ) → marks′ ≡ sets marks (markPlace line e) ((clock + 1) ∷ depth ∷ columns ∷ last ∷ [])
           → Traced kind library netlist (turnVisit kind library netlist g e ∷ []) clock numbers marks (set numbers place (said .number)) marks′ true
       unfolding traceSweep groupVisit

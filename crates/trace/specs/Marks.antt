@@ -5,9 +5,11 @@ use mathlib.Core.List.{List}
 use mathlib.Core.Option.{Option, none, some}
 use mathlib.Core.Path.{_≡_}
 use Prim.Native.Nat.{ℕ, suc, _+_, _*_, _≤_, _<_}
+use lib.Dec.{eqb}
 use lib.ListN.{length, getD}
 use Rattle.sizes.specs.Sizes as Size
-use Rattle.sizes.specs.Places.{groupPlace, gatePlace, settingPlace, markPlace}
+use Rattle.sizes.specs.Places.{headingPlace, groupPlace, gatePlace, settingPlace, markPlace}
+use Rattle.reading.specs.Choice.{pick}
 use Rattle.plans.specs.Trace.{Mark, Trace, markAt}
 use Rattle.gates.specs.Tables.{gateCell, gatePins, gateLines, visitGroup}
 
@@ -19,6 +21,16 @@ rowPlace kind netlist g v row = groupPlace (gateCell netlist g) (visitGroup 0 ki
 abbrev pub lastPin : List ℕ → List ℕ → ℕ → ℕ
 lastPin library netlist g = gatePlace g + 1 + gatePins library netlist g
 
+-- The same with the heading of the gate's cell: more by this where its entry begins with `Name3`.
+abbrev pub deepMark : ℕ
+deepMark = 65536
+
+unfoldable pub marked : ℕ → ℕ → ℕ
+marked last heading = pick (eqb heading 0) last (last + deepMark)
+
+abbrev pub lastMark : List ℕ → List ℕ → ℕ → ℕ
+lastMark library netlist g = marked (lastPin library netlist g) (getD library (headingPlace (gateCell netlist g)) 0)
+
 module _ (kind : ℕ) (library netlist : List ℕ) where
   -- The mark of a line at a value stands in the table: the visit, counted from 1, and the row of the gate that drives the line.
   pub record Noted (l v : ℕ) (m : Mark) (table : List ℕ) : Type 0 where
@@ -28,7 +40,7 @@ module _ (kind : ℕ) (library netlist : List ℕ) where
     pub visit : getD table (markPlace l v) 0 ≡ suc (m .time)
     pub depth : getD table (markPlace l v + 1) 0 ≡ getD library (rowPlace kind netlist gate v (m .place)) 0
     pub columns : getD table (markPlace l v + 2) 0 ≡ getD library (rowPlace kind netlist gate v (m .place) + 1) 0
-    pub last : getD table (markPlace l v + 3) 0 ≡ lastPin library netlist gate
+    pub last : getD table (markPlace l v + 3) 0 ≡ lastMark library netlist gate
 
   -- Where there is no mark, visit and columns are 0.
   pub record Unnoted (l v : ℕ) (table : List ℕ) : Type 0 where

@@ -32,7 +32,7 @@ ghost use Rattle.gates.specs.Fits.{SumFits};
 ghost use Rattle.sweep.specs.Order.{sweepVisits};
 ghost use Rattle.sweep.specs.Ready.{Holds};
 ghost use Rattle.trace.specs.Lowered.{settingTrace};
-ghost use Rattle.trace.specs.Marks.{AllNoted};
+ghost use Rattle.trace.specs.Marks.{deepMark, marked, AllNoted};
 ghost use Rattle.trace.specs.Runs.{LeastOf, Fits, turnVisit, Traced, Traceable};
 
 // The least row sum of a group, and the first of its rows, from 0, that comes to it.
@@ -83,6 +83,21 @@ fn note(
     marks[at + 3] = last;
 }
 
+// More by this is marked where a cell's entry begins with `Name3`.
+pub const DEEP_MARK: u32 = 65_536;
+
+// Where the line of a gate's last pin stands, with the heading of its cell.
+fn mark_of(last: usize, heading: u32) -> u32
+    requires { ⌜ last < deepMark ⌝ }
+    ensures { λ r. ⌜ r ≡ marked last heading ⌝ }
+{
+    if heading == 0 {
+        last as u32
+    } else {
+        last as u32 + DEEP_MARK
+    }
+}
+
 // A visit to a gate's output at a value, at a time: lowers its number to the least row sum, and notes
 // the row. Whether it was lowered.
 fn visit(
@@ -115,7 +130,10 @@ fn visit(
     }
     numbers[place] = least.number;
     let row = group + 1 + sizes::ROW_WORDS * least.row;
-    let last = sizes::GATES_AT + gate * sizes::GATE_WORDS + 1 + pins;
+    let last = mark_of(
+        sizes::GATES_AT + gate * sizes::GATE_WORDS + 1 + pins,
+        word(library, cell + sizes::HEADING_AT),
+    );
     note(
         marks,
         lines[0],
@@ -123,7 +141,7 @@ fn visit(
         clock + 1,
         word(library, row),
         word(library, row + 1),
-        last as u32,
+        last,
     );
     true
 }

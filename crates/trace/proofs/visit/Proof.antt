@@ -9,6 +9,7 @@ use Rattle.sizes.specs.Places.{groupPlace}
 use Rattle.reading.specs.Choice.{pick}
 use Rattle.gates.specs.Tables.{gateCell, gatePins, byRole, visitGroup}
 use Rattle.gates.specs.Fits.{LinesFit, GateFits}
+use Rattle.trace.specs.Marks.{marked}
 use Rattle.trace.proofs.Visits.{lines-fit, rows-room, sum-fits, gather-fits, place-inside, traced-still, traced-lowered}
 use Rattle.trace.proofs.visit.Statement.{statement}
 use Rattle.trace.proofs.visit.Tie as tie
@@ -114,7 +115,7 @@ returns c =
 
 returns-2 : tie.Need-returns-2
 returns-2 c =
-    let k = c .before .before .before .before .before .before .before .before in
+    let k = c .before .before .before .before .before .before .before .before .before .before in
     let p = placed k in
     let g = grouped p in
     let x = lined (gathered g) in
@@ -123,10 +124,12 @@ returns-2 c =
     traced-lowered (a .kind) (a .library .now) (a .netlist .now) (a .numbers .now) (a .marks .now) (s .pre .0) (a .gate) (a .value) (s .pre .1) (s .pre .2) (x .lines-of .result) (x .before .wide .result) (groupAt g)
     (x .lines-of .ensures) (pins-are x) (group-stands g) (p .visit-place .result) (p .visit-place .ensures) _ (gathered g .column-costs .ensures) (k .least-row .result) (k .least-row .ensures)
     _ (a .clock) _ _ _ refl
-    (c .before .before .word .ensures ∙ ap (λ (n : ℕ). getD (a .library .now) (n + 1 + 2 * k .least-row .result .row) 0) (group-stands g))
-    (c .before .word2 .ensures ∙ ap (λ (n : ℕ). getD (a .library .now) (n + 1 + 2 * k .least-row .result .row + 1) 0) (group-stands g))
-    (ap (λ (n : ℕ). Size.gatesAt + a .gate * Size.gateWords + 1 + n) (pins-are x))
-    (omega (arith, c .before .before .before .before .before .if1 .left))
+    (c .before .before .word2 .ensures ∙ ap (λ (n : ℕ). getD (a .library .now) (n + 1 + 2 * k .least-row .result .row) 0) (group-stands g))
+    (c .before .word3 .ensures ∙ ap (λ (n : ℕ). getD (a .library .now) (n + 1 + 2 * k .least-row .result .row + 1) 0) (group-stands g))
+    (c .before .before .before .before .mark-of .ensures
+    ∙ ap₂ marked (ap (λ (n : ℕ). Size.gatesAt + a .gate * Size.gateWords + 1 + n) (pins-are x))
+    (c .before .before .before .before .before .word .ensures ∙ ap (λ (n : ℕ). getD (a .library .now) (n + Size.headingAt) 0) (celled x .cell-place .ensures)))
+    (omega (arith, c .before .before .before .before .before .before .before .if1 .left))
     _ (c .note .ensures)
 
 pub visit-spec : {M : Type 1} → statement M
@@ -169,11 +172,13 @@ visit-spec =
     (λ c. omega (arith, small (c .before .before .before .before)))
     (λ c. omega (arith, small (c .before .before .before .before)))
     (λ c. omega (arith, small (c .before .before .before .before)))
-    (λ c. search needs)
-    (λ c. search needs)
+    (λ c. omega (arith, room (c .before .before .before .before)))
     (λ c κs. search needs)
-    (λ c. omega (arith, room (c .before .before .before .before .before .before)))
+    (λ c κs. omega (arith, small (c .before .before .before .before .before)))
+    (λ c. search needs)
+    (λ c. omega (arith, began (lined (gathered (grouped (placed (c .before .before .before .before .before .before .before))))) .pre .3))
     (λ c κs. search needs)
-    (λ c. omega (arith, small (c .before .before .before .before .before .before .before)))
-    (λ c κs. let x = lined (gathered (grouped (placed (c .before .before .before .before .before .before .before)))) in (fit x .most 0 (omega arith), began x .pre .2, began x .pre .0 .marksSize))
+    (λ c. omega (arith, room (c .before .before .before .before .before .before .before .before)))
+    (λ c κs. search needs)
+    (λ c κs. let x = lined (gathered (grouped (placed (c .before .before .before .before .before .before .before .before .before)))) in (fit x .most 0 (omega arith), began x .pre .2, began x .pre .0 .marksSize))
     returns-2)

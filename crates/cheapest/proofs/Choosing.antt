@@ -1,0 +1,127 @@
+-- The row that a mark tells: whose gate and whose group it is, and what it asks for.
+-- Assumes nothing.
+use mathlib.Core.Bool.{Bool, true, false}
+use mathlib.Core.List.{List, [], _∷_, List·Memᴰ, List·Memᴰ·head, List·Memᴰ·tail, map}
+use mathlib.Core.Option.{Option, none, some}
+use mathlib.Core.Path.{_≡_, refl, sym, ap, subst, _∙_}
+use Prim.Native.Nat.{ℕ, zero, suc, _+_, _*_, _/_, _%_, _≤_, _<_}
+use native.Mathlib.Omega.{arith}
+use borrow.Author.Tests.{eq-eqb, ne-eqb}
+use lib.Dec.{eqb}
+use lib.ListN.{length, getD}
+use Rattle.sizes.specs.Sizes as Size
+use Rattle.reading.specs.Choice.{pick}
+use Rattle.reading.proofs.Laws.{by-test}
+use Rattle.cost.specs.Cost.{most}
+use Rattle.plans.specs.System.{Way, Visit}
+use Rattle.plans.specs.Sweep.{at}
+use Rattle.plans.specs.Trace.{wayAt, Mark, Trace, markAt, traceSweeps, untraced, SettledBy}
+use Rattle.plans.specs.Sweep.{sweeps, lower}
+use Rattle.plans.proofs.Laws.{traced-numbers, unmarked-stood, settled-row}
+use Rattle.cell_library.specs.Cells.{Row, Group, Cell}
+use Rattle.netlist.specs.Netlist.{Gate, Statement, gatesOf}
+use Rattle.netlist.specs.Sound.{InRange, DrivenOnce}
+use Rattle.netlist.proofs.Laws.{driven-once}
+use Rattle.calculation.specs.Nodes.{Kind, kindNumber, Purpose, set, observe, lineOf, node}
+use Rattle.calculation.specs.Ways.{cellOf, needs, Role, setting, observing, purposeOf, groupOf, asks, wayOf, waysOf, visit}
+use Rattle.calculation.specs.Acceptance.{BothSound}
+use Rattle.calculation.specs.Calculation.{start}
+use Rattle.calculation.proofs.Placing.{Placed, kind-small, node-injective, start-bounded}
+use Rattle.calculation.proofs.Visiting.{Sets, getD-listed, setting-from, sets-has}
+use Rattle.calculation.proofs.Accepting.{purpose-placed}
+use Rattle.trace.specs.Lowered.{settingTrace}
+use Rattle.cheapest.specs.Text.{noRow, noGate, driverOf, lineAt, valueAt}
+use Rattle.trace.proofs.Standing.{visits, most-sweeps, trace-lower, rests, visits-inside}
+
+-- ---- lists
+
+getD-map : {A B : Type 0} (f : A → B) (xs : List A) (p : ℕ) (a : A) (b : B) → p < length (map f xs) → getD (map f xs) p b ≡ f (getD xs p a)
+getD-map f [] p a b h = absurd (omega arith)
+getD-map f (x ∷ xs) zero a b h = refl
+getD-map f (x ∷ xs) (suc p) a b h = getD-map f xs p a b (omega arith)
+
+map-length : {A B : Type 0} (f : A → B) (xs : List A) → length (map f xs) ≡ length xs
+map-length f [] = refl
+map-length f (x ∷ xs) = ap suc (map-length f xs)
+
+-- ---- the gate that drives a line
+
+pub driver-is : (gs : List Gate) → DrivenOnce gs → (g : Gate) → List·Memᴰ g gs → driverOf gs (g .line) ≡ g
+unfolding driverOf pick
+driver-is (h ∷ gs) once g (List·Memᴰ·head e) = rw (e, eq-eqb (h .line) (h .line) refl) refl
+driver-is (h ∷ gs) once g (List·Memᴰ·tail m) = rw (ne-eqb (h .line) (g .line) (once .0 g m)) (driver-is gs (once .1) g m)
+
+-- ---- the line and the value of a node
+
+module _ (k : Kind) (l v : ℕ) (placed : Placed (set l v)) where
+  pub node-line : lineAt (node k (set l v)) ≡ l
+  unfolding node InRange
+  node-line = omega (arith, placed .0 .0, placed .1, kind-small k)
+
+  pub node-value : valueAt (node k (set l v)) ≡ v
+  unfolding node InRange
+  node-value = omega (arith, placed .0 .0, placed .1, kind-small k)
+
+valueOf : Purpose → ℕ
+valueOf (set l v) = v
+valueOf (observe l) = 0
+
+module _ (cells : List Cell) (ss : List Statement) (sound : BothSound cells ss) (k : Kind) where
+  abbrev pub trace : Trace
+  trace = settingTrace k cells ss
+
+  abbrev gs : List Gate
+  gs = gatesOf ss
+
+  pub settled-by : (n : ℕ) (m : Mark) → markAt (trace .marks) n ≡ some m → at (trace .numbers) n ≤ most → SettledBy (visits cells ss sound k) (start ss) trace n m
+  settled-by n m =
+      subst (λ (t : Trace). markAt (t .marks) n ≡ some m → at (t .numbers) n ≤ most → SettledBy (visits cells ss sound k) (start ss) t n m)
+      (sym (trace-lower cells ss sound k))
+      (λ e h.
+      settled-row (visits cells ss sound k) (most-sweeps cells ss sound k) (start ss) (start-bounded ss) (visits-inside cells ss sound k) (rests cells ss sound k) n m e
+      (rw (traced-numbers lower (visits cells ss sound k) (most-sweeps cells ss sound k) (start ss)) at h))
+
+  pub unmarked : (n : ℕ) → markAt (trace .marks) n ≡ none → at (trace .numbers) n ≡ at (start ss) n
+  unmarked n =
+      subst (λ (t : Trace). markAt (t .marks) n ≡ none → at (t .numbers) n ≡ at (start ss) n)
+      (sym (trace-lower cells ss sound k))
+      (λ e.
+      ap (λ (xs : List ℕ). at xs n) (traced-numbers lower (visits cells ss sound k) (most-sweeps cells ss sound k) (start ss))
+      ∙ unmarked-stood (visits cells ss sound k) (most-sweeps cells ss sound k) (start ss) (start-bounded ss) (visits-inside cells ss sound k) n e)
+
+  -- The row that a mark of a line at a value tells.
+  pub record Chosen (l v : ℕ) (m : Mark) : Type 0 where
+    pub gate : Gate
+    pub listed : List·Memᴰ gate gs
+    pub drives : gate .line ≡ l
+    pub within : m .place < length (groupOf k (cellOf cells gate) (setting v))
+    pub taken : m .way ≡ wayOf k gate (cellOf cells gate) (setting v) (getD (groupOf k (cellOf cells gate) (setting v)) (m .place) noRow)
+
+  module _ (l v : ℕ) (placed : Placed (set l v)) (m : Mark) where
+    by-role : (g : Gate) → List·Memᴰ g gs → (role : Role) → Sets (cellOf cells g) role → (u : Visit) → u ≡ visit k cells g role → u .node ≡ node k (set l v)
+        → m .place < length (u .ways) → wayAt (u .ways) (m .place) ≡ m .way → Chosen l v m
+    unfolding visit purposeOf waysOf wayAt valueOf
+    by-role g i (observing j) a u e n w p = absurd a
+    by-role g i (setting e) a u s n w p =
+        let same : set (g .line) e ≡ set l v =
+        node-injective k k (set (g .line) e) (set l v) (purpose-placed sound g i (setting e) (sets-has (cellOf cells g) (setting e) a)) placed (ap (λ (x : Visit). x .node) (sym s) ∙ n) .1 in
+        let value : e ≡ v = ap valueOf same in
+        let group = groupOf k (cellOf cells g) (setting v) in
+        let f = wayOf k g (cellOf cells g) (setting v) in
+        let ways : u .ways ≡ map f group = rw (← value) (ap (λ (x : Visit). x .ways) s) in
+        let short : m .place < length (map f group) = rw (← ways) w in
+        record {
+          gate = g;
+          listed = i;
+          drives = ap lineOf same;
+          within = rw (map-length f group) at short;
+          taken = sym p ∙ ap (λ (ws : List Way). wayAt ws (m .place)) ways ∙ getD-map f group (m .place) noRow _ short;
+        }
+
+    pub chosen : SettledBy (visits cells ss sound k) (start ss) trace (node k (set l v)) m → Chosen l v m
+    chosen s =
+        let t = setting-from k cells gs (s .visit) (s .listed) in
+        by-role (t .gate) (t .listed) (t .role) (t .allowed) (s .visit) (t .same) (s .same) (s .within) (s .placed)
+
+  pub driver-chosen : (l v : ℕ) (m : Mark) (c : Chosen l v m) → driverOf gs l ≡ c .gate
+  driver-chosen l v m c = rw (← c .drives) (driver-is gs (driven-once cells ss (sound .netlist)) (c .gate) (c .listed))

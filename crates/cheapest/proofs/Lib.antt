@@ -1,0 +1,5 @@
+pub mod Putting
+pub mod Choosing
+pub mod Timing
+pub mod Planned
+pub mod Written
