@@ -1,0 +1,4 @@
+pub mod Any
+pub mod Masks
+pub mod Reading
+pub mod Cells

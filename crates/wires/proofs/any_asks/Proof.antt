@@ -1,0 +1,38 @@
+-- `any_asks` has passed none that asks. Assumes nothing.
+use mathlib.Core.Bool.{false}
+use mathlib.Core.Path.{_≡_, refl, sym, _∙_}
+use Prim.Native.Nat.{_-_, _≤_}
+use native.Mathlib.Omega.{arith}
+use Rattle.wires.specs.Wires.{anyBelow, asksAt}
+use Rattle.wires.proofs.Any.{any-first, any-next, any-found, any-end}
+use Rattle.wires.proofs.any_asks.Statement.{statement}
+use Rattle.wires.proofs.any_asks.Tie as tie
+
+abbrev Inv-loop : tie.InvT-loop
+Inv-loop lines pins columns line value end i₀ i = (i ≤ end) × (anyBelow (asksAt lines pins columns line value) i ≡ false)
+
+abbrev μ-loop : tie.MeasureT-loop
+μ-loop lines pins columns line value end i₀ i = end - i
+
+returns : tie.Need-returns Inv-loop μ-loop
+returns c = sym (any-found _ _ _ (c .before .before .loop-test .taken) (sym (c .before .asks .ensures) ∙ c .if1 .taken))
+
+loop-again : tie.Need-loop-again Inv-loop μ-loop
+loop-again c = (omega arith, any-next _ _ (c .before .before .before .loop .inv .1) (sym (c .before .asks .ensures) ∙ c .if1 .left))
+
+returns-2 : tie.Need-returns-2 Inv-loop μ-loop
+returns-2 c = any-end _ _ _ (omega arith) (c .before .loop .inv .1)
+
+pub any-asks-spec : {M : Type 1} → statement M
+any-asks-spec =
+    tie.close
+    (tie.spec
+    Inv-loop
+    μ-loop
+    (λ c. (omega arith, any-first _))
+    (λ c κs. (c .before .before .pre .0, omega arith))
+    returns
+    (λ c. omega arith)
+    (λ c. omega arith)
+    loop-again
+    returns-2)

@@ -1,0 +1,41 @@
+-- `needs_both` has passed no column that a lower one opposes. Assumes nothing.
+use mathlib.Core.Bool.{false}
+use mathlib.Core.Path.{_≡_, refl, sym, _∙_}
+use Prim.Native.Nat.{_-_, _≤_}
+use native.Mathlib.Omega.{arith}
+use Rattle.wires.specs.Wires.{anyBelow, opposed, bothColumns}
+use Rattle.wires.proofs.Any.{any-first, any-next, any-found, any-end}
+use Rattle.wires.proofs.needs_both.Statement.{statement}
+use Rattle.wires.proofs.needs_both.Tie as tie
+
+abbrev Inv-loop : tie.InvT-loop
+Inv-loop lines pins columns end column₀ column = (column ≤ end) × (anyBelow (opposed lines pins columns) column ≡ false)
+
+abbrev μ-loop : tie.MeasureT-loop
+μ-loop lines pins columns end column₀ column = end - column
+
+returns : tie.Need-returns Inv-loop μ-loop
+unfolding bothColumns
+returns c = sym (any-found _ _ _ (c .before .before .loop-test .taken) (sym (c .before .opposes .ensures) ∙ c .if1 .taken))
+
+loop-again : tie.Need-loop-again Inv-loop μ-loop
+loop-again c = (omega arith, any-next _ _ (c .before .before .before .loop .inv .1) (sym (c .before .opposes .ensures) ∙ c .if1 .left))
+
+returns-2 : tie.Need-returns-2 Inv-loop μ-loop
+unfolding bothColumns
+returns-2 c = any-end _ _ _ (omega arith) (c .before .loop .inv .1)
+
+pub needs-both-spec : {M : Type 1} → statement M
+needs-both-spec =
+    tie.close
+    (tie.spec
+    Inv-loop
+    μ-loop
+    (λ c. omega arith)
+    (λ c. (omega arith, any-first _))
+    (λ c κs. (c .before .before .pre, omega arith))
+    returns
+    (λ c. omega arith)
+    (λ c. omega arith)
+    loop-again
+    returns-2)

@@ -1,0 +1,2 @@
+pub mod OneWire
+pub mod Wires
