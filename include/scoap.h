@@ -100,6 +100,25 @@ enum scoap_refusal {
 uint64_t scoap_report(const uint8_t *lib, size_t lib_len, const uint8_t *net, size_t net_len,
                       uint8_t *report, size_t report_len);
 
+/* No entry of a truth table is longer, so that number 17 never comes of a buffer of this length or more. */
+#define SCOAP_MOST_ENTRY 8192u
+
+/*
+ * Writes the library entry of a truth table.
+ *
+ * line        one line 'NAME,n,BITS' with its byte 10, line_len bytes: n from 0 to 4, BITS the 2^n output
+ *             values from all pins 0 upwards, pin 1 heaviest; it is not changed
+ * entry       the buffer, entry_len bytes
+ *
+ * Each pointer is valid for its length, and not null even where the length is 0. The buffer does not
+ * overlap the line.
+ *
+ * Answers the entry's length, which is below SCOAP_REFUSED. Otherwise it answers the refusal's number times
+ * 1,000,000 plus the line: 2 (more than 65,535 bytes) at line 0, 3 (bad form) and 5 (n above 4) at line 1,
+ * 17 (the entry is longer than its buffer) at line 0. The buffer afterwards is as scoap_report leaves its own.
+ */
+uint64_t scoap_cell(const uint8_t *line, size_t line_len, uint8_t *entry, size_t entry_len);
+
 /* The two parts of a refusal. */
 static inline unsigned scoap_number(uint64_t answer)
 {

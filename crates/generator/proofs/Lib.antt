@@ -5,3 +5,4 @@ pub mod Conditions
 pub mod Listing
 pub mod Tables
 pub mod Judging
+pub mod Shown

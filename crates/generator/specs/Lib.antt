@@ -1,3 +1,4 @@
 pub mod Masks
 pub mod Printed
 pub mod Generated
+pub mod Shown

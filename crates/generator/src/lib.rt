@@ -1,7 +1,7 @@
 // The generator of document 02, K6: one line `NAME,n,BITS`, a truth table, in; a library entry out.
 //
-// Open to others: `put_entry`, and the type `Generated`. It has no condition on its input; specs/Generated.antt says what a text
-// comes to. What that is, in rows, is said by crate `truth_tables`.
+// Open to others: `put_entry`, `put_printed`, and the type `Generated`. They have no condition on their input; specs/Generated.antt
+// says what a text comes to, specs/Shown.antt what is printed of it. What that is, in rows, is said by crate `truth_tables`.
 mod entry;
 mod masks;
 mod rows;
@@ -26,7 +26,8 @@ ghost use Rattle.reading.specs.Refusal.{refused};
 ghost use Rattle.text.specs.Numeral.{decimal, nameForm, numeralRead};
 ghost use Rattle.truth_tables.specs.Tables.{allOf};
 ghost use Rattle.generator.specs.Masks.{isBit};
-ghost use Rattle.generator.specs.Generated.{tableLine, judgedInto, generatedInto, Comes};
+ghost use Rattle.generator.specs.Generated.{tableLine, judgedInto, generated, generatedInto, Comes};
+ghost use Rattle.generator.specs.Shown.{Shows};
 
 const MOST_PINS: u32 = 4;
 
@@ -127,4 +128,18 @@ pub fn put_entry(text: &[u8], entry: &mut [u8]) -> Generated
     let whole = first.len() + 1 == text.len();
     let formed = whole & is_last(first, third, after(first, third, bits));
     generate(entry, formed, name, digits, bits)
+}
+
+// The program's buffer: longer than every entry.
+pub const ENTRY_BYTES: usize = 8192;
+
+// What the program prints of a text: the entry, or the refusal, in the front of a buffer that is long enough for every entry.
+pub fn put_printed(text: &[u8], entry: &mut [u8; ENTRY_BYTES]) -> usize
+    ensures { λ r. ⌜ Shows (generated (now (text .entry))) (now (entry .entry)) (now (entry .exit)) r ⌝ }
+{
+    let answer = put_entry(text, entry);
+    match answer {
+        Generated::Length(n) => n,
+        Generated::Refused(r) => writer::put_refusal(entry, 0, r),
+    }
 }

@@ -23,7 +23,7 @@ use Rattle.outcome.proofs.Fitting.{short-refused}
 use Rattle.analysis.specs.Own.{ownTables}
 use Rattle.scoap_c.specs.Coded.{codeLines, numberOf, Decoded, Seen, Coded}
 
-decoded : (number line : ℕ) → 1 ≤ number → line < codeLines → Decoded (number * codeLines + line) number line
+pub decoded : (number line : ℕ) → 1 ≤ number → line < codeLines → Decoded (number * codeLines + line) number line
 decoded number line h k = record { above = omega arith; numberIs = omega arith; lineIs = omega arith }
 
 own-fit : (report : List ℕ) → O.tableShort (ownTables report) ≡ false

@@ -1,9 +1,11 @@
 // The calls for C, in one archive, `libscoap_c.a`, with one header, include/scoap.h. Each has tables of
 // its own, and answers by one number.
 //
-// Open to others: `scoap_report`. It has no condition on its input; specs/Coded.antt says what it
-// promises.
+// Open to others: `scoap_report` and `scoap_cell`. They have no condition on their input; specs/Coded.antt
+// and specs/Cell.antt say what they promise.
+use generator::Generated;
 use outcome::Answer;
+ghost use Rattle.scoap_c.specs.Cell.{CellCoded};
 ghost use Rattle.scoap_c.specs.Coded.{Coded};
 
 // "the refusal number times 1,000,000 plus the line"
@@ -22,5 +24,18 @@ pub extern "C" fn scoap_report(lib: &[u8], net: &[u8], report: &mut [u8]) -> u64
     match answer {
         Answer::Accepted(s) => s.length as u64,
         Answer::Refused(r) => r.number as u64 * CODE_LINES + r.line as u64,
+    }
+}
+
+// For C: the library entry of a truth table's line, and one number for the answer: the entry's length, else
+// the refusal number times 1,000,000 plus the line.
+#[no_mangle]
+pub extern "C" fn scoap_cell(line: &[u8], entry: &mut [u8]) -> u64
+    ensures { λ r. ⌜ CellCoded (now (line .entry)) (now (entry .entry)) (now (entry .exit)) r ⌝ }
+{
+    let answer = generator::put_entry(line, entry);
+    match answer {
+        Generated::Length(n) => n as u64,
+        Generated::Refused(r) => r.number as u64 * CODE_LINES + r.line as u64,
     }
 }

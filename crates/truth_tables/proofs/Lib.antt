@@ -5,3 +5,4 @@ pub mod Order
 pub mod Octal
 pub mod Reading
 pub mod Accepted
+pub mod Lengths

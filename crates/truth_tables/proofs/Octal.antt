@@ -103,13 +103,21 @@ digits-below (suc k) (suc d) n h =
     rw (above, length-append (octalDigits k (n / 8)) ((48 + n % 8) ∷ []))
     (omega (arith, digits-below k d (n / 8) (eighth-below d n h))))
 
+digits-most : (k n : ℕ) → length (octalDigits k n) ≤ suc k
+unfolding octalDigits pick
+digits-most zero n = omega arith
+digits-most (suc k) n =
+    by-test (ltb n 8)
+    (λ below. rw below (omega arith))
+    (λ above. rw (above, length-append (octalDigits k (n / 8)) ((48 + n % 8) ∷ [])) (omega (arith, digits-most k (n / 8))))
+
 pub octal-digits : (n : ℕ) → allDigits 8 (octalBytes n) ≡ true
 unfolding octalBytes
 octal-digits n = digits-all 21 n
 
-pub octal-some : (n : ℕ) → 0 < length (octalBytes n)
+pub octal-most : (n : ℕ) → length (octalBytes n) ≤ 22
 unfolding octalBytes
-octal-some n = digits-some 21 n
+octal-most n = digits-most 21 n
 
 pub octal-value : (n : ℕ) → n < 8 ^ 22 → value 8 0 (octalBytes n) ≡ n
 unfolding octalBytes
