@@ -1,0 +1,172 @@
+-- The end of the call.
+-- Assumes nothing.
+use mathlib.Core.Bool.{Bool, true, false, _&&_}
+use mathlib.Core.List.{List, [], _∷_, _++_}
+use mathlib.Core.Path.{_≡_, refl, sym, ap, subst, _∙_}
+use Prim.Native.Nat.{ℕ, zero, suc, _+_, _≤_, _<_, min}
+use native.Mathlib.Nat.{zero-add}
+use native.Mathlib.Omega.{arith}
+use borrow.Author.Tests.{lt-ltb, le-ltb, leb-true, ltb-true, ltb-false}
+use lib.Dec.{leb, ltb}
+use lib.ListN.{length, getD, drop, replicate, List·getD-append}
+use Rattle.sizes.specs.Sizes as Size
+use Rattle.sizes.specs.Places.{settingPlace}
+use Rattle.reading.specs.Choice.{pick}
+use Rattle.reading.specs.Refusal.{Read, refused, read, _>>_, weigh}
+use Rattle.reading.proofs.Laws.{by-test, and-left, and-right, refused-read}
+use Rattle.cost.specs.Cost.{most, never}
+use Rattle.writer.specs.Put.{Put}
+use Rattle.writer.proofs.Steps.{put-front}
+use Rattle.cell_library.specs.Cells.{Cell}
+use Rattle.netlist.specs.Netlist.{Statement}
+use Rattle.calculation.specs.Nodes.{Kind, combinational, sequential, kindNumber, set, node}
+use Rattle.calculation.specs.Calculation.{analysed}
+use Rattle.calculation.specs.Acceptance.{BothSound}
+use Rattle.calculation.proofs.Laws.{numbers-length}
+use Rattle.gates.proofs.Naming.{set-node}
+use Rattle.cheapest.specs.Text.{cheapestText}
+use Rattle.cheapest.specs.Plan.{Cheapest}
+use Rattle.cheapest.specs.Asked.{PlanPut, PutWhere}
+use Rattle.sweep.specs.Ready.{Holds}
+use Rattle.planning.specs.Parts.{Analysed}
+use Rattle.planning.specs.Promise.{noFigure, planLong, known, askedNumber, kindOf, planRead, lengthOf, textAfter, PlanConcluded}
+
+-- ---- what is asked for
+
+-- A line, a value and a kind that have a number.
+pub record InRange (l v kind : ℕ) : Type 0 where
+  pub least : 1 ≤ l
+  pub most : l ≤ Size.lines
+  pub value : v ≤ 1
+  pub kinds : kind ≤ 1
+
+pub in-range : (l v kind : ℕ) → known l v kind ≡ true → InRange l v kind
+unfolding known
+in-range l v kind e =
+    let a = and-left (leb 1 l && leb l Size.lines) (leb v 1 && leb kind 1) e in
+    let b = and-right (leb 1 l && leb l Size.lines) (leb v 1 && leb kind 1) e in
+    record {
+      least = leb-true 1 l (and-left (leb 1 l) (leb l Size.lines) a);
+      most = leb-true l Size.lines (and-right (leb 1 l) (leb l Size.lines) a);
+      value = leb-true v 1 (and-left (leb v 1) (leb kind 1) b);
+      kinds = leb-true kind 1 (and-right (leb v 1) (leb kind 1) b);
+    }
+
+-- A number that is a figure is one of the table.
+pub asked-known : (numbers : List ℕ) (l v kind : ℕ) → askedNumber numbers l v kind ≤ most
+    → InRange l v kind × (askedNumber numbers l v kind ≡ getD numbers (settingPlace kind l v) 0)
+unfolding askedNumber pick
+asked-known numbers l v kind h =
+    by-test (known l v kind)
+    (λ t. (in-range l v kind t, rw t refl))
+    (λ t. let z : askedNumber numbers l v kind ≡ never = rw t refl in absurd (omega arith))
+
+pub kind-is : (kind : ℕ) → kind ≤ 1 → kindNumber (kindOf kind) ≡ kind
+unfolding kindOf
+kind-is zero h = refl
+kind-is (suc zero) h = refl
+kind-is (suc (suc kind)) h = absurd (omega arith)
+
+module _ (cells : List Cell) (ss : List Statement) (sound : BothSound cells ss) (rest : List ℕ) where
+  -- What stands behind the table's published size is not asked for.
+  pub asked-same : (l v kind : ℕ) → askedNumber (analysed cells ss .numbers ++ rest) l v kind ≡ askedNumber (analysed cells ss .numbers) l v kind
+  unfolding askedNumber pick
+  asked-same l v kind =
+      by-test (known l v kind)
+      (λ t.
+      let i = in-range l v kind t in
+      rw t
+      (List·getD-append (analysed cells ss .numbers) rest 0 (settingPlace kind l v)
+      (rw (numbers-length cells ss sound) (omega (arith, i .least, i .most, i .value, i .kinds)))))
+      (λ t. rw t refl)
+
+-- ---- answers are told apart
+
+refusals-differ : {B : Type 0} (x y a b : ℕ) → (x ≡ y → ⊥) → _≡_ {A = Read ℕ} (refused x a) (refused y b) → B
+refusals-differ x y a b h e = let z : x ≡ y = cc in absurd (h z)
+
+read-same : (n k : ℕ) → _≡_ {A = Read ℕ} (read n) (read k) → n ≡ k
+read-same n k e = cc
+
+-- ---- the three ends
+
+module _ (cells : List Cell) (ss : List Statement) (l v kind : ℕ) (before : List ℕ) where
+  abbrev text : List ℕ
+  text = cheapestText (kindOf kind) cells ss l v
+
+  abbrev number : ℕ
+  number = askedNumber (analysed cells ss .numbers) l v kind
+
+  pub over-read : most < number → planRead cells ss l v kind (length before) ≡ refused noFigure 0
+  unfolding planRead weigh _>>_ pick
+  over-read h = rw (lt-ltb most number h) refl
+
+  pub long-read : number ≤ most → length before < length text → planRead cells ss l v kind (length before) ≡ refused planLong 0
+  unfolding planRead weigh _>>_ pick
+  long-read h q = rw (le-ltb most number h, lt-ltb (length before) (length text) q) refl
+
+  pub fits-read : number ≤ most → length text ≤ length before → planRead cells ss l v kind (length before) ≡ read text
+  unfolding planRead weigh _>>_ pick
+  fits-read h q = rw (le-ltb most number h, le-ltb (length before) (length text) q) refl
+
+  -- One of the three it is.
+  tested : {A : Type 0} → (most < number → A) → (number ≤ most → length before < length text → A) → (number ≤ most → length text ≤ length before → A) → A
+  tested over long fits =
+      by-test (ltb most number) (λ t. over (ltb-true most number t))
+      (λ t.
+      by-test (ltb (length before) (length text)) (λ u. long (ltb-false most number t) (ltb-true (length before) (length text) u))
+      (λ u. fits (ltb-false most number t) (ltb-false (length before) (length text) u)))
+
+  ends : (o : Read (List ℕ)) → planRead cells ss l v kind (length before) ≡ o → (after : List ℕ) → after ≡ textAfter o before → (said : Read ℕ) → said ≡ lengthOf o
+      → (number ≤ most → Cheapest cells ss (kindOf kind) l v) → PlanConcluded cells ss l v kind before after said
+  unfolding lengthOf
+  ends o e after a said s plan =
+      record {
+        answers = s ∙ ap lengthOf (sym e);
+        leaves = a ∙ ap (λ (x : Read (List ℕ)). textAfter x before) (sym e);
+        plan = plan;
+        written = λ n q.
+            tested (λ h. refused-read (sym (sym q ∙ s ∙ ap lengthOf (sym e ∙ over-read h))))
+            (λ h k. refused-read (sym (sym q ∙ s ∙ ap lengthOf (sym e ∙ long-read h k))))
+            (λ h k. (h, read-same n (length text) (sym q ∙ s ∙ ap lengthOf (sym e ∙ fits-read h k))));
+        noNumber = λ line q.
+            tested (λ h. h)
+            (λ h k. refusals-differ noFigure planLong line 0 (λ z. omega arith) (sym q ∙ s ∙ ap lengthOf (sym e ∙ long-read h k)))
+            (λ h k. refused-read (sym q ∙ s ∙ ap lengthOf (sym e ∙ fits-read h k)));
+        tooLong = λ line q.
+            tested (λ h. refusals-differ planLong noFigure line 0 (λ z. omega arith) (sym q ∙ s ∙ ap lengthOf (sym e ∙ over-read h)))
+            (λ h k. (h, k)) (λ h k. refused-read (sym q ∙ s ∙ ap lengthOf (sym e ∙ fits-read h k)));
+      }
+
+  pub ends-over : most < number → (after : List ℕ) → after ≡ replicate (length before) 0 → (said : Read ℕ) → said ≡ refused noFigure 0 → PlanConcluded cells ss l v kind before after said
+  unfolding textAfter lengthOf
+  ends-over h after a said s = ends (refused noFigure 0) (over-read h) after a said s (λ q. absurd (omega arith))
+
+  module _ (h : number ≤ most) (middle : List ℕ) (end : ℕ) (put : PlanPut cells ss (kindOf kind) l v before middle end) where
+    pub ends-long : length before < end → (after : List ℕ) → after ≡ replicate (length before) 0 → (said : Read ℕ) → said ≡ refused planLong 0 → PlanConcluded cells ss l v kind before after said
+    unfolding textAfter lengthOf
+    ends-long q after a said s =
+        ends (refused planLong 0) (long-read h (omega (arith, put .put .moved))) after a said s (λ z. put .plan)
+
+    pub ends-fitting : end ≤ length before → (said : Read ℕ) → said ≡ read end → PlanConcluded cells ss l v kind before middle said
+    unfolding textAfter lengthOf
+    ends-fitting q said s =
+        let fits : length text ≤ length before = omega (arith, put .put .moved) in
+        let same : end ≡ length text = omega (arith, put .put .moved) in
+        ends (read text) (fits-read h fits) middle (put-front (put .put) fits) said (s ∙ ap read same) (λ z. put .plan)
+
+-- ---- the plan that is put
+
+pub plan-put : (cells : List Cell) (ss : List Statement) (l v kind : ℕ) (library netlist before middle : List ℕ) (end : ℕ) → PutWhere library netlist l v kind before middle end
+    → Holds library netlist cells ss → askedNumber (analysed cells ss .numbers) l v kind ≤ most → PlanPut cells ss (kindOf kind) l v before middle end
+plan-put cells ss l v kind library netlist before middle end w holds h =
+    let i = asked-known (analysed cells ss .numbers) l v kind h in
+    let e = kind-is kind (i .0 .kinds) in
+    let place : node (kindOf kind) (set l v) ≡ settingPlace kind l v = sym (set-node (kindOf kind) l v) ∙ ap (λ (n : ℕ). settingPlace n l v) e in
+    w (kindOf kind) cells ss e holds (rw (place, ← i .1) h)
+
+-- The number that was read is the one of the analysis.
+pub number-is : (library netlist numbers : List ℕ) (cells : List Cell) (ss : List Statement) → Analysed library netlist numbers cells ss → (l v kind : ℕ)
+    → askedNumber numbers l v kind ≡ askedNumber (analysed cells ss .numbers) l v kind
+number-is library netlist numbers cells ss h l v kind =
+    ap (λ (xs : List ℕ). askedNumber xs l v kind) (h .stand) ∙ asked-same cells ss (h .holds .sound) (h .rest) l v kind

@@ -1,0 +1,120 @@
+-- What a call that writes out the cheapest way answers and leaves. Document 02, K3.
+-- Assumes nothing.
+use mathlib.Core.Bool.{Bool, true, _&&_}
+use mathlib.Core.List.{List, [], _∷_, _++_}
+use mathlib.Core.Path.{_≡_}
+use Prim.Native.Nat.{ℕ, zero, suc, _≤_, _<_}
+use lib.Dec.{leb, ltb}
+use lib.ListN.{length, getD, drop, replicate}
+use Rattle.sizes.specs.Sizes as Size
+use Rattle.sizes.specs.Places.{settingPlace}
+use Rattle.reading.specs.Choice.{pick}
+use Rattle.reading.specs.Refusal.{Read, refused, read, _>>_, weigh}
+use Rattle.cost.specs.Cost.{most, never}
+use Rattle.cell_library.specs.Cells.{Cell}
+use Rattle.netlist.specs.Netlist.{Statement}
+use Rattle.calculation.specs.Nodes.{Kind, combinational, sequential}
+use Rattle.calculation.specs.Calculation.{analysed}
+use Rattle.cheapest.specs.Text.{cheapestText}
+use Rattle.cheapest.specs.Plan.{Cheapest}
+use Rattle.outcome.specs.Outcome as O
+use Rattle.planning.specs.declared.Written.{Written}
+use Rattle.planning.specs.declared.Written.the-variants.{Length, Refused}
+
+-- "Refused: 18 when the number is over or never; then 19 when the text exceeds its buffer."
+abbrev pub noFigure : ℕ
+noFigure = 18
+
+abbrev pub planLong : ℕ
+planLong = 19
+
+-- "A line outside 1 to 1,000, or an unknown value or kind, counts as never."
+unfoldable pub known : ℕ → ℕ → ℕ → Bool
+known l v kind = (leb 1 l && leb l Size.lines) && (leb v 1 && leb kind 1)
+
+unfoldable pub askedNumber : List ℕ → ℕ → ℕ → ℕ → ℕ
+askedNumber numbers l v kind = pick (known l v kind) (getD numbers (settingPlace kind l v) 0) never
+
+-- "a kind of cost (0 combinational, 1 sequential)"
+unfoldable pub kindOf : ℕ → Kind
+kindOf zero = combinational
+kindOf (suc n) = sequential
+
+-- The text of a line, a value and a kind, in a buffer that has room for `space` bytes: "18 ..; then 19", both at line 0.
+unfoldable pub planRead : List Cell → List Statement → ℕ → ℕ → ℕ → ℕ → Read (List ℕ)
+planRead cells ss l v kind space =
+    let text = cheapestText (kindOf kind) cells ss l v in
+    weigh 0 ((noFigure, ltb most (askedNumber (analysed cells ss .numbers) l v kind)) ∷ (planLong, ltb space (length text)) ∷ [])
+    >> read text
+
+-- ---- the call
+
+-- "Both come after every other check (17 isn't made here)": the analysis has a report buffer of its own, which has room for every
+-- report, so that its refusals are 1 to 15.
+unfoldable pub ownReport : O.Lent → O.Lent
+ownReport m =
+    record { library = m .library; netlist = m .netlist; numbers = m .numbers; report = replicate Size.reportBytes 0 }
+
+unfoldable pub planAfter : Read O.Accepted → ℕ → ℕ → ℕ → ℕ → Read (List ℕ)
+planAfter (refused number line) l v kind space = refused number line
+planAfter (read a) l v kind space = planRead (a .cells) (a .statements) l v kind space
+
+-- What the call comes to: `m` is what is lent, the text buffer in the report's place.
+unfoldable pub planOutcome : O.Given → O.Lent → ℕ → ℕ → ℕ → Read (List ℕ)
+planOutcome g m l v kind = planAfter (O.outcome g (ownReport m)) l v kind (length (m .report))
+
+-- The answer: the text's length, or the refusal.
+unfoldable pub lengthOf : Read (List ℕ) → Read ℕ
+lengthOf (refused number line) = refused number line
+lengthOf (read text) = read (length text)
+
+unfoldable pub writtenRead : Written → Read ℕ
+writtenRead (Length n) = read n
+writtenRead (Refused r) = refused (r .number) (r .line)
+
+-- The text buffer afterwards: "and zero that buffer alone; on acceptance, bytes past the text keep their values".
+unfoldable pub textAfter : Read (List ℕ) → List ℕ → List ℕ
+textAfter (refused number line) before = replicate (length before) 0
+textAfter (read text) before = text ++ drop (length text) before
+
+-- "every other check .. whose refusals treat that buffer as the report's": at entry it stays as it was.
+unfoldable pub textLeft : Read (Unit {0}) → Read (List ℕ) → List ℕ → List ℕ
+textLeft (refused number line) o before = before
+textLeft (read u) o before = textAfter o before
+
+-- All that was lent afterwards: the tables as the analysis leaves them, the text buffer.
+unfoldable pub planLeft : O.Given → O.Lent → ℕ → ℕ → ℕ → O.Lent
+planLeft g m l v kind =
+    let tables = O.left g (ownReport m) in
+    record {
+      library = tables .library;
+      netlist = tables .netlist;
+      numbers = tables .numbers;
+      report = textLeft (O.entry g m) (planOutcome g m l v kind) (m .report);
+    }
+
+-- ---- what holds of it
+
+-- Of an accepted library and netlist:
+pub record PlanConcluded (cells : List Cell) (ss : List Statement) (l v kind : ℕ) (before after : List ℕ) (said : Read ℕ) : Type 0 where
+  pub answers : said ≡ lengthOf (planRead cells ss l v kind (length before))
+  pub leaves : after ≡ textAfter (planRead cells ss l v kind (length before)) before
+  -- Wherever the number is a figure there is a plan in document 01's own sense for just that line, value and kind, whose rows are
+  -- those by which the sweeps last lowered each number, whose exact cost is the number, and whose text is the one written. So it
+  -- is when a text is written, and when 19 says that it is longer than the buffer.
+  pub plan : askedNumber (analysed cells ss .numbers) l v kind ≤ most → Cheapest cells ss (kindOf kind) l v
+  pub written : (n : ℕ) → said ≡ read n
+      → (askedNumber (analysed cells ss .numbers) l v kind ≤ most) × (n ≡ length (cheapestText (kindOf kind) cells ss l v))
+  -- 18: the number is over or never, or there is none.
+  pub noNumber : (line : ℕ) → said ≡ refused noFigure line → most < askedNumber (analysed cells ss .numbers) l v kind
+  -- 19: the number is a figure, and the plan's text is longer than the buffer.
+  pub tooLong : (line : ℕ) → said ≡ refused planLong line
+      → (askedNumber (analysed cells ss .numbers) l v kind ≤ most) × (length before < length (cheapestText (kindOf kind) cells ss l v))
+
+-- What the call promises: by equation its answer, the refusal and its line, and every entry of every lent slice afterwards; and
+-- where the analysis accepts, what was said above.
+pub record PlanPromised (g : O.Given) (before after : O.Lent) (l v kind : ℕ) (said : Read ℕ) : Type 0 where
+  pub answers : said ≡ lengthOf (planOutcome g before l v kind)
+  pub leaves : after ≡ planLeft g before l v kind
+  pub accepted : (a : O.Accepted) → O.outcome g (ownReport before) ≡ read a
+      → PlanConcluded (a .cells) (a .statements) l v kind (before .report) (after .report) said

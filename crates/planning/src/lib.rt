@@ -1,0 +1,153 @@
+// The cheapest way to set a line, written out from two texts: document 02, K3.
+//
+// Open to others: `write_plan`, over two texts, three tables and a text buffer that the caller lends, with a line, a
+// value and a kind; the type `Written`. It has no condition on its input; specs/Promise.antt says what it promises.
+use cheapest::put_cheapest;
+use cost::MOST;
+use cost::NEVER;
+use outcome::Answer;
+use reading::Refusal;
+use reading::TABLE_SHORT;
+use reading::TEXT_LONG;
+use table::clear_bytes;
+use table::word;
+ghost use mathlib.Core.List.{List};
+ghost use mathlib.Core.Path.{_≡_};
+ghost use lib.ListN.{length, replicate};
+ghost use Rattle.reading.specs.Numbers as No;
+ghost use Rattle.reading.specs.Choice.{pick};
+ghost use Rattle.reading.specs.Refusal.{refused};
+ghost use Rattle.cell_library.specs.Cells.{Cell};
+ghost use Rattle.netlist.specs.Netlist.{Statement};
+ghost use Rattle.outcome.specs.Answer.{answerRead, lentOf};
+ghost use Rattle.outcome.specs.Outcome.{givenTexts};
+ghost use Rattle.planning.specs.Parts.{Alone, Analysed, SomeAnalysed};
+ghost use Rattle.planning.specs.Promise.{known, askedNumber, writtenRead, PlanConcluded, PlanPromised};
+
+// "18 when the number is over or never; then 19 when the text exceeds its buffer"
+const NO_FIGURE: u32 = 18;
+
+const PLAN_LONG: u32 = 19;
+
+// The text's length, or a refusal. `writtenRead` gives its cases.
+pub enum Written {
+    Length(usize),
+    Refused(Refusal),
+}
+
+// An analysis whose report is not asked for: the buffer has room for every report, so that 17 is not made.
+fn analyse_alone(
+    lib: &[u8],
+    net: &[u8],
+    library: &mut [u32],
+    netlist: &mut [u32],
+    numbers: &mut [u32],
+) -> Answer
+    ensures { λ r. ⌜ Alone (givenTexts (now (lib .entry)) (now (net .entry)))
+        (now (library .entry)) (now (netlist .entry)) (now (numbers .entry))
+        (now (library .exit)) (now (netlist .exit)) (now (numbers .exit)) (answerRead r) ⌝ }
+{
+    let mut report = [0u8; sizes::REPORT_BYTES];
+    analysis::analyse(lib, net, library, netlist, numbers, &mut report)
+}
+
+// "A line outside 1 to 1,000, or an unknown value or kind, counts as never."
+fn is_known(line: usize, value: usize, kind: usize) -> bool
+    ensures { λ r. ⌜ r ≡ known line value kind ⌝ }
+{
+    ((1 <= line) & (line <= sizes::LINES)) & ((value <= 1) & (kind <= 1))
+}
+
+// The number of a line, a value and a kind; never where there is none.
+fn asked_number(numbers: &[u32], line: usize, value: usize, kind: usize) -> u32
+    ensures { λ r. ⌜ r ≡ askedNumber (now (numbers .entry)) line value kind ⌝ }
+{
+    if is_known(line, value, kind) {
+        word(
+            numbers,
+            (line - 1) * sizes::COSTS + kind * sizes::VALUES + value,
+        )
+    } else {
+        NEVER
+    }
+}
+
+// A refusal at line 0, which zeroes the text buffer.
+fn refuse(text: &mut [u8], number: u32) -> Written
+    ensures zeroed { λ _. ⌜ now (text .exit) ≡ replicate (length (now (text .entry))) 0 ⌝ }
+    ensures told { λ r. ⌜ writtenRead r ≡ refused number 0 ⌝ }
+{
+    clear_bytes(text);
+    Written::Refused(Refusal { number, line: 0 })
+}
+
+// The end of the call, from tables that hold an accepted library and netlist with the numbers of their analysis.
+fn conclude_plan(
+    library: &[u32],
+    netlist: &[u32],
+    numbers: &[u32],
+    text: &mut [u8],
+    line: usize,
+    value: usize,
+    kind: usize,
+) -> Written
+    requires { ⌜ SomeAnalysed (now library) (now netlist) (now numbers) ⌝ }
+    ensures { λ r. ⌜ ((cells : List Cell) (ss : List Statement)
+        → Analysed (now (library .entry)) (now (netlist .entry)) (now (numbers .entry)) cells ss
+        → PlanConcluded cells ss line value kind (now (text .entry)) (now (text .exit)) (writtenRead r)) ⌝ }
+{
+    let number = asked_number(numbers, line, value, kind);
+    if MOST < number {
+        return refuse(text, NO_FIGURE);
+    }
+    let end = put_cheapest(library, netlist, text, line, value, kind);
+    if text.len() < end {
+        return refuse(text, PLAN_LONG);
+    }
+    Written::Length(end)
+}
+
+// Whether a refusal is one at entry.
+fn is_entry(number: u32) -> bool
+    ensures { λ r. ⌜ r ≡ No.ofEntry number ⌝ }
+{
+    (number == TABLE_SHORT) | (number == TEXT_LONG)
+}
+
+// Zeroes the text buffer after a refusal that is not at entry.
+fn clear_later(text: &mut [u8], number: u32)
+    ensures { λ _. ⌜ now (text .exit)
+        ≡ pick (No.ofEntry number) (now (text .entry)) (replicate (length (now (text .entry))) 0) ⌝ }
+{
+    if is_entry(number) {
+        return;
+    }
+    clear_bytes(text);
+}
+
+// Writes the cheapest way to set a line to a value, of one kind of cost, at the start of the text buffer.
+pub fn write_plan(
+    lib: &[u8],
+    net: &[u8],
+    library: &mut [u32],
+    netlist: &mut [u32],
+    numbers: &mut [u32],
+    text: &mut [u8],
+    line: usize,
+    value: usize,
+    kind: usize,
+) -> Written
+    ensures { λ r. ⌜ PlanPromised (givenTexts (now (lib .entry)) (now (net .entry)))
+        (lentOf (now (library .entry)) (now (netlist .entry)) (now (numbers .entry)) (now (text .entry)))
+        (lentOf (now (library .exit)) (now (netlist .exit)) (now (numbers .exit)) (now (text .exit)))
+        line value kind (writtenRead r) ⌝ }
+{
+    let answer = analyse_alone(lib, net, library, netlist, numbers);
+    match answer {
+        Answer::Refused(r) => {
+            clear_later(text, r.number);
+            Written::Refused(r)
+        }
+        Answer::Accepted(_s) => conclude_plan(library, netlist, numbers, text, line, value, kind),
+    }
+}
