@@ -11,6 +11,12 @@ mod c {
             report: *mut u8,
             report_len: usize,
         ) -> u64;
+        pub fn scoap_cell(
+            line: *const u8,
+            line_len: usize,
+            entry: *mut u8,
+            entry_len: usize,
+        ) -> u64;
     }
 }
 
@@ -26,4 +32,10 @@ pub fn scoap_report(lib: &[u8], net: &[u8], report: &mut [u8]) -> u64 {
             report.len(),
         )
     }
+}
+
+#[allow(dead_code)]
+pub fn scoap_cell(line: &[u8], entry: &mut [u8]) -> u64 {
+    // Each slice is valid for its length, and the two do not overlap.
+    unsafe { c::scoap_cell(line.as_ptr(), line.len(), entry.as_mut_ptr(), entry.len()) }
 }
