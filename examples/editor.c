@@ -78,9 +78,11 @@ static const char *reason(unsigned number)
     case SCOAP_PIN_COUNT:
         return "the cell has another count of pins";
     case SCOAP_DRIVEN_TWICE:
-        return "the line is driven already";
+        return "the line is driven or declared open already";
     case SCOAP_OUTPUT_TWICE:
         return "the line is marked output already";
+    case SCOAP_UNDECLARED:
+        return "a line is read or marked that nothing drives or declares open";
     case SCOAP_REPORT_TOO_LONG:
         return "the report is longer than its buffer";
     default:

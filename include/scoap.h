@@ -68,13 +68,16 @@ enum scoap_refusal {
     SCOAP_UNKNOWN_CELL = 12,
     /* the count of pins differs from the cell's */
     SCOAP_PIN_COUNT = 13,
-    /* the line is driven already, by an input or a gate */
+    /* the line is driven already, by an input or a gate, or declared open */
     SCOAP_DRIVEN_TWICE = 14,
     /* the line is marked output already */
     SCOAP_OUTPUT_TWICE = 15,
 
     /* the report is longer than its buffer */
-    SCOAP_REPORT_TOO_LONG = 17
+    SCOAP_REPORT_TOO_LONG = 17,
+
+    /* a line is read by a pin or marked output, and neither driven nor declared open */
+    SCOAP_UNDECLARED = 20
 };
 
 /*
@@ -89,7 +92,7 @@ enum scoap_refusal {
  *
  * Answers the report's length, which is below SCOAP_REFUSED, where the pair is accepted. Otherwise
  * it answers the refusal's number times 1,000,000 plus the line, from 1 in the text that the number
- * belongs to: 3 to 9 the library, 10 to 15 the netlist; 2 and 17 have line 0. The library is read
+ * belongs to: 3 to 9 the library, 10 to 15 the netlist; 2, 17 and 20 have line 0. The library is read
  * first; the topmost bad line counts, and within it the lowest number.
  *
  * The buffer afterwards:

@@ -16,31 +16,31 @@ use Rattle.cell_library.specs.Cells.{Cell}
 use Rattle.cell_library.specs.Layout.{libraryWords, LibraryHolds}
 use Rattle.cell_library.proofs.Laws.{sound-fits}
 use Rattle.cell_library.proofs.Places.{length-libraryWords}
-use Rattle.netlist.specs.declared.Rules.the-variants.{Old}
+use Rattle.netlist.specs.declared.Rules.{Rules}
 use Rattle.netlist.specs.Layout.{netlistAfter}
 use Rattle.netlist.specs.Netlist.{netlist}
 use Rattle.netlist.specs.Admitting.{netlistEntry, ReadsAs, ReadsFrom, ReadsNetlist}
 use Rattle.netlist.proofs.Entering.{passes}
 use Rattle.outcome.specs.declared.Progress.{Progress}
 use Rattle.outcome.specs.declared.Progress.the-variants.{Unrefused, Later}
-use Rattle.outcome.specs.Outcome.{Lent, givenTexts}
+use Rattle.outcome.specs.Outcome.{Lent, givenBy}
 use Rattle.outcome.specs.Progress.{progressOf}
 use Rattle.outcome.proofs.Promising.{NetlistRead}
 use Rattle.analysis.specs.Netlist.{TextRead}
 
-module _ (text lib before : List ℕ) (begun : Progress) where
-  pub text-stays : (begun ≡ Unrefused → ⊥) → TextRead text lib before begun before begun
+module _ (rules : Rules) (text lib before : List ℕ) (begun : Progress) where
+  pub text-stays : (begun ≡ Unrefused → ⊥) → TextRead rules text lib before begun before begun
   text-stays h = record { stays = λ _. (refl, refl); reads = λ o. absurd (h o) }
 
   module _ (o : begun ≡ Unrefused) (v : Verdict) (after : List ℕ)
-      (ensures : ReadsNetlist Old text lib before v after) where
+      (ensures : ReadsNetlist rules text lib before v after) where
     -- Behind the reader's entry.
     lines-read : netlistEntry (length text) (length lib) (length before) ≡ read tt
-        → (cells : List Cell) → LibraryHolds lib cells → ReadsAs (netlist Old cells text) before v after
+        → (cells : List Cell) → LibraryHolds lib cells → ReadsAs (netlist rules cells text) before v after
     unfolding ReadsNetlist ReadsFrom
     lines-read passed = rw passed at ensures
 
-    pub text-refused : (r : Refusal) → v ≡ Refused r → TextRead text lib before begun after (Later r)
+    pub text-refused : (r : Refusal) → v ≡ Refused r → TextRead rules text lib before begun after (Later r)
     unfolding verdictRead progressOf
     text-refused r q =
         record {
@@ -48,11 +48,11 @@ module _ (text lib before : List ℕ) (begun : Progress) where
           reads =
               λ _ passed cells stands.
               let e = lines-read passed cells stands in
-              let n = done-refused (netlist Old cells text) (r .number) (r .line) (rw q at (e .answers)) in
+              let n = done-refused (netlist rules cells text) (r .number) (r .line) (rw q at (e .answers)) in
               (rw n, e .leaves);
         }
 
-    pub text-accepted : v ≡ Accepted → TextRead text lib before begun after Unrefused
+    pub text-accepted : v ≡ Accepted → TextRead rules text lib before begun after Unrefused
     unfolding verdictRead progressOf
     text-accepted q =
         record {
@@ -60,16 +60,16 @@ module _ (text lib before : List ℕ) (begun : Progress) where
           reads =
               λ _ passed cells stands.
               let e = lines-read passed cells stands in
-              (done-read (netlist Old cells text) (rw q at (e .answers)) (λ ss n. rw n), e .leaves);
+              (done-read (netlist rules cells text) (rw q at (e .answers)) (λ ss n. rw n), e .leaves);
         }
 
 -- It is the netlist of the two texts that is read. The entry of the call has seen to the length of the text and of its table,
 -- and a library table that holds cells has its published size.
-pub netlist-read : (lib net : List ℕ) (m : Lent) (library′ : List ℕ) (begun : Progress) (netlist′ : List ℕ) (said : Progress)
+pub netlist-read : (rules : Rules) (lib net : List ℕ) (m : Lent) (library′ : List ℕ) (begun : Progress) (netlist′ : List ℕ) (said : Progress)
     → (begun ≡ Unrefused → (length net ≤ Size.textBytes) × (Size.netlist ≤ length (m .netlist)))
-    → TextRead net library′ (m .netlist) begun netlist′ said → NetlistRead (givenTexts lib net) m library′ begun netlist′ said
-unfolding givenTexts netlistAfter
-netlist-read lib net m library′ begun netlist′ said fitting t =
+    → TextRead rules net library′ (m .netlist) begun netlist′ said → NetlistRead (givenBy rules lib net) m library′ begun netlist′ said
+unfolding givenBy netlistAfter
+netlist-read rules lib net m library′ begun netlist′ said fitting t =
     record {
       stays = t .stays;
       reads =

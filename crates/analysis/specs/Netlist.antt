@@ -7,7 +7,7 @@ use lib.ListN.{length}
 use Rattle.reading.specs.Refusal.{read}
 use Rattle.cell_library.specs.Cells.{Cell}
 use Rattle.cell_library.specs.Layout.{LibraryHolds}
-use Rattle.netlist.specs.declared.Rules.the-variants.{Old}
+use Rattle.netlist.specs.declared.Rules.{Rules}
 use Rattle.netlist.specs.Admitting.{netlistEntry}
 use Rattle.netlist.specs.Layout.{netlistAfter}
 use Rattle.netlist.specs.Netlist.{netlist}
@@ -17,8 +17,8 @@ use Rattle.outcome.specs.Progress.{progressOf}
 
 -- Nothing happens once a refusal stands; else the text is read against the cells that the library table holds. Behind the entry of
 -- the call the reader's own entry refuses nothing.
-pub record TextRead (text lib before : List ℕ) (begun : Progress) (after : List ℕ) (said : Progress) : Type 0 where
+pub record TextRead (rules : Rules) (text lib before : List ℕ) (begun : Progress) (after : List ℕ) (said : Progress) : Type 0 where
   pub stays : (begun ≡ Unrefused → ⊥) → (said ≡ begun) × (after ≡ before)
   pub reads : begun ≡ Unrefused → netlistEntry (length text) (length lib) (length before) ≡ read tt
       → (cells : List Cell) → LibraryHolds lib cells
-      → (said ≡ progressOf (netlist Old cells text)) × (after ≡ netlistAfter (netlist Old cells text) before)
+      → (said ≡ progressOf (netlist rules cells text)) × (after ≡ netlistAfter (netlist rules cells text) before)

@@ -3,7 +3,8 @@
 // Open to others: `analyse`, over two texts, three tables and a report buffer that the caller lends.
 // It has no condition on its input. What it promises is in crate `outcome`: specs/Outcome.antt has its
 // answer and what it leaves in lent memory, specs/Demands.antt the three demands. The published sizes
-// of the tables are `sizes::LIBRARY`, `sizes::NETLIST` and `sizes::NUMBERS`.
+// of the tables are `sizes::LIBRARY`, `sizes::NETLIST` and `sizes::NUMBERS`. For the crates above:
+// `read_netlist`, between `outcome::begin` and `outcome::finish`.
 use netlist::Rules;
 use outcome::Answer;
 use outcome::Progress;
@@ -15,16 +16,23 @@ ghost use Rattle.outcome.specs.Answer.{answerRead, lentOf};
 ghost use Rattle.outcome.specs.Demands.{Promised};
 ghost use Rattle.outcome.specs.Outcome.{givenTexts};
 
-// Reads the netlist text against the cells of the library table. Nothing happens once a refusal stands.
-fn read_netlist(net: &[u8], library: &[u32], netlist: &mut [u32], begun: Progress) -> Progress
-    ensures { λ r. ⌜ TextRead (now (net .entry)) (now (library .entry)) (now (netlist .entry)) begun
+// Reads the netlist text by the rules named, against the cells of the library table. Nothing happens once a
+// refusal stands.
+pub fn read_netlist(
+    rules: Rules,
+    net: &[u8],
+    library: &[u32],
+    netlist: &mut [u32],
+    begun: Progress,
+) -> Progress
+    ensures { λ r. ⌜ TextRead rules (now (net .entry)) (now (library .entry)) (now (netlist .entry)) begun
         (now (netlist .exit)) r ⌝ }
 {
     match begun {
         Progress::AtEntry(_) => begun,
         Progress::Later(_) => begun,
         Progress::Unrefused => {
-            let statements = netlist::read_netlist(Rules::Old, net, library, netlist);
+            let statements = netlist::read_netlist(rules, net, library, netlist);
             match statements {
                 Verdict::Refused(r) => Progress::Later(r),
                 Verdict::Accepted => Progress::Unrefused,
@@ -49,6 +57,6 @@ pub fn analyse(
         (answerRead r) ⌝ }
 {
     let begun = begin(lib, net.len(), library, netlist.len(), numbers.len());
-    let progress = read_netlist(net, library, netlist, begun);
+    let progress = read_netlist(Rules::New, net, library, netlist, begun);
     finish(library, netlist, numbers, report, progress)
 }

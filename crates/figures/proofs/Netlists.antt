@@ -1,13 +1,13 @@
 -- Figures of document 01 "Netlist" and "Where a text stops", by computation: the NAND2 latch of "Figures to hold" reads to
--- its statements, and a text for each refusal 10 to 15 is refused by its number at its line. Assumes nothing.
+-- its statements, and a text for each refusal 10 to 15, and 20, is refused by its number at its line. Assumes nothing.
 use mathlib.Core.List.{List, [], _∷_}
 use mathlib.Core.Path.{_≡_, refl}
 use Prim.Native.Nat.{ℕ}
 use Rattle.text.specs.Bytes.{bytes, text}
 use Rattle.reading.specs.Refusal.{Read, refused, read}
 use Rattle.cell_library.specs.Cells.{plain, Cell}
-use Rattle.netlist.specs.declared.Rules.the-variants.{Old}
-use Rattle.netlist.specs.Netlist.{Statement, input, output, mark, gate, netlist, netlist-open}
+use Rattle.netlist.specs.declared.Rules.the-variants.{Old, New}
+use Rattle.netlist.specs.Netlist.{Statement, input, output, opened, mark, gate, netlist, netlist-open}
 
 -- A library of one cell, by the name and the pins that a netlist asks for.
 abbrev cells : List Cell
@@ -15,11 +15,11 @@ cells = record { name = bytes "NAND2"; pins = 2; heading = plain; cc = []; co = 
 
 unfoldable pub readAll : List (List ℕ) → List (Read (List Statement))
 readAll [] = []
-readAll (t ∷ ts) = netlist Old cells t ∷ readAll ts
+readAll (t ∷ ts) = netlist New cells t ∷ readAll ts
 
 pub accepted : readAll
     (text ("input,1" ∷ "input,2" ∷ "gate,NAND2,3,1,4" ∷ "gate,NAND2,4,2,3" ∷ "output,3" ∷ [])
-    ∷ text ("output,1000" ∷ "gate,NAND2,7,7,7" ∷ [])
+    ∷ text ("output,1000" ∷ "gate,NAND2,7,7,7" ∷ "open,1000" ∷ "open,3" ∷ [])
     ∷ text []
     ∷ [])
     ≡ read
@@ -29,7 +29,8 @@ pub accepted : readAll
     ∷ gate (record { cell = 0; line = 4; pins = 2 ∷ 3 ∷ [] })
     ∷ mark output 3
     ∷ [])
-    ∷ read (mark output 1000 ∷ gate (record { cell = 0; line = 7; pins = 7 ∷ 7 ∷ [] }) ∷ [])
+    ∷ read
+    (mark output 1000 ∷ gate (record { cell = 0; line = 7; pins = 7 ∷ 7 ∷ [] }) ∷ mark opened 1000 ∷ mark opened 3 ∷ [])
     ∷ read []
     ∷ []
 unfolding readAll netlist-open
@@ -62,11 +63,29 @@ unfolding readAll netlist-open
 refused-13 = refl
 
 -- 14: of two lines that clash the later is the bad one.
-pub refused-14 : readAll (text ("input,1" ∷ "input,1" ∷ []) ∷ text ("gate,NAND2,3,1,2" ∷ "output,3" ∷ "input,3" ∷ []) ∷ [])
-    ≡ refused 14 2 ∷ refused 14 3 ∷ []
+pub refused-14 : readAll
+    (text ("input,1" ∷ "input,1" ∷ [])
+    ∷ text ("gate,NAND2,3,1,2" ∷ "output,3" ∷ "input,3" ∷ [])
+    ∷ text ("open,1" ∷ "input,1" ∷ [])
+    ∷ text ("gate,NAND2,3,1,2" ∷ "open,3" ∷ [])
+    ∷ text ("open,1" ∷ "open,1" ∷ [])
+    ∷ [])
+    ≡ refused 14 2 ∷ refused 14 3 ∷ refused 14 2 ∷ refused 14 2 ∷ refused 14 2 ∷ []
 unfolding readAll netlist-open
 refused-14 = refl
 
 pub refused-15 : readAll (text ("output,3" ∷ "output,4" ∷ "output,3" ∷ []) ∷ []) ≡ refused 15 3 ∷ []
 unfolding readAll netlist-open
 refused-15 = refl
+
+-- 20: a line that a pin reads, or an output marks, without a driver; only where every line of the text is good.
+pub refused-20 : readAll
+    (text ("gate,NAND2,3,1,2" ∷ "input,1" ∷ []) ∷ text ("output,1" ∷ []) ∷ text ("output,1" ∷ "input,0" ∷ []) ∷ [])
+    ≡ refused 20 0 ∷ refused 20 0 ∷ refused 11 2 ∷ []
+unfolding readAll netlist-open
+refused-20 = refl
+
+-- By the old rules `open` is bad form, and there is no 20.
+pub by-old : (netlist Old cells (text ("open,1" ∷ [])) ≡ refused 10 1) × (netlist Old cells (text ("output,1" ∷ [])) ≡ read (mark output 1 ∷ []))
+unfolding netlist-open
+by-old = (refl, refl)

@@ -16,13 +16,13 @@ use Rattle.netlist.specs.Netlist.{netlist-open}
 use Rattle.calculation.specs.Calculation.{calculation-open}
 use Rattle.plans.specs.Sweep.{sweep-open}
 use Rattle.report.specs.Report.{report-open}
-use Rattle.outcome.specs.Outcome.{Lent, Accepted, entry, outcome, tableShort, textLong, reportOf, conclude, reading, givenTexts}
+use Rattle.outcome.specs.Outcome.{Lent, Accepted, entry, outcome, tableShort, textLong, reportOf, conclude, reading, givenBy, givenTexts}
 use Rattle.figures.specs.Entries.{c1130, c1490, nand2, and2}
 
 -- Opens all that a whole analysis computes with.
 unfoldable pub outcome-open : ℕ
 unfolding library-open netlist-open calculation-open report-open bytes-open sweep-open
-    outcome entry tableShort textLong reportOf conclude reading givenTexts
+    outcome entry tableShort textLong reportOf conclude reading givenBy
 outcome-open = 0
 
 -- Tables of the published sizes and a report buffer.
@@ -167,12 +167,13 @@ backwardsFigure =
           ∷ [];
     }
 
--- "undriven line: never four times": line 2, beside an input and the output of a gate that reads both.
+-- "undriven line: never four times": line 2, beside an input and the output of a gate that reads both. "The undriven case there
+-- gains such a line." (document 02, K5)
 abbrev pub undrivenFigure : Figure
 undrivenFigure =
     record {
       library = and2;
-      netlist = "input,1" ∷ "gate,AND2,3,1,2" ∷ "output,3" ∷ [];
+      netlist = "input,1" ∷ "gate,AND2,3,1,2" ∷ "output,3" ∷ "open,2" ∷ [];
       report =
           "line,cc0,cc1,sc0,sc1,co,so"
           ∷ "1,1,1,0,0,never,never"

@@ -357,7 +357,7 @@ fn lend_full(lib: &[u8]) {
     lend_roomy(lib, full, MOST);
     lend_roomy(lib, full_with(driver(9)), MOST);
     lend_roomy(lib, full_with(mark(0, 0)), MOST);
-    lend_roomy(lib, full_with(mark(3, 1)), MOST);
+    lend_roomy(lib, full_with(mark(4, 1)), MOST);
     // 1: nothing is read
     lend_roomless(lib, full, GOOD);
 }
@@ -372,7 +372,7 @@ fn main() {
     lend_long(latch, 5);
     lend_broken(latch, 5);
     // 10: an unknown kind, an unused cell, an unused pin, a pin after a 0
-    lend_all(latch_with(mark(3, 1)), 6);
+    lend_all(latch_with(mark(4, 1)), 6);
     lend_all(
         latch_with(Record {
             kind: 0,
@@ -427,6 +427,10 @@ fn main() {
     lend_all(latch_with(mark(0, 4)), 6);
     lend_all(latch_with(mark(1, 3)), 6);
     lend_short(latch, 5);
+    // an open line; 14, where it has a driver; 20, where an output is marked that has none
+    lend_all(latch_with(mark(3, 5)), 6);
+    lend_all(latch_with(mark(3, 4)), 6);
+    lend_all(latch_with(mark(1, 5)), 6);
     let mut lib = [0u8; 4096];
     let loaded = files::load(b"lib.txt", &mut lib);
     match loaded {

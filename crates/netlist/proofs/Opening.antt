@@ -11,6 +11,7 @@ use lib.ListN.{length, getD, drop, replicate}
 use lib.Seq.{drop-at}
 use Rattle.sizes.specs.Sizes as Size
 use Rattle.reading.specs.Choice.{pick}
+use Rattle.reading.specs.Numbers as No
 use Rattle.reading.specs.Refusal.{Read, refused, read, _>>=_, _>>_, weigh}
 use Rattle.reading.specs.Verdict.{verdictRead, doneRead}
 use Rattle.reading.specs.declared.Verdict.{Verdict}
@@ -19,10 +20,9 @@ use Rattle.reading.specs.declared.Refusal.{Refusal}
 use Rattle.reading.proofs.Laws.{by-test, clash, or-cases, bind-read, then-read, done-read, done-refused}
 use Rattle.cell_library.specs.Cells.{Cell}
 use Rattle.netlist.specs.declared.Rules.{Rules}
-use Rattle.netlist.specs.declared.Rules.the-variants.{Old}
 use Rattle.netlist.specs.Netlist.{Gate, input, output, opened, Statement, mark, gate, declaring, member, linesOf}
 use Rattle.netlist.specs.Netlist.{linesClaimed, linesNeeded, mentionedLines, claimedLines, neededLines, mentioned, claimed}
-use Rattle.netlist.specs.Netlist.{textStatements, undeclared, linesWhere, undeclaredLines, someLine, undeclaredNumber, declared, netlist}
+use Rattle.netlist.specs.Netlist.{textStatements, undeclared, linesWhere, undeclaredLines, someLine, declared, netlist}
 use Rattle.netlist.specs.Layout.{mentionWord, netlistWords, NetlistHolds, netlistAfter}
 use Rattle.netlist.specs.Admitting.{wordsUndeclared, someUndeclared, ReadsAs}
 use Rattle.netlist.proofs.Causes.{member-left, member-right, member-cases, member-among, driver-taken}
@@ -152,20 +152,14 @@ where-end p l h = let n : Size.lines + 1 - l ≡ 0 = omega arith in rw n
 pub declared-read : (rules : Rules) (ss rs : List Statement) → declared rules ss ≡ read rs → ss ≡ rs
 unfolding declared
 declared-read rules ss rs e =
-    then-read (weigh 0 ((undeclaredNumber, declaring rules && someLine (undeclaredLines ss)) ∷ [])) (read ss) rs
+    then-read (weigh 0 ((No.undeclared, declaring rules && someLine (undeclaredLines ss)) ∷ [])) (read ss) rs
     (λ u w r. let same : ss ≡ rs = cc in same) e
-
--- The old rules have no 20.
-pub old-declares : (o : Read (List Statement)) → (o >>= declared Old) ≡ o
-unfolding declared weigh pick _>>_ _>>=_
-old-declares (refused number line) = refl
-old-declares (read ss) = refl
 
 held-past : {table : List ℕ} {ss : List Statement} (h : NetlistHolds table ss) → drop Size.netlist table ≡ h .past
 held-past {table} {ss} h = rw (h .words) (drop-at (netlistWords ss) (h .past) Size.netlist (length-netlistWords ss))
 
 module _ (rules : Rules) (before : List ℕ) (ss : List Statement) (h : NetlistHolds before ss) (r : Verdict) (after : List ℕ) where
-  pub declares-refused : (declaring rules && someUndeclared before) ≡ true → verdictRead r ≡ refused undeclaredNumber 0
+  pub declares-refused : (declaring rules && someUndeclared before) ≡ true → verdictRead r ≡ refused No.undeclared 0
       → after ≡ replicate (length before) 0 → ReadsAs (declared rules ss) before r after
   unfolding declared weigh pick _>>_ doneRead netlistAfter
   declares-refused t said z =

@@ -256,14 +256,10 @@ unfoldable pub someLine : List ℕ → Bool
 someLine [] = false
 someLine (l ∷ ls) = true
 
--- The number of the new rules alone; no caller has them in force yet.
-abbrev pub undeclaredNumber : ℕ
-undeclaredNumber = 20
-
 -- "Refused: 20 for a line read or marked but neither driven nor open, at line 0, after all netlist lines and before 17." By the
 -- old rules there is no 20.
 unfoldable pub declared : Rules → List Statement → Read (List Statement)
-declared rules ss = weigh 0 ((undeclaredNumber, declaring rules && someLine (undeclaredLines ss)) ∷ []) >> read ss
+declared rules ss = weigh 0 ((No.undeclared, declaring rules && someLine (undeclaredLines ss)) ∷ []) >> read ss
 
 unfoldable pub netlist : Rules → List Cell → List ℕ → Read (List Statement)
 netlist rules cells t = textStatements rules cells t >>= declared rules

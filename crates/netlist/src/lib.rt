@@ -45,9 +45,6 @@ const GATE: u32 = 2;
 
 const OPEN: u32 = 3;
 
-// The number of the new rules for a line that nothing declares.
-const UNDECLARED: u32 = 20;
-
 // Which rules are in force: the old ones, by which nothing declares a line open, or the new ones (K5).
 pub enum Rules {
     Old,
@@ -474,7 +471,7 @@ fn declare(rules: Rules, table: &mut [u32]) -> Verdict
 {
     let asked = declaring(rules) & some_undeclared(table);
     if asked {
-        return refusal(table, UNDECLARED, 0);
+        return refusal(table, reading::UNDECLARED, 0);
     }
     Verdict::Accepted
 }

@@ -12,10 +12,10 @@ use Rattle.reading.proofs.Bounds.{Within, anyNumber, within-bind, within-then, 
 use Rattle.reading.proofs.Laws.{refused-read}
 use Rattle.cell_library.specs.Library.{library}
 use Rattle.cell_library.proofs.Bounds.{library-within}
-use Rattle.netlist.specs.declared.Rules.the-variants.{Old}
+use Rattle.netlist.specs.declared.Rules.the-variants.{New}
 use Rattle.netlist.specs.Netlist.{netlist}
 use Rattle.netlist.proofs.Bounds.{netlist-within}
-use Rattle.outcome.specs.Outcome.{Lent, Accepted, conclude, reading, entry, outcome, answer, givenTexts}
+use Rattle.outcome.specs.Outcome.{Lent, Accepted, conclude, reading, entry, outcome, answer, givenBy, givenTexts}
 use Rattle.outcome.proofs.Entering.{texts-entry, entered}
 
 -- The line after the last of the longest text.
@@ -28,17 +28,17 @@ module _ (lib net : List ℕ) (m : Lent) where
   at-entry = within-weigh anyNumber lastLine 0 _ (omega arith) refl
 
   behind : length lib ≤ Size.textBytes → length net ≤ Size.textBytes → (space : ℕ) → Within anyNumber lastLine (reading (givenTexts lib net) space)
-  unfolding reading givenTexts conclude
+  unfolding reading givenBy conclude
   behind p q space =
       within-bind anyNumber lastLine (library lib) _ (within-any lastLine (library lib) (library-within lastLine lib (omega arith)))
-      (λ cells. within-bind anyNumber lastLine (netlist Old cells net) _ (within-any lastLine (netlist Old cells net) (netlist-within lastLine Old cells net (omega arith)))
+      (λ cells. within-bind anyNumber lastLine (netlist New cells net) _ (within-any lastLine (netlist New cells net) (netlist-within lastLine New cells net (omega arith)))
       (λ ss. within-then anyNumber lastLine (weigh 0 _) _ (within-weigh anyNumber lastLine 0 _ (omega arith) refl) tt))
 
   from-entry : (e : Read (Unit {0})) → entry (givenTexts lib net) m ≡ e → Within anyNumber lastLine (e >> reading (givenTexts lib net) (length (m .report)))
   unfolding _>>_
   from-entry (refused number line) e = subst (Within anyNumber lastLine) e at-entry
   from-entry (read u) e =
-      let k = entered _ _ _ _ _ (texts-entry lib net m ∙ e) in
+      let k = entered _ _ _ _ _ (texts-entry New lib net m ∙ e) in
       behind (k .lib-short) (k .net-short) (length (m .report))
 
   texts-within : Within anyNumber lastLine (outcome (givenTexts lib net) m)

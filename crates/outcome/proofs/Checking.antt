@@ -10,21 +10,21 @@ use lib.ListN.{length}
 use Rattle.reading.specs.Refusal.{refused, read}
 use Rattle.reading.proofs.Bounds.{Within, textNumber}
 use Rattle.cell_library.specs.Cells.{Cell}
-use Rattle.netlist.specs.declared.Rules.the-variants.{Old}
+use Rattle.netlist.specs.declared.Rules.the-variants.{New}
 use Rattle.netlist.specs.Netlist.{Statement}
 use Rattle.netlist.specs.Sound.{Sound}
 use Rattle.netlist.proofs.Bounds.{netlist-within}
 use Rattle.netlist.proofs.Laws.{netlist-sound}
-use Rattle.outcome.specs.Outcome.{Given, givenTexts}
+use Rattle.outcome.specs.Outcome.{Given, givenBy, givenTexts}
 
 pub record Checked (g : Given) : Type 0 where
   pub sound : (cells : List Cell) (ss : List Statement) → g .statements cells ≡ read ss → Sound cells ss
   pub numbered : (cells : List Cell) (number line : ℕ) → g .statements cells ≡ refused number line → textNumber number ≡ true
 
 pub texts-checked : (lib net : List ℕ) → Checked (givenTexts lib net)
-unfolding givenTexts
+unfolding givenBy
 texts-checked lib net =
     record {
-      sound = λ cells ss e. netlist-sound cells Old net ss e;
-      numbered = λ cells number line e. subst (Within textNumber _) e (netlist-within (length net + 1) Old cells net (omega arith)) .0;
+      sound = λ cells ss e. netlist-sound cells New net ss e;
+      numbered = λ cells number line e. subst (Within textNumber _) e (netlist-within (length net + 1) New cells net (omega arith)) .0;
     }

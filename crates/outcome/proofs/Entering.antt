@@ -19,15 +19,16 @@ use Rattle.cell_library.specs.Entry.{libraryEntry, readLibrary, leftBehind, lib
 use Rattle.cell_library.specs.Library.{library}
 use Rattle.cell_library.specs.Layout.{libraryAfter}
 use Rattle.cell_library.proofs.Laws.{entry-passed}
+use Rattle.netlist.specs.declared.Rules.{Rules}
 use Rattle.outcome.specs.declared.Progress.the-variants.{Unrefused, AtEntry, Later}
-use Rattle.outcome.specs.Outcome.{Lent, entry, givenTexts, tableShort, textLong}
+use Rattle.outcome.specs.Outcome.{Lent, entry, givenBy, tableShort, textLong}
 use Rattle.outcome.specs.Progress.{entryBy, progressOf, progressFrom, Begun}
 
 -- Of two texts the entry is weighed by their lengths.
-pub texts-entry : (lib net : List ℕ) (m : Lent)
-    → entryBy (length lib) (length net) (length (m .library)) (length (m .netlist)) (length (m .numbers)) ≡ entry (givenTexts lib net) m
-unfolding entryBy entry tableShort givenTexts textLong
-texts-entry lib net m = refl
+pub texts-entry : (rules : Rules) (lib net : List ℕ) (m : Lent)
+    → entryBy (length lib) (length net) (length (m .library)) (length (m .netlist)) (length (m .numbers)) ≡ entry (givenBy rules lib net) m
+unfolding entryBy entry tableShort givenBy textLong
+texts-entry rules lib net m = refl
 
 -- What is known behind the entry.
 pub record Entered (lib net library netlist numbers : ℕ) : Type 0 where

@@ -12,7 +12,8 @@ use Rattle.reading.specs.Refusal.{Read, refused, read, _>>=_, _>>_, weigh}
 use Rattle.cell_library.specs.Cells.{Cell}
 use Rattle.cell_library.specs.Library.{library}
 use Rattle.cell_library.specs.Layout.{libraryWords}
-use Rattle.netlist.specs.declared.Rules.the-variants.{Old}
+use Rattle.netlist.specs.declared.Rules.{Rules}
+use Rattle.netlist.specs.declared.Rules.the-variants.{New}
 use Rattle.netlist.specs.Netlist.{Statement, mentioned, netlist}
 use Rattle.netlist.specs.Layout.{netlistWords}
 use Rattle.calculation.specs.Calculation.{Analysed, analysed}
@@ -45,10 +46,14 @@ pub record Given : Type 0 where
   pub statements : List Cell → Read (List Statement)
   pub long : Bool
 
--- Two texts.
-unfoldable pub givenTexts : List ℕ → List ℕ → Given
-givenTexts lib net =
-    record { library = lib; statements = λ cells. netlist Old cells net; long = textLong lib || textLong net }
+-- Two texts, the netlist read by the rules that are named.
+unfoldable pub givenBy : Rules → List ℕ → List ℕ → Given
+givenBy rules lib net =
+    record { library = lib; statements = λ cells. netlist rules cells net; long = textLong lib || textLong net }
+
+-- Two texts by the rules in force.
+abbrev pub givenTexts : List ℕ → List ℕ → Given
+givenTexts lib net = givenBy New lib net
 
 -- The two checks of the entry, at line 0.
 unfoldable pub entry : Given → Lent → Read (Unit {0})

@@ -18,7 +18,7 @@ use Rattle.reading.proofs.Laws.{refused-read, then-read}
 use Rattle.text.specs.Bytes.{bytes}
 use Rattle.cell_library.specs.Cells.{Cell}
 use Rattle.cell_library.specs.Library.{library}
-use Rattle.netlist.specs.declared.Rules.the-variants.{Old}
+use Rattle.netlist.specs.declared.Rules.the-variants.{New}
 use Rattle.netlist.specs.Netlist.{Statement, mentioned, netlist}
 use Rattle.calculation.specs.Calculation.{analysed}
 use Rattle.writer.specs.Decimal.{decimalBytes}
@@ -33,7 +33,7 @@ use Rattle.outcome.specs.declared.Summary.{Summary}
 use Rattle.outcome.specs.Answer.{answerRead}
 use Rattle.outcome.specs.Demands.{Promised}
 use Rattle.outcome.specs.Outcome as O
-use Rattle.outcome.specs.Outcome.{Given, Lent, givenTexts}
+use Rattle.outcome.specs.Outcome.{Given, Lent, givenBy, givenTexts}
 use Rattle.analysis.specs.Own.{ownTables}
 use Rattle.printing.specs.Printed.{reported, shown, printed, shownOf, Printed}
 
@@ -78,16 +78,16 @@ module _ (lib net before : List ℕ) where
   lent = ownTables before
 
   tables-long : O.entry given lent ≡ weigh 0 ((No.textLong, O.textLong lib || O.textLong net) ∷ [])
-  unfolding O.entry O.tableShort givenTexts ownTables weigh pick
+  unfolding O.entry O.tableShort givenBy ownTables weigh pick
   tables-long = refl
 
   outcome-reported : Size.reportBytes ≤ length before → reportsOf (O.outcome given lent) ≡ reported lib net
-  unfolding O.outcome O.reading givenTexts ownTables reported
+  unfolding O.outcome O.reading givenBy ownTables reported
   outcome-reported room =
       rw tables-long
       (reports-then (weigh 0 ((No.textLong, O.textLong lib || O.textLong net) ∷ [])) _ _
       (reports-bind (library lib) _ _
-      (λ cells. reports-bind (netlist Old cells net) _ _
+      (λ cells. reports-bind (netlist New cells net) _ _
       (λ ss. always-reported cells ss (length before) room))))
 
   filled-by : (a : O.Accepted) → O.outcome given lent ≡ read a → O.left given lent .report ≡ a .report ++ drop (length (a .report)) before

@@ -9,7 +9,7 @@ use Rattle.sizes.specs.Sizes as Size
 use Rattle.reading.specs.Numbers as No
 use Rattle.reading.specs.Refusal.{Read, refused, read, _>>=_, _>>_, weigh}
 use Rattle.cell_library.specs.Library.{library}
-use Rattle.netlist.specs.declared.Rules.the-variants.{Old}
+use Rattle.netlist.specs.declared.Rules.the-variants.{New}
 use Rattle.netlist.specs.Netlist.{netlist}
 use Rattle.calculation.specs.Calculation.{analysed}
 use Rattle.writer.specs.Refused.{refusalBytes}
@@ -23,7 +23,7 @@ use Rattle.analysis.specs.Own.{ownTables}
 unfoldable pub reported : List ℕ → List ℕ → Read (List ℕ)
 reported lib net =
     weigh 0 ((No.textLong, textLong lib || textLong net) ∷ [])
-    >> (library lib >>= λ cells. netlist Old cells net >>= λ ss. read (reportOf ss (analysed cells ss)))
+    >> (library lib >>= λ cells. netlist New cells net >>= λ ss. read (reportOf ss (analysed cells ss)))
 
 -- "it prints all of" the report. "On refusal the program prints `refused,number,line`".
 unfoldable pub shown : Read (List ℕ) → List ℕ

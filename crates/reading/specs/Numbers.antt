@@ -62,3 +62,7 @@ markedBefore = 15
 -- "report (line 0)": "17 report longer than its buffer"
 abbrev pub reportLong : ℕ
 reportLong = 17
+
+-- "20 for a line read or marked but neither driven nor open, at line 0, after all netlist lines" (document 02, K5)
+abbrev pub undeclared : ℕ
+undeclared = 20

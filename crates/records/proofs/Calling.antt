@@ -1,8 +1,8 @@
 -- The call over records: what comes before the walk, the walk, and the end make the promise.
 -- Assumes nothing.
-use mathlib.Core.Bool.{Bool, or-false}
+use mathlib.Core.Bool.{Bool, or-false, _&&_}
 use mathlib.Core.List.{List, [], _∷_}
-use mathlib.Core.Path.{_≡_, sym, ap, subst, _∙_}
+use mathlib.Core.Path.{_≡_, refl, sym, ap, subst, _∙_}
 use Prim.Native.Nat.{ℕ, _+_}
 use native.Mathlib.Omega.{arith}
 use lib.Dec.{ltb}
@@ -10,11 +10,16 @@ use lib.ListN.{length, drop}
 use Rattle.sizes.specs.Sizes as Size
 use Rattle.table.specs.Blocks.{cleared}
 use Rattle.reading.specs.Numbers as No
-use Rattle.reading.specs.Refusal.{Read, weigh}
-use Rattle.reading.proofs.Bounds.{Within, textNumber}
+use Rattle.reading.specs.Refusal.{Read, read, weigh}
+use Rattle.reading.proofs.Bounds.{Within, textNumber, within-bind, within-then, within-weigh}
+use Rattle.reading.proofs.Laws.{bind-read}
+use Rattle.cell_library.specs.Cells.{Cell}
 use Rattle.cell_library.specs.Library.{library}
 use Rattle.cell_library.proofs.Laws.{sound-fits}
+use Rattle.netlist.specs.declared.Rules.the-variants.{New}
+use Rattle.netlist.specs.Netlist.{declaring, undeclaredLines, someLine, declared}
 use Rattle.netlist.proofs.Bounds.{admitted-within}
+use Rattle.netlist.proofs.Opening.{declared-read}
 use Rattle.netlist.proofs.Laws.{admitted-sound}
 use Rattle.netlist.proofs.Sounding.{sound-none}
 use Rattle.sweep.specs.Ready.{Ready}
@@ -29,10 +34,10 @@ use Rattle.outcome.proofs.Checking.{Checked}
 use Rattle.outcome.proofs.Entering.{Entered, entered}
 use Rattle.outcome.proofs.Promising.{NetlistRead, Reached, unrefused-entry, reached, ready, promised}
 use Rattle.records.specs.declared.Record.{Record}
-use Rattle.records.specs.Records.{recordForms, fromRecords}
-use Rattle.records.specs.Walk.{Walked}
+use Rattle.records.specs.Records.{recordForms, recordStatements, fromRecords}
+use Rattle.records.specs.Walk.{declaredProgress, Walked}
 use Rattle.records.specs.Outcome.{givenRecords, Prepared}
-use Rattle.records.proofs.Laws.{walked-end}
+use Rattle.records.proofs.Laws.{walked-end, declared-stays, declared-end}
 use Rattle.netlist.proofs.Reading.{cleared-empty}
 
 -- ---- before the walk
@@ -54,14 +59,27 @@ module _ (text lib ts num rep : List ℕ) (recs : List Record) where
   before = lentOf lib ts num rep
 
   -- What is read of records is sound, and no refusal has a number of the entry or the report.
+  within : (cells : List Cell) → Within textNumber (1 + length (recordForms recs)) (fromRecords recs cells)
+  unfolding fromRecords recordStatements declared
+  within cells =
+      let n = 1 + length (recordForms recs) in
+      within-bind textNumber n (recordStatements recs cells) (declared New)
+      (admitted-within n 1 cells [] (recordForms recs) (omega arith))
+      (λ ss.
+      let asked : List (ℕ × Bool) = (No.undeclared, declaring New && someLine (undeclaredLines ss)) ∷ [] in
+      within-then textNumber n (weigh 0 asked) (read ss) (within-weigh textNumber n 0 asked (omega arith) refl) tt)
+
   checked : Checked given
-  unfolding givenRecords fromRecords
+  unfolding givenRecords fromRecords recordStatements
   checked =
       record {
-        sound = λ cells ss e. admitted-sound cells 1 [] (recordForms recs) ss (sound-none cells) e;
-        numbered =
-            λ cells number line e.
-            subst (Within textNumber _) e (admitted-within (1 + length (recordForms recs)) 1 cells [] (recordForms recs) (omega arith)) .0;
+        sound =
+            λ cells ss e.
+            bind-read (recordStatements recs cells) (declared New) ss
+            (λ rs read-all held.
+            admitted-sound cells 1 [] (recordForms recs) ss (sound-none cells) (read-all ∙ ap read (declared-read New rs ss held)))
+            e;
+        numbered = λ cells number line e. subst (Within textNumber _) e (within cells) .0;
       }
 
   -- The entry is weighed by lengths: there is no second text.
@@ -74,26 +92,31 @@ module _ (text lib ts num rep : List ℕ) (recs : List Record) where
     lengths : s ≡ Unrefused → Entered (length text) 0 (length lib) (length ts) (length num)
     lengths o = entered _ _ _ _ _ (unrefused-entry _ (library text) (sym (p .begins .answers) ∙ o))
 
-    netlist-read : NetlistRead given before lib′ s ts″ s′
+    netlist-read : NetlistRead given before lib′ s ts″ (declaredProgress ts″ s′)
     unfolding givenRecords
     netlist-read =
         record {
-          stays = λ h. let e = w .stays h in (e .0, e .1 ∙ p .keeps h);
+          stays = λ h.
+              let e = w .stays h in
+              (declared-stays ts″ s′ (λ o. h (sym (e .0) ∙ o)) ∙ e .0, e .1 ∙ p .keeps h);
           reads =
               λ o cells sound stands.
+              let ended =
               walked-end lib′ s ts′ recs ts″ cells (drop Size.netlist ts) s′ w o (record { past = drop Size.library lib; words = stands; fits = sound-fits cells sound })
-              (p .clears o ∙ cleared-empty ts (lengths o .netlist-long));
+              (p .clears o ∙ cleared-empty ts (lengths o .netlist-long))
+              in
+              declared-end recs cells (drop Size.netlist ts) ts″ s′ (ended .0) (ended .1);
         }
 
-    progress : Reached given before lib′ ts″ s′
+    progress : Reached given before lib′ ts″ (declaredProgress ts″ s′)
     unfolding givenRecords
     progress =
-        reached given before lib′ s (rw (← records-entry) (p .begins .answers)) (rw (← records-entry) (p .begins .leaves)) ts″ s′ netlist-read
+        reached given before lib′ s (rw (← records-entry) (p .begins .answers)) (rw (← records-entry) (p .begins .leaves)) ts″ (declaredProgress ts″ s′) netlist-read
 
-    -- What the call's proof cites: what `finish` asks, and the promise.
-    pub ready-then : s′ ≡ Unrefused → Ready lib′ ts″ num
-    ready-then = ready given before checked lib′ ts″ s′ progress (λ e. entered _ _ _ _ _ (records-entry ∙ e) .numbers-long)
+    -- What the call's proof cites: what `close` asks, and the promise.
+    pub ready-then : declaredProgress ts″ s′ ≡ Unrefused → Ready lib′ ts″ num
+    ready-then = ready given before checked lib′ ts″ (declaredProgress ts″ s′) progress (λ e. entered _ _ _ _ _ (records-entry ∙ e) .numbers-long)
 
     pub promised-then : length lib′ ≡ length lib → length ts″ ≡ length ts → (after : Lent) (said : Read Summary)
-        → Finished s′ (lentOf lib′ ts″ num rep) after said → Promised given before after said
-    promised-then el et = promised given before checked lib′ ts″ el et s′ progress
+        → Finished (declaredProgress ts″ s′) (lentOf lib′ ts″ num rep) after said → Promised given before after said
+    promised-then el et = promised given before checked lib′ ts″ el et (declaredProgress ts″ s′) progress

@@ -15,23 +15,26 @@ use borrow.Author.Tests.{ne-eqb, le-ltb, eqb-true, eqb-false}
 use Rattle.sizes.specs.Sizes as Size
 use Rattle.table.specs.Blocks.{fitted}
 use Rattle.reading.specs.Choice.{pick}
-use Rattle.reading.specs.Refusal.{refused, read}
+use Rattle.reading.specs.Numbers as No
+use Rattle.reading.specs.Refusal.{Read, refused, read, _>>=_, _>>_, weigh}
 use Rattle.reading.proofs.Laws.{by-test, clash, refused-read}
 use Rattle.cell_library.specs.Cells.{Cell}
 use Rattle.cell_library.specs.Layout.{LibraryHolds}
 use Rattle.netlist.specs.declared.RawStatement.{RawStatement}
-use Rattle.netlist.specs.Netlist.{Statement, lineBad, anyLineBad, admitted}
+use Rattle.netlist.specs.declared.Rules.the-variants.{New}
+use Rattle.netlist.specs.Netlist.{Statement, lineBad, anyLineBad, admitted, undeclaredLines, someLine, declared}
 use Rattle.netlist.specs.Layout.{netlistWords, NetlistHolds}
-use Rattle.netlist.specs.Admitting.{StandsFor, Admits, refusalOf, extended, wordsAfter}
+use Rattle.netlist.specs.Admitting.{StandsFor, Admits, refusalOf, extended, wordsAfter, someUndeclared}
 use Rattle.netlist.proofs.Reading.{admitted-more, admitted-refused}
+use Rattle.netlist.proofs.Opening.{declared-read, some-same}
 use Rattle.netlist.proofs.Sounding.{sound-none, sound-next}
 use Rattle.outcome.specs.declared.Progress.{Progress}
 use Rattle.outcome.specs.declared.Progress.the-variants.{Unrefused, AtEntry, Later}
 use Rattle.outcome.specs.Progress.{progressOf}
 use Rattle.outcome.proofs.Promising.{later-shut}
 use Rattle.records.specs.declared.Record.{Record}
-use Rattle.records.specs.Records.{allZero, pinsBefore, endsInZeros, markForm, gateForm, recordForm, recordForms, fromRecords}
-use Rattle.records.specs.Walk.{progressAfter, RecordChecked, Stepped, Admitted, WalkReached, Walked}
+use Rattle.records.specs.Records.{allZero, pinsBefore, endsInZeros, markForm, gateForm, recordForm, recordForms, recordStatements, fromRecords}
+use Rattle.records.specs.Walk.{progressAfter, RecordChecked, Stepped, declaredProgress, Admitted, WalkReached, Walked}
 
 -- ---- the pins from a place on
 
@@ -114,10 +117,10 @@ module _ (rec : Record) (p : RawStatement) (line : p .line ≡ rec .line) where
       }))
       (λ t. rw (k, t) (inl (ends ∙ t)))
 
-  pub mark-says : (rec .kind ≡ 2 → ⊥) → p .form ≡ ((ltb (rec .kind) 2 && eqb (rec .cell) 0) && allZero (rec .pins)) → p .kind ≡ rec .kind → StandsFor p (recordForm rec)
+  pub mark-says : (rec .kind ≡ 2 → ⊥) → p .form ≡ ((ltb (rec .kind) 4 && eqb (rec .cell) 0) && allZero (rec .pins)) → p .kind ≡ rec .kind → StandsFor p (recordForm rec)
   unfolding recordForm markForm pick StandsFor
   mark-says k form kind =
-      let known : (m : ℕ) → rec .kind ≡ m → p .form ≡ ((ltb m 2 && eqb (rec .cell) 0) && allZero (rec .pins)) = λ m e. form ∙ ap (λ (x : ℕ). (ltb x 2 && eqb (rec .cell) 0) && allZero (rec .pins)) e in
+      let known : (m : ℕ) → rec .kind ≡ m → p .form ≡ ((ltb m 4 && eqb (rec .cell) 0) && allZero (rec .pins)) = λ m e. form ∙ ap (λ (x : ℕ). (ltb x 4 && eqb (rec .cell) 0) && allZero (rec .pins)) e in
       by-test (eqb (rec .kind) 0)
       (λ z.
       let e = eqb-true (rec .kind) 0 z in
@@ -130,9 +133,15 @@ module _ (rec : Record) (p : RawStatement) (line : p .line ≡ rec .line) where
       by-test (eqb (rec .cell) 0 && allZero (rec .pins))
       (λ t. rw (z, o, t) (record { form = known 1 e ∙ t; kind = kind ∙ e; line = line }))
       (λ t. rw (z, o, t) (inl (known 1 e ∙ t))))
-      (λ o.
-      let high : ltb (rec .kind) 2 ≡ false = le-ltb (rec .kind) 2 (omega (arith, eqb-false (rec .kind) 0 z, eqb-false (rec .kind) 1 o)) in
-      rw (z, o, ne-eqb (rec .kind) 2 k) (inl (form ∙ ap (λ (b : Bool). (b && eqb (rec .cell) 0) && allZero (rec .pins)) high))))
+      (λ o. by-test (eqb (rec .kind) 3)
+      (λ n.
+      let e = eqb-true (rec .kind) 3 n in
+      by-test (eqb (rec .cell) 0 && allZero (rec .pins))
+      (λ t. rw (z, o, ne-eqb (rec .kind) 2 k, n, t) (record { form = known 3 e ∙ t; kind = kind ∙ e; line = line }))
+      (λ t. rw (z, o, ne-eqb (rec .kind) 2 k, n, t) (inl (known 3 e ∙ t))))
+      (λ n.
+      let high : ltb (rec .kind) 4 ≡ false = le-ltb (rec .kind) 4 (omega (arith, k, eqb-false (rec .kind) 0 z, eqb-false (rec .kind) 1 o, eqb-false (rec .kind) 3 n)) in
+      rw (z, o, ne-eqb (rec .kind) 2 k, n) (inl (form ∙ ap (λ (b : Bool). (b && eqb (rec .cell) 0) && allZero (rec .pins)) high)))))
 
 -- ---- one step
 
@@ -156,15 +165,15 @@ module _ (lib : List ℕ) (place : ℕ) (s : Progress) (rec : Record) (ts : List
 
 -- Nothing is done yet.
 pub walked-start : (lib : List ℕ) (s : Progress) (ts : List ℕ) → Walked lib s ts [] s ts
-unfolding WalkReached fromRecords
+unfolding WalkReached recordStatements
 walked-start lib s ts = record {
   stays = λ n. (refl, refl);
   reaches = λ z cells held start. rw z (record { statements = []; rest = λ more. refl; sound = sound-none cells; held = start .words });
 }
 
 module _ (cells : List Cell) (tail : List ℕ) (done : List Record) (rec : Record) where
-  after-one : (more : List Record) → fromRecords ((done ++ (rec ∷ [])) ++ more) cells ≡ fromRecords (done ++ (rec ∷ more)) cells
-  after-one more = ap (λ (rs : List Record). fromRecords rs cells) (append-assoc done (rec ∷ []) more)
+  after-one : (more : List Record) → recordStatements ((done ++ (rec ∷ [])) ++ more) cells ≡ recordStatements (done ++ (rec ∷ more)) cells
+  after-one more = ap (λ (rs : List Record). recordStatements rs cells) (append-assoc done (rec ∷ []) more)
 
   next : suc (length done + 1) ≡ length (done ++ (rec ∷ [])) + 1
   next = rw (length-append done (rec ∷ [])) (omega arith)
@@ -220,16 +229,65 @@ walked-more lib s₀ ts₀ done rec s r ts us h w =
 -- What the walk of the whole list answers and leaves.
 module _ (lib : List ℕ) (s₀ : Progress) (ts₀ : List ℕ) (recs : List Record) (us : List ℕ) (cells : List Cell) (tail : List ℕ) where
   ends : (r : Progress) → WalkReached cells tail recs r us
-      → (r ≡ progressOf (fromRecords recs cells)) × ((ss : List Statement) → fromRecords recs cells ≡ read ss → us ≡ netlistWords ss ++ tail)
+      → (r ≡ progressOf (recordStatements recs cells)) × ((ss : List Statement) → recordStatements recs cells ≡ read ss → us ≡ netlistWords ss ++ tail)
   unfolding WalkReached progressOf admitted recordForms
   ends Unrefused a =
-      let e : fromRecords recs cells ≡ read (a .statements) = ap (λ (rs : List Record). fromRecords rs cells) (sym (append-nil recs)) ∙ a .rest [] in
+      let e : recordStatements recs cells ≡ read (a .statements) = ap (λ (rs : List Record). recordStatements rs cells) (sym (append-nil recs)) ∙ a .rest [] in
       (rw e, λ ss f. let same : a .statements ≡ ss = cc in rw (← same) (a .held))
   ends (AtEntry r) a = absurd a
   ends (Later r) a =
-      let e : fromRecords recs cells ≡ refused (r .number) (r .line) = ap (λ (rs : List Record). fromRecords rs cells) (sym (append-nil recs)) ∙ a [] in
+      let e : recordStatements recs cells ≡ refused (r .number) (r .line) = ap (λ (rs : List Record). recordStatements rs cells) (sym (append-nil recs)) ∙ a [] in
       (rw e, λ ss f. refused-read (sym e ∙ f))
 
   pub walked-end : (r : Progress) → Walked lib s₀ ts₀ recs r us → s₀ ≡ Unrefused → LibraryHolds lib cells → ts₀ ≡ netlistWords [] ++ tail
-      → (r ≡ progressOf (fromRecords recs cells)) × ((ss : List Statement) → fromRecords recs cells ≡ read ss → us ≡ netlistWords ss ++ tail)
+      → (r ≡ progressOf (recordStatements recs cells)) × ((ss : List Statement) → recordStatements recs cells ≡ read ss → us ≡ netlistWords ss ++ tail)
   walked-end r w z held start = ends r (w .reaches z cells held (record { past = tail; words = start }))
+
+-- ---- behind the last record
+
+-- A refusal that stands stays.
+pub declared-stays : (us : List ℕ) (s : Progress) → (s ≡ Unrefused → ⊥) → declaredProgress us s ≡ s
+unfolding declaredProgress
+declared-stays us Unrefused h = absurd (h refl)
+declared-stays us (AtEntry r) h = refl
+declared-stays us (Later r) h = refl
+
+-- What the table says where nothing is refused.
+declared-progress : {us : List ℕ} {ss : List Statement} → NetlistHolds us ss
+    → pick (someUndeclared us) (Later (record { number = No.undeclared; line = 0 })) Unrefused ≡ progressOf (declared New ss)
+unfolding declared weigh pick _>>_ progressOf
+declared-progress {us} {ss} h =
+    by-test (someUndeclared us)
+    (λ t. let e : someLine (undeclaredLines ss) ≡ true = sym (some-same h) ∙ t in rw (t, e))
+    (λ t. let e : someLine (undeclaredLines ss) ≡ false = sym (some-same h) ∙ t in rw (t, e))
+
+-- What `declare` answers, from what it asked of the table.
+module _ (us : List ℕ) (s : Progress) (o : s ≡ Unrefused) where
+  pub declares-some : someUndeclared us ≡ true → Later (record { number = No.undeclared; line = 0 }) ≡ declaredProgress us s
+  unfolding declaredProgress pick
+  declares-some t = rw (o, t)
+
+  pub declares-none : someUndeclared us ≡ false → s ≡ declaredProgress us s
+  unfolding declaredProgress pick
+  declares-none t = rw (o, t)
+
+-- What a list that was walked comes to, with 20 behind it.
+pub declared-end : (recs : List Record) (cells : List Cell) (tail us : List ℕ) (r : Progress) → r ≡ progressOf (recordStatements recs cells)
+    → ((ss : List Statement) → recordStatements recs cells ≡ read ss → us ≡ netlistWords ss ++ tail)
+    → (declaredProgress us r ≡ progressOf (fromRecords recs cells))
+    × ((ss : List Statement) → fromRecords recs cells ≡ read ss → us ≡ netlistWords ss ++ tail)
+unfolding fromRecords
+declared-end recs cells tail us r said held = go (recordStatements recs cells) refl
+  where
+    go : (o : Read (List Statement)) → recordStatements recs cells ≡ o
+        → (declaredProgress us r ≡ progressOf (recordStatements recs cells >>= declared New))
+        × ((ss : List Statement) → (recordStatements recs cells >>= declared New) ≡ read ss → us ≡ netlistWords ss ++ tail)
+    go (refused number line) e =
+        unfold _>>=_ progressOf declaredProgress in
+        (rw (said, e), rw e (λ ss f. refused-read f))
+    go (read ss) e =
+        let h : NetlistHolds us ss = record { past = tail; words = held ss e } in
+        unfold _>>=_ progressOf declaredProgress in (
+          rw (said, e) (declared-progress h),
+          rw e (λ rs f. rw (← declared-read New ss rs f) (h .words)),
+        )

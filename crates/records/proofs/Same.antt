@@ -3,6 +3,7 @@
 -- Assumes nothing.
 use mathlib.Core.Bool.{Bool, or-false}
 use mathlib.Core.List.{List, [], _∷_}
+use mathlib.Core.Option.{Option}
 use mathlib.Core.Path.{_≡_, refl, sym, ap, _∙_}
 use Prim.Native.Nat.{ℕ, _≤_}
 use lib.Dec.{ltb}
@@ -15,38 +16,37 @@ use Rattle.text.specs.Lines.{lines}
 use Rattle.reading.specs.Refusal.{Read, refused, read, _>>=_, _>>_, weigh}
 use Rattle.cell_library.specs.Cells.{Cell}
 use Rattle.cell_library.specs.Library.{library}
-use Rattle.netlist.specs.declared.Rules.the-variants.{Old}
-use Rattle.netlist.specs.Netlist.{Statement, admitted, lineForms, textStatements, netlist, netlist-open}
-use Rattle.netlist.proofs.Opening.{old-declares}
+use Rattle.netlist.specs.declared.Rules.the-variants.{New}
+use Rattle.netlist.specs.Netlist.{Statement, admitted, lineForms, textStatements, declared, netlist, netlist-open}
 use Rattle.outcome.specs.Demands.{Promised}
 use Rattle.outcome.specs.declared.Summary.{Summary}
-use Rattle.outcome.specs.Outcome.{Lent, givenTexts, textLong, tableShort, conclude, reading, entry, outcome, answer, left, leftFrom}
+use Rattle.outcome.specs.Outcome.{Lent, givenBy, givenTexts, textLong, tableShort, conclude, reading, entry, outcome, answer, left, leftFrom}
 use Rattle.records.specs.declared.Record.{Record}
-use Rattle.records.specs.Records.{allZero, pinsBefore, endsInZeros, markForm, gateForm, recordForm, recordForms, fromRecords}
+use Rattle.records.specs.Records.{allZero, pinsBefore, endsInZeros, markForm, gateForm, recordForm, recordForms, recordStatements, fromRecords}
 use Rattle.records.specs.Outcome.{givenRecords}
 
 -- Against the cells of the library, each record says what the line at its place says. A line of bad form is said by a record
 -- of bad form, so that refused lists are tied too.
 unfoldable pub SaySame : List ℕ → List ℕ → List Record → Type 0
-SaySame lib net rs = (cells : List Cell) → library lib ≡ read cells → recordForms rs ≡ lineForms Old cells (lines net)
+SaySame lib net rs = (cells : List Cell) → library lib ≡ read cells → recordForms rs ≡ lineForms New cells (lines net)
 
 module _ (lib net : List ℕ) (rs : List Record) (same : SaySame lib net rs) where
-  same-statements : (cells : List Cell) → library lib ≡ read cells → fromRecords rs cells ≡ netlist Old cells net
-  unfolding SaySame fromRecords netlist textStatements
-  same-statements cells e = ap (admitted 1 cells []) (same cells e) ∙ sym (old-declares (admitted 1 cells [] (lineForms Old cells (lines net))))
+  same-statements : (cells : List Cell) → library lib ≡ read cells → fromRecords rs cells ≡ netlist New cells net
+  unfolding SaySame fromRecords recordStatements netlist textStatements
+  same-statements cells e = ap (λ (ws : List (Option Statement)). admitted 1 cells [] ws >>= declared New) (same cells e)
 
-  by-library : (space : ℕ) (o : Read (List Cell)) → library lib ≡ o → (o >>= λ cells. fromRecords rs cells >>= λ ss. conclude cells ss space) ≡ (o >>= λ cells. netlist Old cells net >>= λ ss. conclude cells ss space)
+  by-library : (space : ℕ) (o : Read (List Cell)) → library lib ≡ o → (o >>= λ cells. fromRecords rs cells >>= λ ss. conclude cells ss space) ≡ (o >>= λ cells. netlist New cells net >>= λ ss. conclude cells ss space)
   unfolding _>>=_
   by-library space (refused n l) e = refl
   by-library space (read cells) e = ap (λ (r : Read (List Statement)). r >>= λ ss. conclude cells ss space) (same-statements cells e)
 
   same-reading : (space : ℕ) → reading (givenRecords lib rs) space ≡ reading (givenTexts lib net) space
-  unfolding reading givenRecords givenTexts
+  unfolding reading givenRecords givenBy
   same-reading space = by-library space (library lib) refl
 
   module _ (short : length net ≤ Size.textBytes) where
     same-long : givenRecords lib rs .long ≡ givenTexts lib net .long
-    unfolding givenRecords givenTexts textLong
+    unfolding givenRecords givenBy textLong
     same-long = sym (rw (le-ltb Size.textBytes (length net) short) (or-false (ltb Size.textBytes (length lib))))
 
     same-entry : (m : Lent) → entry (givenRecords lib rs) m ≡ entry (givenTexts lib net) m
@@ -69,11 +69,12 @@ module _ (lib net : List ℕ) (rs : List Record) (same : SaySame lib net rs) whe
       p .leaves ∙ same-left before ∙ sym (q .leaves),
     )
 
--- An input, an output and a line of bad form, said both ways; the cells do not matter to them.
-marks-same : (lib : List ℕ) → SaySame lib (bytes "input,1\noutput,2\ninput,01\n")
+-- An input, an output, an open line and a line of bad form, said both ways; the cells do not matter to them.
+marks-same : (lib : List ℕ) → SaySame lib (bytes "input,1\noutput,2\nopen,2\ninput,01\n")
     (record { kind = 0; cell = 0; line = 1; pins = 0 ∷ 0 ∷ 0 ∷ 0 ∷ 0 ∷ 0 ∷ 0 ∷ 0 ∷ [] }
     ∷ record { kind = 1; cell = 0; line = 2; pins = 0 ∷ 0 ∷ 0 ∷ 0 ∷ 0 ∷ 0 ∷ 0 ∷ 0 ∷ [] }
-    ∷ record { kind = 3; cell = 0; line = 1; pins = 0 ∷ 0 ∷ 0 ∷ 0 ∷ 0 ∷ 0 ∷ 0 ∷ 0 ∷ [] }
+    ∷ record { kind = 3; cell = 0; line = 2; pins = 0 ∷ 0 ∷ 0 ∷ 0 ∷ 0 ∷ 0 ∷ 0 ∷ 0 ∷ [] }
+    ∷ record { kind = 4; cell = 0; line = 1; pins = 0 ∷ 0 ∷ 0 ∷ 0 ∷ 0 ∷ 0 ∷ 0 ∷ 0 ∷ [] }
     ∷ [])
 unfolding netlist-open SaySame allZero pinsBefore endsInZeros markForm gateForm recordForm recordForms
 marks-same lib cells e = refl

@@ -6,17 +6,18 @@ use Prim.Native.Nat.{ℕ, _+_}
 use lib.Dec.{eqb}
 use lib.ListN.{length}
 use Rattle.reading.specs.Choice.{pick}
+use Rattle.reading.specs.Numbers as No
 use Rattle.reading.specs.Refusal.{refused}
 use Rattle.cell_library.specs.Cells.{Cell}
 use Rattle.cell_library.specs.Layout.{LibraryHolds}
 use Rattle.netlist.specs.Netlist.{Statement, admitted}
 use Rattle.netlist.specs.Layout.{netlistWords, NetlistHolds}
-use Rattle.netlist.specs.Admitting.{refusalOf, wordsAfter}
+use Rattle.netlist.specs.Admitting.{refusalOf, wordsAfter, someUndeclared}
 use Rattle.netlist.specs.Sound.{Sound}
 use Rattle.outcome.specs.declared.Progress.{Progress}
 use Rattle.outcome.specs.declared.Progress.the-variants.{Unrefused, AtEntry, Later}
 use Rattle.records.specs.declared.Record.{Record}
-use Rattle.records.specs.Records.{recordForm, recordForms, fromRecords}
+use Rattle.records.specs.Records.{recordForm, recordForms, recordStatements}
 
 -- ---- one record
 
@@ -37,12 +38,20 @@ pub record Stepped (lib : List ℕ) (place : ℕ) (s : Progress) (rec : Record) 
   pub checks : s ≡ Unrefused → (cells : List Cell) → LibraryHolds lib cells → (ss : List Statement) → Sound cells ss → (h : NetlistHolds ts ss)
       → RecordChecked cells ss (h .past) place rec r us
 
+-- ---- behind the last record
+
+-- Where nothing is refused so far, 20 where the table has a line that nothing declares.
+unfoldable pub declaredProgress : List ℕ → Progress → Progress
+declaredProgress table Unrefused = pick (someUndeclared table) (Later (record { number = No.undeclared; line = 0 })) Unrefused
+declaredProgress table (AtEntry r) = AtEntry r
+declaredProgress table (Later r) = Later r
+
 -- ---- the list
 
 -- All records done are admitted: the table holds their statements, and the records still to come are read after them.
 pub record Admitted (cells : List Cell) (tail : List ℕ) (done : List Record) (ts : List ℕ) : Type 0 where
   pub statements : List Statement
-  pub rest : (more : List Record) → fromRecords (done ++ more) cells ≡ admitted (length done + 1) cells statements (recordForms more)
+  pub rest : (more : List Record) → recordStatements (done ++ more) cells ≡ admitted (length done + 1) cells statements (recordForms more)
   pub sound : Sound cells statements
   pub held : ts ≡ netlistWords statements ++ tail
 
@@ -50,7 +59,7 @@ pub record Admitted (cells : List Cell) (tail : List ℕ) (done : List Record) (
 unfoldable pub WalkReached : List Cell → List ℕ → List Record → Progress → List ℕ → Type 0
 WalkReached cells tail done Unrefused ts = Admitted cells tail done ts
 WalkReached cells tail done (AtEntry r) ts = ⊥
-WalkReached cells tail done (Later r) ts = (more : List Record) → fromRecords (done ++ more) cells ≡ refused (r .number) (r .line)
+WalkReached cells tail done (Later r) ts = (more : List Record) → recordStatements (done ++ more) cells ≡ refused (r .number) (r .line)
 
 -- The records done have led from the progress and the table of the start, an empty netlist, to those reached. A refusal that
 -- stands at the start stays, and so does the table then.

@@ -6,6 +6,7 @@
 use netlist::RawStatement;
 use netlist::admit;
 use netlist::line_bad;
+use netlist::some_undeclared;
 use outcome::Answer;
 use outcome::Progress;
 use outcome::begin;
@@ -19,12 +20,13 @@ ghost use Rattle.netlist.specs.Netlist.{anyLineBad};
 ghost use Rattle.netlist.specs.Admitting.{StandsFor};
 ghost use Rattle.outcome.specs.Answer.{answerRead, lentOf};
 ghost use Rattle.outcome.specs.Demands.{Promised};
+ghost use Rattle.outcome.specs.Progress.{ReadyIfUnrefused, Finished};
 ghost use Rattle.records.specs.Outcome.{givenRecords, Prepared};
 ghost use Rattle.records.specs.Records.{allZero, pinsBefore, recordForm};
-ghost use Rattle.records.specs.Walk.{Stepped, Walked};
+ghost use Rattle.records.specs.Walk.{Stepped, declaredProgress, Walked};
 
 // "kind (0 input, 1 output, 2 gate), cell index (from 0 in library order), line, eight pins, 0 after
-// the last."
+// the last." "In record lists, kind 3 is open." (K5)
 pub struct Record {
     pub kind: u32,
     pub cell: u32,
@@ -33,6 +35,9 @@ pub struct Record {
 }
 
 const GATE: u32 = 2;
+
+// Kinds below this one are known.
+const KINDS: u32 = 4;
 
 // How many pins stand before the first 0. That there are eight in all is said for a caller that has
 // them from a struct.
@@ -99,7 +104,7 @@ fn take_apart(rec: Record) -> RawStatement
             bad: pins_bad(pins),
         };
     }
-    let known = kind < GATE;
+    let known = kind < KINDS;
     let no_cell = rec.cell == 0;
     let no_pins = zero_from(pins, 0);
     RawStatement {
@@ -171,6 +176,44 @@ fn prepare(lib: &[u8], library: &mut [u32], netlist: &mut [u32], numbers: usize)
     }
 }
 
+// Behind the last record: 20 where nothing is refused so far, and a line is read or marked that is neither
+// driven nor open.
+fn declare(netlist: &[u32], progress: Progress) -> Progress
+    ensures { λ r. ⌜ r ≡ declaredProgress (now (netlist .entry)) progress ⌝ }
+{
+    match progress {
+        Progress::AtEntry(_) => progress,
+        Progress::Later(_) => progress,
+        Progress::Unrefused => {
+            if some_undeclared(netlist) {
+                return Progress::Later(Refusal {
+                    number: reading::UNDECLARED,
+                    line: 0,
+                });
+            }
+            progress
+        }
+    }
+}
+
+// The end of a call, with what comes behind the last record.
+fn close(
+    library: &mut [u32],
+    netlist: &mut [u32],
+    numbers: &mut [u32],
+    report: &mut [u8],
+    progress: Progress,
+) -> Answer
+    requires { ⌜ ReadyIfUnrefused (declaredProgress (now netlist) progress) (now library) (now netlist) (now numbers) ⌝ }
+    ensures { λ r. ⌜ Finished (declaredProgress (now (netlist .entry)) progress)
+        (lentOf (now (library .entry)) (now (netlist .entry)) (now (numbers .entry)) (now (report .entry)))
+        (lentOf (now (library .exit)) (now (netlist .exit)) (now (numbers .exit)) (now (report .exit)))
+        (answerRead r) ⌝ }
+{
+    let declared = declare(netlist, progress);
+    finish(library, netlist, numbers, report, declared)
+}
+
 // Analyses a library text and a netlist of records. Entry refusals leave all that was lent untouched,
 // later ones leave it zero. By hand, since it takes the records.
 pub fn analyse_records(
@@ -188,5 +231,5 @@ pub fn analyse_records(
 {
     let begun = prepare(lib, library, netlist, numbers.len());
     let progress = walk(netlist, library, records, begun);
-    finish(library, netlist, numbers, report, progress)
+    close(library, netlist, numbers, report, progress)
 }

@@ -12,7 +12,7 @@ use crate::{Refusal, MOST_BYTES};
 const WORDS: [&str; 6] = ["Name", "CC", "CO", "SC", "SO", "End"];
 
 /// The numbers that a damage of one place can be made for.
-const NUMBERS: [u32; 13] = [
+const NUMBERS: [u32; 14] = [
     LIBRARY_FORM,
     NAME_USED,
     PINS_BAD,
@@ -26,6 +26,7 @@ const NUMBERS: [u32; 13] = [
     PINS_DIFFER,
     DRIVEN_BEFORE,
     MARKED_BEFORE,
+    UNDECLARED,
 ];
 
 /// Damages the pair for the number, if it has a place for that.
@@ -66,6 +67,10 @@ fn damage(rng: &mut Random, pair: &mut Pair, number: u32) -> Option<Refusal> {
         }
         DRIVEN_BEFORE => driven_twice(rng, pair),
         MARKED_BEFORE => marked_twice(rng, pair),
+        UNDECLARED => {
+            undeclared(rng, pair)?;
+            return Some(Refusal { number, line: 0 });
+        }
         _ => None,
     }?;
     Some(Refusal {
@@ -490,7 +495,7 @@ fn wrong_count(rng: &mut Random, line: &mut Fields) {
 
 fn driven_line(line: &Fields) -> Option<&Vec<u8>> {
     match &line[0][..] {
-        b"input" => line.get(1),
+        b"input" | b"open" => line.get(1),
         b"gate" => line.get(2),
         _ => None,
     }
@@ -501,7 +506,8 @@ fn driven_twice(rng: &mut Random, pair: &mut Pair) -> Option<usize> {
     let first = place_of(rng, pair, |line| driven_line(line).is_some())?;
     let driven = driven_line(&pair.net.lines[first])?.clone();
     let second = if pair.cells.is_empty() || rng.once_in(2) {
-        vec![b"input".to_vec(), driven]
+        let word: &[u8] = if rng.once_in(2) { b"input" } else { b"open" };
+        vec![word.to_vec(), driven]
     } else {
         let cell = rng.pick(&pair.cells);
         let mut gate = vec![b"gate".to_vec(), cell.name.clone(), driven.clone()];
@@ -511,6 +517,23 @@ fn driven_twice(rng: &mut Random, pair: &mut Pair) -> Option<usize> {
     let at = rng.within(first + 1, pair.net.lines.len());
     pair.net.lines.insert(at, second);
     Some(at)
+}
+
+/// An output mark on a line that nothing claims, somewhere; 20 has no line.
+fn undeclared(rng: &mut Random, pair: &mut Pair) -> Option<()> {
+    let lines = &pair.net.lines;
+    let free = |number: &Vec<u8>| {
+        !lines.iter().any(|line| driven_line(line) == Some(number))
+            && !lines
+                .iter()
+                .any(|line| line[0] == b"output" && line.get(1) == Some(number))
+    };
+    let number = (0..20)
+        .map(|_| rng.within(1, 1_000).to_string().into_bytes())
+        .find(free)?;
+    let at = rng.within(0, lines.len());
+    pair.net.lines.insert(at, vec![b"output".to_vec(), number]);
+    Some(())
 }
 
 fn marked_twice(rng: &mut Random, pair: &mut Pair) -> Option<usize> {

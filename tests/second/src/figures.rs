@@ -104,7 +104,7 @@ sweeps,3,3,3,3
 ";
 
 /// A line that nothing drives and nothing reads but its output mark: no value is ever set.
-pub const UNDRIVEN_NET: &str = "output,1\n";
+pub const UNDRIVEN_NET: &str = "output,1\nopen,1\n";
 pub const UNDRIVEN_REPORT: &str = "\
 line,cc0,cc1,sc0,sc1,co,so
 1,never,never,never,never,0,0

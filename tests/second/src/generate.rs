@@ -362,7 +362,7 @@ pub enum Order {
 pub struct Shape {
     pub inputs: usize,
     pub gates: usize,
-    /// Lines that may be read and that nothing drives.
+    /// Lines that may be read and that nothing drives: each is declared open.
     pub undriven: usize,
     pub outputs: usize,
     pub wiring: Wiring,
@@ -447,11 +447,16 @@ pub fn add_netlist(rng: &mut Random, pair: &mut Pair, shape: &Shape) {
     for &line in marked.iter().take(shape.outputs) {
         outputs_text.push(vec![b"output".to_vec(), text(line)]);
     }
+    let mut opens_text: Vec<Fields> = Vec::new();
+    for &line in &numbers[inputs + gates..] {
+        opens_text.push(vec![b"open".to_vec(), text(line)]);
+    }
     let lines = &mut pair.net.lines;
     lines.clear();
     lines.append(&mut inputs_text);
     lines.append(&mut gates_text);
     lines.append(&mut outputs_text);
+    lines.append(&mut opens_text);
     if shape.order == Order::Shuffled {
         rng.shuffle(lines);
     }

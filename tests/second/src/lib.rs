@@ -22,7 +22,7 @@ mod tests;
 
 pub use cost::{Cost, LARGEST, NEVER, OVER};
 pub use library::{MOST_CELLS, MOST_PINS, MOST_ROWS};
-pub use netlist::MOST_LINES;
+pub use netlist::{Rules, MOST_LINES};
 use refusal::{REPORT_LONG, TEXT_LONG};
 pub use sweep::Counts;
 
@@ -58,7 +58,7 @@ fn accepted(lib: &[u8], net: &[u8], room: usize) -> Result<(Vec<u8>, Counts), Re
         });
     }
     let library = library::read(lib)?;
-    let netlist = netlist::read(net, &library)?;
+    let netlist = netlist::read(net, &library, Rules::New)?;
     let (numbers, counts) = sweep::run(&library, &netlist);
     let report = report::write(&netlist, &numbers, &counts);
     if report.len() > room {

@@ -1,8 +1,8 @@
-//! The netlist: inputs, outputs and gates in any order.
+//! The netlist: inputs, outputs, open lines and gates in any order.
 
 use crate::library::{Library, MOST_PINS};
 use crate::refusal::{
-    CELL_UNKNOWN, DRIVEN_BEFORE, LINE_BAD, MARKED_BEFORE, NETLIST_FORM, PINS_DIFFER,
+    CELL_UNKNOWN, DRIVEN_BEFORE, LINE_BAD, MARKED_BEFORE, NETLIST_FORM, PINS_DIFFER, UNDECLARED,
 };
 use crate::text::{self, Line, Lines};
 use crate::Refusal;
@@ -32,7 +32,8 @@ impl Gate {
 #[derive(Clone, Copy, Default)]
 pub struct Marks {
     pub input: bool,
-    pub driven: bool,
+    /// By an input or a gate, or declared open.
+    pub claimed: bool,
     pub output: bool,
     pub mentioned: bool,
 }
@@ -43,25 +44,43 @@ pub struct Netlist {
     pub marks: [Marks; MOST_LINES + 1],
 }
 
-pub fn read(text: &[u8], library: &Library) -> Result<Netlist, Refusal> {
+/// Which rules are in force: the old ones, or those by which open lines must be declared.
+#[derive(Clone, Copy, PartialEq)]
+pub enum Rules {
+    Old,
+    New,
+}
+
+pub fn read(text: &[u8], library: &Library, rules: Rules) -> Result<Netlist, Refusal> {
     let mut netlist = Netlist {
         gates: Vec::new(),
         marks: [Marks::default(); MOST_LINES + 1],
     };
     for line in Lines::of(text) {
         netlist
-            .read_line(&line, library)
+            .read_line(&line, library, rules)
             .map_err(|number| Refusal {
                 number,
                 line: line.number,
             })?;
     }
+    if rules == Rules::New && netlist.undeclared().next().is_some() {
+        return Err(Refusal {
+            number: UNDECLARED,
+            line: 0,
+        });
+    }
     Ok(netlist)
 }
 
 impl Netlist {
+    /// The lines that are read or marked, and that nothing drives or declares open, ascending.
+    pub fn undeclared(&self) -> impl Iterator<Item = usize> + '_ {
+        (1..=MOST_LINES).filter(|&line| self.marks[line].mentioned && !self.marks[line].claimed)
+    }
+
     /// Takes a line in, or answers the lowest number that holds of it.
-    fn read_line(&mut self, line: &Line, library: &Library) -> Result<(), u32> {
+    fn read_line(&mut self, line: &Line, library: &Library, rules: Rules) -> Result<(), u32> {
         if !line.ended {
             return Err(NETLIST_FORM);
         }
@@ -69,11 +88,19 @@ impl Netlist {
         match fields.next() {
             Some(b"input") => {
                 let marks = self.mark(only_number(fields)?)?;
-                if marks.driven {
+                if marks.claimed {
                     return Err(DRIVEN_BEFORE);
                 }
-                marks.driven = true;
+                marks.claimed = true;
                 marks.input = true;
+                Ok(())
+            }
+            Some(b"open") if rules == Rules::New => {
+                let marks = self.mark(only_number(fields)?)?;
+                if marks.claimed {
+                    return Err(DRIVEN_BEFORE);
+                }
+                marks.claimed = true;
                 Ok(())
             }
             Some(b"output") => {
@@ -116,10 +143,10 @@ impl Netlist {
             return Err(PINS_DIFFER);
         }
         let marks = self.mark(output)?;
-        if marks.driven {
+        if marks.claimed {
             return Err(DRIVEN_BEFORE);
         }
-        marks.driven = true;
+        marks.claimed = true;
         let mut lines = [0; MOST_PINS + 1];
         for pin in 0..pins {
             lines[pins - 1 - pin] = read[pin];

@@ -27,9 +27,11 @@ pub const LINE_BAD: u32 = 11;
 pub const CELL_UNKNOWN: u32 = 12;
 /// the count of pins differs from the cell's
 pub const PINS_DIFFER: u32 = 13;
-/// the line is driven already, by an input or a gate
+/// the line is driven already, by an input or a gate, or declared open
 pub const DRIVEN_BEFORE: u32 = 14;
 /// the line is marked output already
 pub const MARKED_BEFORE: u32 = 15;
 /// the report is longer than its buffer
 pub const REPORT_LONG: u32 = 17;
+/// a line is read by a pin or marked output, and neither driven nor declared open
+pub const UNDECLARED: u32 = 20;

@@ -3,7 +3,7 @@
 use crate::figures::*;
 use crate::generate::{fields, groups_of, ladder, pair, ENTRY};
 use crate::library::{self, Library, Row, Ways, MOST_ROWS};
-use crate::netlist::{self, Netlist};
+use crate::netlist::{self, Netlist, Rules};
 use crate::random::Random;
 use crate::{analyse, report_into, sweep, Answer, LARGEST, NEVER, OVER};
 
@@ -159,15 +159,31 @@ sweeps,2,2,1,1
 
 #[test]
 fn over_and_never() {
-    // Line 31 is over, line 32 undriven: a sum of both is never, the lesser of both over.
+    // Line 31 is over, line 32 open: a sum of both is never, the lesser of both over.
     let lib = format!("{AND2}{NAND2}");
     let mut net = doubling("AND2", 30);
-    net.push_str("gate,AND2,40,31,32\ngate,NAND2,41,31,32\noutput,41\n");
+    net.push_str("gate,AND2,40,31,32\ngate,NAND2,41,31,32\noutput,41\nopen,32\n");
     let report = report(&lib, &net);
     assert_eq!(printed(&report, 31)[1], "over");
     assert_eq!(printed(&report, 40)[..4], ["32", "never", "0", "never"]);
     assert_eq!(printed(&report, 41)[..2], ["never", "32"]);
     assert_eq!(printed(&report, 32)[4], "over");
+}
+
+#[test]
+fn open_lines() {
+    refused("", "output,1\n", 20, 0);
+    refused(NAND2, "gate,NAND2,3,1,2\ninput,1\n", 20, 0);
+    refused("", "output,1\ninput,0\n", 11, 2);
+    refused("", "open\n", 10, 1);
+    refused("", "open,0\n", 11, 1);
+    refused("", "input,1\nopen,1\n", 14, 2);
+    refused("", "open,1\ninput,1\n", 14, 2);
+    refused("", "open,1\nopen,1\n", 14, 2);
+    refused(NAND2, "open,1\ngate,NAND2,1,1,1\n", 14, 2);
+    let report = report("", "open,1\noutput,2\nopen,2\n");
+    assert_eq!(printed(&report, 1), ["never"; 6]);
+    assert_eq!(printed(&report, 2)[4..], ["0", "0"]);
 }
 
 #[test]
@@ -571,7 +587,7 @@ fn cheapest_plans() {
     for round in 0..400 {
         let pair = pair(&mut rng, if round % 10 == 0 { 120 } else { 15 });
         let library = library::read(&pair.lib.bytes()).unwrap();
-        let netlist = netlist::read(&pair.net.bytes(), &library).unwrap();
+        let netlist = netlist::read(&pair.net.bytes(), &library, Rules::New).unwrap();
         let (numbers, _) = sweep::run(&library, &netlist);
         let combinational = plans(&library, &netlist, 1, false);
         let sequential = plans(&library, &netlist, 0, true);
@@ -624,7 +640,7 @@ fn ladders() {
     for round in 1..=100 {
         let pair = ladder(&mut rng, round);
         let library = library::read(&pair.lib.bytes()).unwrap();
-        let netlist = netlist::read(&pair.net.bytes(), &library).unwrap();
+        let netlist = netlist::read(&pair.net.bytes(), &library, Rules::New).unwrap();
         assert_eq!(netlist.gates.len(), round);
         let mut driven: Vec<bool> = netlist.marks.iter().map(|marks| marks.input).collect();
         for gate in &netlist.gates {

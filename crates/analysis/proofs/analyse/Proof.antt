@@ -3,11 +3,12 @@ use mathlib.Core.Path.{_≡_, sym, _∙_}
 use Prim.Native.Nat.{_≤_}
 use lib.ListN.{length}
 use denote.Ref.{now}
+use Rattle.netlist.specs.declared.Rules.the-variants.{New}
 use Rattle.cell_library.specs.Library.{library}
 use Rattle.sizes.specs.Sizes as Size
 use Rattle.outcome.specs.declared.Progress.the-variants.{Unrefused}
 use Rattle.outcome.specs.Answer.{lentOf}
-use Rattle.outcome.specs.Outcome.{Given, Lent, givenTexts, entry, tableShort, textLong}
+use Rattle.outcome.specs.Outcome.{Given, Lent, givenBy, givenTexts, entry, tableShort, textLong}
 use Rattle.outcome.specs.Progress.{entryBy}
 use Rattle.outcome.proofs.Checking.{texts-checked}
 use Rattle.outcome.proofs.Entering.{texts-entry, entered}
@@ -50,22 +51,22 @@ fitting c o =
 -- Where the call stands before its end.
 stands : (c : tie.After-read-netlist)
     → let b = begun (c .before) in
-    Reached (given (begins b)) (lent (begins b)) (b .begin .last .1 .1 .0) (c .read-netlist .last .1 .1 .0) (c .read-netlist .result)
-unfolding givenTexts entry entryBy tableShort textLong
+    Reached (given (begins b)) (lent (begins b)) (b .begin .last .1 .1 .0) (c .read-netlist .last .1 .1 .1 .0) (c .read-netlist .result)
+unfolding givenBy entry entryBy tableShort textLong
 stands c =
     let b = begun (c .before) in
     let s = begins b in
     let h = b .begin .ensures in
     reached (given s) (lent s) _ (b .begin .result)
     (h .answers) (h .leaves) _ (c .read-netlist .result)
-    (netlist-read (now (s .args .lib)) (now (s .args .net)) (lent s) _ (b .begin .result) _ (c .read-netlist .result) (fitting b) (c .read-netlist .ensures))
+    (netlist-read New (now (s .args .lib)) (now (s .args .net)) (lent s) _ (b .begin .result) _ (c .read-netlist .result) (fitting b) (c .read-netlist .ensures))
 
 finish-requires : tie.Need-finish-requires
 finish-requires c κs =
     let n = netlist-done c in
     let s = begins (begun (n .before)) in
     ready (given s) (lent s) (texts-checked _ _) _ _ _ (stands n)
-    (λ e. entered _ _ _ _ _ (texts-entry (now (s .args .lib)) (now (s .args .net)) (lent s) ∙ e) .numbers-long)
+    (λ e. entered _ _ _ _ _ (texts-entry New (now (s .args .lib)) (now (s .args .net)) (lent s) ∙ e) .numbers-long)
 
 returns : tie.Need-returns
 returns c =
@@ -73,7 +74,7 @@ returns c =
     let n = netlist-done (f .before) in
     let b = begun (n .before) in
     let s = begins b in
-    promised (given s) (lent s) (texts-checked _ _) _ _ (b .begin .kept .1 .1 .0) (n .read-netlist .kept .1 .1 .0) _ (stands n) _ _ (f .finish .ensures)
+    promised (given s) (lent s) (texts-checked _ _) _ _ (b .begin .kept .1 .1 .0) (n .read-netlist .kept .1 .1 .1 .0) _ (stands n) _ _ (f .finish .ensures)
 
 pub analyse-spec : {M : Type 1} → statement M
 analyse-spec =

@@ -21,24 +21,24 @@ reads c = c .before .before
 returns : tie.Need-returns
 returns c =
     let a = begins (c .before .before) .args in
-    text-stays (now (a .net)) (now (a .library)) (now (a .netlist)) (a .begun) (λ o. entry-shut _ (sym (c .enum-told .given .1) ∙ o))
+    text-stays (a .rules) (now (a .net)) (now (a .library)) (now (a .netlist)) (a .begun) (λ o. entry-shut _ (sym (c .enum-told .given .1) ∙ o))
 
 returns-2 : tie.Need-returns-2
 returns-2 c =
     let a = begins (c .before .before) .args in
-    text-stays (now (a .net)) (now (a .library)) (now (a .netlist)) (a .begun) (λ o. later-shut _ (sym (c .enum-told2 .given .1) ∙ o))
+    text-stays (a .rules) (now (a .net)) (now (a .library)) (now (a .netlist)) (a .begun) (λ o. later-shut _ (sym (c .enum-told2 .given .1) ∙ o))
 
 returns-3 : tie.Need-returns-3
 returns-3 c =
     let r = reads (c .before .before .before) in
     let a = begins (unrefused (r .before)) .args in
-    text-refused (now (a .net)) (now (a .library)) (now (a .netlist)) (a .begun) (search needs) (r .read-netlist .result) _ (r .read-netlist .ensures) _ (search needs)
+    text-refused (a .rules) (now (a .net)) (now (a .library)) (now (a .netlist)) (a .begun) (search needs) (r .read-netlist .result) _ (r .read-netlist .ensures) _ (search needs)
 
 returns-4 : tie.Need-returns-4
 returns-4 c =
     let r = reads (c .before .before) in
     let a = begins (unrefused (r .before)) .args in
-    text-accepted (now (a .net)) (now (a .library)) (now (a .netlist)) (a .begun) (search needs) (r .read-netlist .result) _ (r .read-netlist .ensures) (search needs)
+    text-accepted (a .rules) (now (a .net)) (now (a .library)) (now (a .netlist)) (a .begun) (search needs) (r .read-netlist .result) _ (r .read-netlist .ensures) (search needs)
 
 pub read-netlist-spec : {M : Type 1} → statement M
 read-netlist-spec =

@@ -1,6 +1,6 @@
 -- `records::analyse_records` meets its contract: a walk of its MIR, by hand. The library and the table are lent again to
 -- `prepare`; the table is lent again and the library is lent as `&` to `walk`; and the three tables and the report buffer go to
--- `finish` for good.
+-- `close` for good.
 -- All that the proof knows of the three is that they meet their contracts.
 -- Assumes nothing.
 use mathlib.Core.Path.{_≡_, refl, sym, _∙_, ap, subst}
@@ -47,7 +47,7 @@ use Rattle.outcome.specs.Answer.{answerRead, lentOf}
 use Rattle.outcome.specs.Demands.{Promised}
 use Rattle.outcome.specs.Progress.{Finished}
 use Rattle.records.specs.Outcome.{givenRecords, Prepared}
-use Rattle.records.specs.Walk.{Walked}
+use Rattle.records.specs.Walk.{declaredProgress, Walked}
 use Rattle.records.specs.declared.Record.{Record}
 use Rattle.outcome.specs.declared.Progress.{Progress}
 use Rattle.outcome.specs.declared.Answer.{Answer}
@@ -67,10 +67,10 @@ use Rattle.records.proofs.walk as walk
 use Rattle.records.proofs.walk.Symbol as walk-def
 use Rattle.records.proofs.walk.Symbol.{name as #records·walk}
 use Rattle.records.proofs.walk.Met as walk-thm
-use Rattle.outcome.proofs.finish as finish
-use Rattle.outcome.proofs.finish.Symbol as finish-def
-use Rattle.outcome.proofs.finish.Symbol.{name as #outcome·finish}
-use Rattle.outcome.proofs.finish.Met as finish-thm
+use Rattle.records.proofs.close as close
+use Rattle.records.proofs.close.Symbol as close-def
+use Rattle.records.proofs.close.Symbol.{name as #records·close}
+use Rattle.records.proofs.close.Met as close-thm
 use Rattle.records.proofs.analyse_records.Key.{name as #records·analyse_records}
 use Rattle.records.proofs.analyse_records as call
 use Rattle.records.proofs.analyse_records.Statement as stated
@@ -98,8 +98,8 @@ module _ {M : Type 1} (𝓤 : URA M) (H : Heap 𝓤) (A : Atoms 𝓤) (mem : Mem
   abbrev Walk : Contract 𝓤
   Walk = tripleOf 𝓤 H A walk.signature (walk.spec 𝓤 H A mem run)
 
-  abbrev Finish : Contract 𝓤
-  Finish = tripleOf 𝓤 H A finish.signature (finish.spec 𝓤 H A mem run)
+  abbrev Close : Contract 𝓤
+  Close = tripleOf 𝓤 H A close.signature (close.spec 𝓤 H A mem run)
 
 module _ {M : Type 1} (𝓤 : URA M) (H : Heap 𝓤) (A : Atoms 𝓤) (W : Given 𝓤 H A) (mem : Memory → SProp 𝓤) (run : Routine → Fun 𝓤) (κ₁ κ₂ κ₃ κ₄ κ₅ κ₆ : Lft) (q₁ q₂ q₃ q₄ q₅ q₆ : Share)
     (text : RefT (List ℕ)) (recs : RefT (List Record)) (b₃ o₃ : ℕ) (γ₃ : GName) (lib₀ : List ℕ) (b₄ o₄ : ℕ) (γ₄ : GName) (ts₀ : List ℕ) (b₅ o₅ : ℕ) (γ₅ : GName) (num : List ℕ) (b₆ o₆ : ℕ) (γ₆ : GName) (rep : List ℕ) where
@@ -181,7 +181,7 @@ module _ {M : Type 1} (𝓤 : URA M) (H : Heap 𝓤) (A : Atoms 𝓤) (W : Given
       -- [text; records; library; table; numbers; report; the result]
       nothing ! $ move ! (6 ∷ 0 ∷ []) $ fjoin ! $ move ! (5 ∷ 0 ∷ []) $ fjoin ! $ move ! (4 ∷ 0 ∷ []) $ fjoin ! $ move ! (3 ∷ 0 ∷ []) $ fjoin ! $ move ! (2 ∷ 0 ∷ []) $ fjoin ! $ move ! (1 ∷ 0 ∷ []) $ fjoin ! $ frame ! $ done !
 
-  module _ (𝓣 : Tables 𝓤 H) (fm : FmC 𝓤 H (W .laws) (𝓣 .C)) (known₁ : Triple 𝓤 (𝓣 .C #records·prepare) (Prepare 𝓤 H A mem run)) (known₂ : Triple 𝓤 (𝓣 .C #records·walk) (Walk 𝓤 H A mem run)) (known₃ : Triple 𝓤 (𝓣 .C #outcome·finish) (Finish 𝓤 H A mem run))
+  module _ (𝓣 : Tables 𝓤 H) (fm : FmC 𝓤 H (W .laws) (𝓣 .C)) (known₁ : Triple 𝓤 (𝓣 .C #records·prepare) (Prepare 𝓤 H A mem run)) (known₂ : Triple 𝓤 (𝓣 .C #records·walk) (Walk 𝓤 H A mem run)) (known₃ : Triple 𝓤 (𝓣 .C #records·close) (Close 𝓤 H A mem run))
       (room₁ : Room u8 (length (text .now))) (room₂ : Room R.the-row (length (recs .now))) (room₃ : Room u32 (length lib₀)) (room₄ : Room u32 (length ts₀)) (room₅ : Room u32 (length num)) (room₆ : Room u8 (length rep))
       (l₀ l₁ l₂ l₃ l₄ l₅ l₆ l₇ l₈ l₉ l₁₀ l₁₁ l₁₂ l₁₃ l₁₄ l₁₅ l₁₆ l₁₇ l₁₈ l₁₉ l₂₀ l₂₁ l₂₂ l₂₃ l₂₄ l₂₅ : ℕ) where
     abbrev C : Calls 𝓤 H
@@ -267,11 +267,11 @@ module _ {M : Type 1} (𝓤 : URA M) (H : Heap 𝓤) (A : Atoms 𝓤) (W : Given
       abbrev passed₃ : RefT (List ℕ) × (RefT (List ℕ) × (RefT (List ℕ) × (RefT (List ℕ) × (Progress × Unit {0}))))
       passed₃ = (x₃ γ₃ lib, (x₄ γ₄ ts, (x₅, (x₆, (s′, tt)))))
 
-      abbrev to₃ : Finish 𝓤 H A mem run .Ghost
+      abbrev to₃ : Close 𝓤 H A mem run .Ghost
       to₃ = (((κ₃, (κ₄, (κ₅, (κ₆, tt)))), (q₃, (q₄, (q₅, (q₆, tt)))), tt, passed₃, (v₃ (length lib) ∷ [], (v₄ (length ts) ∷ [], (v₅ (length num) ∷ [], (v₆ (length rep) ∷ [], (S′.lowered s′ ∷ [], tt)))))), tt)
 
-      -- `finish` asks that the tables hold what was read, where nothing was refused
-      goes₃ : ent 𝓤 (⋆ 𝓤 H A (‵ (flft κ₃ q₃) ∷ ‵ (flft κ₄ q₄) ∷ ‵ (flft κ₅ q₅) ∷ ‵ (flft κ₆ q₆) ∷ ‵ (Library κ₃ γ₃ lib (length lib)) ∷ ‵ (Table κ₄ γ₄ ts (length ts)) ∷ ‵ Numbers ∷ ‵ Report ∷ [])) (Finish 𝓤 H A mem run .pre to₃)
+      -- `close` asks that the tables hold what was read, where nothing was refused
+      goes₃ : ent 𝓤 (⋆ 𝓤 H A (‵ (flft κ₃ q₃) ∷ ‵ (flft κ₄ q₄) ∷ ‵ (flft κ₅ q₅) ∷ ‵ (flft κ₆ q₆) ∷ ‵ (Library κ₃ γ₃ lib (length lib)) ∷ ‵ (Table κ₄ γ₄ ts (length ts)) ∷ ‵ Numbers ∷ ‵ Report ∷ [])) (Close 𝓤 H A mem run .pre to₃)
       goes₃ =
           qed W (‵ (flft κ₃ q₃) ∷ ‵ (flft κ₄ q₄) ∷ ‵ (flft κ₅ q₅) ∷ ‵ (flft κ₆ q₆) ∷ ‵ (Library κ₃ γ₃ lib (length lib)) ∷ ‵ (Table κ₄ γ₄ ts (length ts)) ∷ ‵ Numbers ∷ ‵ Report ∷ []) ∵
           says ! (ready-then (text .now) lib₀ ts₀ num rep (recs .now) s s′ lib ts₁ ts said₁ said₂) $
@@ -289,12 +289,12 @@ module _ {M : Type 1} (𝓤 : URA M) (H : Heap 𝓤) (A : Atoms 𝓤) (W : Given
           assigns ! (addr ! (from ! (fld ! refl (hop ! (look-in ! (at 12 6) (sub ! 0 refl (whole !))) (stop !))))) (from ! (stop !)) (init ! (at 12 24) refl (tt, tt)) $
           assigns ! (agg ! (and-then ! (load ! (from ! (stop !)) (look ! (at 12 24) refl)) (and-then ! (load ! (from ! (fld ! refl (stop !))) (look-in ! (at 12 6) (sub ! 1 refl (whole !)))) (no-more !)))) (from ! (stop !)) (init ! (at 12 25) refl (tt, (tt, (record { fits = room₆ .0 }, tt)))) $
           -- [text; lft₁; records; lft₂; library; lft₃; table; lft₄; numbers; lft₅; report; lft₆; _25; …]: the four go to
-          -- `finish` for good
-          move ! (5 ∷ 7 ∷ 9 ∷ 11 ∷ 4 ∷ 6 ∷ 8 ∷ 10 ∷ []) $ group ! 8 $ use1 W (raw (Finish 𝓤 H A mem run .pre to₃)) goes₃ $
-          calls-at ! fm (Finish 𝓤 H A mem run) known₃ to₃ (and-then ! (load ! (from ! (stop !)) (look ! (at 5 19) refl)) (and-then ! (load ! (from ! (stop !)) (look ! (at 5 21) refl)) (and-then ! (load ! (from ! (stop !)) (look ! (at 5 23) refl)) (and-then ! (load ! (from ! (stop !)) (look ! (at 5 25) refl)) (and-then ! (load ! (from ! (stop !)) (look ! (at 5 8) refl)) (no-more !)))))) (λ w.
-          use1 W (later (some (λ (r : Answer). ((‵ (flft κ₃ q₃) ⊛ ‵ (flft κ₄ q₄) ⊛ ‵ (flft κ₅ q₅) ⊛ ‵ (flft κ₆ q₆) ⊛ ‵ ftrue) ⊛ ‵ (Ans.the-row .own r (w ∷ []))) ⊛ raw (ensured 𝓤 H A finish.ended (finish.clauses 𝓤 H A mem run) (κ₃, (κ₄, (κ₅, (κ₆, tt)))) passed₃ tt r)))) (id⊢ 𝓤 _) $ await ! tt $ pick ! (λ r.
-          split ! $ move ! (1 ∷ []) $ use1 W (some (λ (zs : List ℕ × (List ℕ × (List ℕ × (List ℕ × (Unit {0} × Unit {0}))))). ‵ (lasts finish.ended (κ₃, (κ₄, (κ₅, (κ₆, tt)))) passed₃ zs) ⊛ raw (fact 𝓤 (Finished s′ (lentOf lib ts num rep) (lentOf (zs .0) (zs .1 .0) (zs .1 .1 .0) (zs .1 .1 .1 .0)) (answerRead r))))) (id⊢ 𝓤 _) $ pick ! (λ zs.
-          split ! $ move ! (1 ∷ []) $ heard ! (Finished s′ (lentOf lib ts num rep) (lentOf (zs .0) (zs .1 .0) (zs .1 .1 .0) (zs .1 .1 .1 .0)) (answerRead r)) (λ said₃. fsplit ! $ fsplit ! $ move ! (1 ∷ []) $ feqL ! (λ f₃. move ! (1 ∷ []) $ fsplit ! $ fsplit ! $ move ! (1 ∷ []) $ feqL ! (λ f₄. move ! (1 ∷ []) $ fsplit ! $ fsplit ! $ move ! (1 ∷ []) $ feqL ! (λ f₅. move ! (1 ∷ []) $ fsplit ! $ fsplit ! $ move ! (1 ∷ []) $ feqL ! (λ f₆.
+          -- `close` for good
+          move ! (5 ∷ 7 ∷ 9 ∷ 11 ∷ 4 ∷ 6 ∷ 8 ∷ 10 ∷ []) $ group ! 8 $ use1 W (raw (Close 𝓤 H A mem run .pre to₃)) goes₃ $
+          calls-at ! fm (Close 𝓤 H A mem run) known₃ to₃ (and-then ! (load ! (from ! (stop !)) (look ! (at 5 19) refl)) (and-then ! (load ! (from ! (stop !)) (look ! (at 5 21) refl)) (and-then ! (load ! (from ! (stop !)) (look ! (at 5 23) refl)) (and-then ! (load ! (from ! (stop !)) (look ! (at 5 25) refl)) (and-then ! (load ! (from ! (stop !)) (look ! (at 5 8) refl)) (no-more !)))))) (λ w.
+          use1 W (later (some (λ (r : Answer). ((‵ (flft κ₃ q₃) ⊛ ‵ (flft κ₄ q₄) ⊛ ‵ (flft κ₅ q₅) ⊛ ‵ (flft κ₆ q₆) ⊛ ‵ ftrue) ⊛ ‵ (Ans.the-row .own r (w ∷ []))) ⊛ raw (ensured 𝓤 H A close.ended (close.clauses 𝓤 H A mem run) (κ₃, (κ₄, (κ₅, (κ₆, tt)))) passed₃ tt r)))) (id⊢ 𝓤 _) $ await ! tt $ pick ! (λ r.
+          split ! $ move ! (1 ∷ []) $ use1 W (some (λ (zs : List ℕ × (List ℕ × (List ℕ × (List ℕ × (Unit {0} × Unit {0}))))). ‵ (lasts close.ended (κ₃, (κ₄, (κ₅, (κ₆, tt)))) passed₃ zs) ⊛ raw (fact 𝓤 (Finished (declaredProgress ts s′) (lentOf lib ts num rep) (lentOf (zs .0) (zs .1 .0) (zs .1 .1 .0) (zs .1 .1 .1 .0)) (answerRead r))))) (id⊢ 𝓤 _) $ pick ! (λ zs.
+          split ! $ move ! (1 ∷ []) $ heard ! (Finished (declaredProgress ts s′) (lentOf lib ts num rep) (lentOf (zs .0) (zs .1 .0) (zs .1 .1 .0) (zs .1 .1 .1 .0)) (answerRead r)) (λ said₃. fsplit ! $ fsplit ! $ move ! (1 ∷ []) $ feqL ! (λ f₃. move ! (1 ∷ []) $ fsplit ! $ fsplit ! $ move ! (1 ∷ []) $ feqL ! (λ f₄. move ! (1 ∷ []) $ fsplit ! $ fsplit ! $ move ! (1 ∷ []) $ feqL ! (λ f₅. move ! (1 ∷ []) $ fsplit ! $ fsplit ! $ move ! (1 ∷ []) $ feqL ! (λ f₆.
           -- [report's last; …; numbers'; table's; library's; the tokens and the result; text; lft₁; records; lft₂; _25; …]
           move ! (5 ∷ []) $ split ! $ move ! (1 ∷ []) $ peeks ! Ans.the-row (Is Ans.the-row) (shows 𝓤 H A Ans.the-row) r (w ∷ []) (λ is.
           land ! (from ! (stop !)) (init ! (at 11 0) refl (EL.lawful Ans.the-type Ans′.the-laws 𝓤 H A W tt .typed r _ is .0)) $
@@ -398,7 +398,7 @@ module _ {M : Type 1} (𝓤 : URA M) (H : Heap 𝓤) (A : Atoms 𝓤) (W : Given
         forget ! (at 15 9) refl $ forget ! (at 15 10) refl $ forget ! (at 15 11) refl $ forget ! (at 15 12) refl $ forget ! (at 15 13) refl $ keep ! (8 ∷ 5 ∷ 9 ∷ 10 ∷ 3 ∷ 4 ∷ 0 ∷ 1 ∷ 11 ∷ 12 ∷ 13 ∷ 14 ∷ onward 15 52) $
         second r (zs .1 .0) (zs .1 .1 .0) (subst (λ (us : List Val). Is S.the-row r us) (S′.lowers .val-is r _ is) is) e₃ e₄ said₁)))))))))))
 
-  module _ (𝓣 : Tables 𝓤 H) (fm : FmC 𝓤 H (W .laws) (𝓣 .C)) (known₁ : Triple 𝓤 (𝓣 .C #records·prepare) (Prepare 𝓤 H A mem run)) (known₂ : Triple 𝓤 (𝓣 .C #records·walk) (Walk 𝓤 H A mem run)) (known₃ : Triple 𝓤 (𝓣 .C #outcome·finish) (Finish 𝓤 H A mem run)) where
+  module _ (𝓣 : Tables 𝓤 H) (fm : FmC 𝓤 H (W .laws) (𝓣 .C)) (known₁ : Triple 𝓤 (𝓣 .C #records·prepare) (Prepare 𝓤 H A mem run)) (known₂ : Triple 𝓤 (𝓣 .C #records·walk) (Walk 𝓤 H A mem run)) (known₃ : Triple 𝓤 (𝓣 .C #records·close) (Close 𝓤 H A mem run)) where
     walks : Room u8 (length (text .now)) → Room R.the-row (length (recs .now)) → Room u32 (length lib₀) → Room u32 (length ts₀) → Room u32 (length num) → Room u8 (length rep)
         → ent 𝓤 (onEntry 𝓤 H A call.signature (κ₁, (κ₂, (κ₃, (κ₄, (κ₅, (κ₆, tt)))))) (q₁, (q₂, (q₃, (q₄, (q₅, (q₆, tt)))))) a vals) (WpFn 𝓤 H (𝓣 .C) (𝓣 .Λ) code.function (v₁ ∷ v₂ ∷ v₃ (length lib₀) ∷ v₄ (length ts₀) ∷ v₅ (length num) ∷ v₆ (length rep) ∷ []) Post)
     walks room₁ room₂ room₃ room₄ room₅ room₆ =
@@ -415,7 +415,7 @@ module _ {M : Type 1} (𝓤 : URA M) (H : Heap 𝓤) (A : Atoms 𝓤) (W : Given
         starts 𝓣 fm known₁ known₂ known₃ room₁ room₂ room₃ room₄ room₅ room₆ l₀ l₁ l₂ l₃ l₄ l₅ l₆ l₇ l₈ l₉ l₁₀ l₁₁ l₁₂ l₁₃ l₁₄ l₁₅ l₁₆ l₁₇ l₁₈ l₁₉ l₂₀ l₂₁ l₂₂ l₂₃ l₂₄ l₂₅))))))))))))))))))))))))))
 
 module _ {M : Type 1} (𝓤 : URA M) (H : Heap 𝓤) (A : Atoms 𝓤) (W : Given 𝓤 H A) (mem : Memory → SProp 𝓤) (run : Routine → Fun 𝓤) where
-  call-walks : (𝓣 : Tables 𝓤 H) → Triple 𝓤 (𝓣 .C #records·prepare) (Prepare 𝓤 H A mem run) → Triple 𝓤 (𝓣 .C #records·walk) (Walk 𝓤 H A mem run) → Triple 𝓤 (𝓣 .C #outcome·finish) (Finish 𝓤 H A mem run)
+  call-walks : (𝓣 : Tables 𝓤 H) → Triple 𝓤 (𝓣 .C #records·prepare) (Prepare 𝓤 H A mem run) → Triple 𝓤 (𝓣 .C #records·walk) (Walk 𝓤 H A mem run) → Triple 𝓤 (𝓣 .C #records·close) (Close 𝓤 H A mem run)
       → Walks 𝓤 H A call.ended stayed (WpFn 𝓤 H (𝓣 .C) (𝓣 .Λ) code.function) (call.clauses 𝓤 H A mem run)
   call-walks 𝓣 known₁ known₂ known₃ = walked 𝓤 H A call.ended stayed (call.clauses 𝓤 H A mem run) (WpFn 𝓤 H (𝓣 .C) (𝓣 .Λ) code.function) (λ κs. (slice-vals, (slice-vals, (slice-vals, (slice-vals, (slice-vals, (slice-vals, tt)))))))
       (λ κs. (shr-slice-tells (named 0) (κs .0) u8, (shr-slice-tells (named 1) (κs .1 .0) R.the-row, (mut-slice-tells (named 2) (κs .1 .1 .0) u32, (mut-slice-tells (named 3) (κs .1 .1 .1 .0) u32, (mut-slice-tells (named 4) (κs .1 .1 .1 .1 .0) u32, (mut-slice-tells (named 5) (κs .1 .1 .1 .1 .1 .0) u8, tt)))))))
@@ -424,7 +424,7 @@ module _ {M : Type 1} (𝓤 : URA M) (H : Heap 𝓤) (A : Atoms 𝓤) (W : Given
       (a .1 .1 .0 .ptr .0) (a .1 .1 .0 .ptr .1) (a .1 .1 .0 .name) (a .1 .1 .0 .now) (a .1 .1 .1 .0 .ptr .0) (a .1 .1 .1 .0 .ptr .1) (a .1 .1 .1 .0 .name) (a .1 .1 .1 .0 .now) (a .1 .1 .1 .1 .0 .ptr .0) (a .1 .1 .1 .1 .0 .ptr .1) (a .1 .1 .1 .1 .0 .name) (a .1 .1 .1 .1 .0 .now) (a .1 .1 .1 .1 .1 .0 .ptr .0) (a .1 .1 .1 .1 .1 .0 .ptr .1) (a .1 .1 .1 .1 .1 .0 .name) (a .1 .1 .1 .1 .1 .0 .now)
       𝓣 (fmOf 𝓤 H (W .laws) 𝓣) known₁ known₂ known₃ (are .0 .0 .1) (are .1 .0 .0 .1) (are .1 .1 .0 .0 .1) (are .1 .1 .1 .0 .0 .1) (are .1 .1 .1 .1 .0 .0 .1) (are .1 .1 .1 .1 .1 .0 .0 .1)))
 
-call-meets : {M : Type 1} (𝓤 : URA M) (H : Heap 𝓤) (A : Atoms 𝓤) → Given 𝓤 H A → (mem : Memory → SProp 𝓤) (run : Routine → Fun 𝓤) (𝓣 : Tables 𝓤 H) → Triple 𝓤 (𝓣 .C #records·prepare) (Prepare 𝓤 H A mem run) → Triple 𝓤 (𝓣 .C #records·walk) (Walk 𝓤 H A mem run) → Triple 𝓤 (𝓣 .C #outcome·finish) (Finish 𝓤 H A mem run)
+call-meets : {M : Type 1} (𝓤 : URA M) (H : Heap 𝓤) (A : Atoms 𝓤) → Given 𝓤 H A → (mem : Memory → SProp 𝓤) (run : Routine → Fun 𝓤) (𝓣 : Tables 𝓤 H) → Triple 𝓤 (𝓣 .C #records·prepare) (Prepare 𝓤 H A mem run) → Triple 𝓤 (𝓣 .C #records·walk) (Walk 𝓤 H A mem run) → Triple 𝓤 (𝓣 .C #records·close) (Close 𝓤 H A mem run)
     → Meets 𝓤 H A call.signature (WpFn 𝓤 H (𝓣 .C) (𝓣 .Λ) code.function) (call.spec 𝓤 H A mem run)
 call-meets 𝓤 H A W mem run 𝓣 known₁ known₂ known₃ =
     walk-meets 𝓤 H A call.ended stayed W (goes-none-slice 𝓤 H A W 6 (0 ∷ []) tt (plain (λ _. u8)) yes, (goes-none-slice 𝓤 H A W 6 (1 ∷ []) tt (plain (λ _. R.the-row)) yes, (goes-gave-slice 𝓤 H A W 6 2 tt (plain (λ _. u32)), (goes-gave-slice 𝓤 H A W 6 3 tt (plain (λ _. u32)), (goes-gave-slice 𝓤 H A W 6 4 tt (plain (λ _. u32)), (goes-gave-slice 𝓤 H A W 6 5 tt (plain (λ _. u8)), tt)))))) (call.clauses 𝓤 H A mem run)
@@ -438,4 +438,4 @@ analyse-records-spec 𝓤 H 𝓜 𝓖 𝓡 =
     (call-meets 𝓤 H (𝓖 .A) (givenOf 𝓤 H 𝓜 𝓖) (𝓜 .mem) (𝓡 .run) (tablesOf 𝓤 H 𝓜 (tables 𝓤 H 𝓜 𝓡 code.env))
     (cited 𝓤 H (Prepare 𝓤 H (𝓖 .A) (𝓜 .mem) (𝓡 .run)) 𝓜 𝓡 code.env #records·prepare prepare-def.routine code.calls-records·prepare (prepare-thm.met 𝓤 H 𝓜 𝓖 𝓡))
     (cited 𝓤 H (Walk 𝓤 H (𝓖 .A) (𝓜 .mem) (𝓡 .run)) 𝓜 𝓡 code.env #records·walk walk-def.routine code.calls-records·walk (walk-thm.met 𝓤 H 𝓜 𝓖 𝓡))
-    (cited 𝓤 H (Finish 𝓤 H (𝓖 .A) (𝓜 .mem) (𝓡 .run)) 𝓜 𝓡 code.env #outcome·finish finish-def.routine code.calls-outcome·finish (finish-thm.met 𝓤 H 𝓜 𝓖 𝓡)))
+    (cited 𝓤 H (Close 𝓤 H (𝓖 .A) (𝓜 .mem) (𝓡 .run)) 𝓜 𝓡 code.env #records·close close-def.routine code.calls-records·close (close-thm.met 𝓤 H 𝓜 𝓖 𝓡)))

@@ -15,7 +15,7 @@ returns c =
 returns-2 : tie.Need-returns-2
 returns-2 c =
     let rec = c .before .before .before .before .args .rec in
-    mark-says rec _ refl (c .before .before .if1 .left) (ap (λ (b : Bool). (ltb (rec .kind) 2 && eqb (rec .cell) 0) && b) (c .zero-from2 .ensures)) refl
+    mark-says rec _ refl (c .before .before .if1 .left) (ap (λ (b : Bool). (ltb (rec .kind) 4 && eqb (rec .cell) 0) && b) (c .zero-from2 .ensures)) refl
 
 pub take-apart-spec : {M : Type 1} → statement M
 take-apart-spec =

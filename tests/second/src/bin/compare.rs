@@ -34,7 +34,7 @@ const TOLD: u64 = 10;
 
 /// The answers that the C entry can give; 0 stands for acceptance. Number 1 needs a lent table, and
 /// 16 is unused.
-const ANSWERS: [usize; 16] = [0, 2, 3, 4, 5, 6, 7, 8, 9, 10, 11, 12, 13, 14, 15, 17];
+const ANSWERS: [usize; 17] = [0, 2, 3, 4, 5, 6, 7, 8, 9, 10, 11, 12, 13, 14, 15, 17, 20];
 
 /// What the reports of accepted pairs must have shown: at least so often in random pairs, and in
 /// ladders.
@@ -86,7 +86,7 @@ struct Comparison {
     passed: u64,
     failed: u64,
     /// By refusal number, 0 for acceptance, as the archive answered.
-    answers: [u64; 18],
+    answers: [u64; 21],
     shown: [u64; SHOWN.len()],
     turn: usize,
 }
@@ -146,7 +146,7 @@ impl Comparison {
         self.answers[if answer < 1_000_000 {
             0
         } else {
-            (answer / 1_000_000).min(17) as usize
+            (answer / 1_000_000).min(20) as usize
         }] += 1;
         if answer < 1_000_000 && answer <= room as u64 {
             self.note(&got.inner()[..answer as usize]);
@@ -703,7 +703,7 @@ fn main() -> ExitCode {
     let mut all = Comparison {
         passed: 0,
         failed: 0,
-        answers: [0; 18],
+        answers: [0; 21],
         shown: [0; SHOWN.len()],
         turn: 0,
     };
@@ -717,7 +717,7 @@ fn main() -> ExitCode {
     );
 
     // Only random pairs count for what must have come up.
-    all.answers = [0; 18];
+    all.answers = [0; 21];
     all.shown = [0; SHOWN.len()];
     for _ in 0..PAIRS {
         random(&mut all, &mut rng);

@@ -1,0 +1,261 @@
+-- The copy as it is put into a buffer, and what the reading by the old rules comes to.
+-- Assumes nothing.
+use mathlib.Core.Bool.{Bool, true, false, _||_}
+use mathlib.Core.List.{List, [], _∷_, _++_, append-nil, append-assoc}
+use mathlib.Core.Path.{_≡_, refl, sym, ap, fun-ext, _∙_}
+use Prim.Native.Nat.{ℕ, zero, suc, _+_, _*_, _^_, _≤_, _<_, min}
+use native.Mathlib.Omega.{arith}
+use borrow.Author.Tests.{le-ltb}
+use lib.Dec.{ltb}
+use lib.ListN.{length, take, drop, length-append, replicate, length-replicate}
+use lib.Seq.{take-at, length-sets}
+use Rattle.sizes.specs.Sizes as Size
+use Rattle.reading.specs.Choice.{pick}
+use Rattle.reading.specs.Numbers as No
+use Rattle.reading.specs.Refusal.{Read, refused, read, _>>=_, _>>_, weigh}
+use Rattle.reading.specs.declared.Refusal.{Refusal}
+use Rattle.reading.proofs.Laws.{by-test}
+use Rattle.text.specs.Bytes.{bytes}
+use Rattle.writer.specs.Decimal.{decimalBytes}
+use Rattle.writer.specs.Put.{Put}
+use Rattle.writer.specs.Refused.{refusalBytes}
+use Rattle.writer.proofs.Decimal.{decimal-below, decimal-length}
+use Rattle.writer.proofs.Steps.{put-front}
+use Rattle.cell_library.specs.Cells.{Cell}
+use Rattle.cell_library.specs.Library.{library}
+use Rattle.cell_library.specs.Entry.{leftBehind}
+use Rattle.cell_library.specs.Layout.{libraryWords, libraryAfter}
+use Rattle.cell_library.proofs.Laws.{library-sound}
+use Rattle.netlist.specs.declared.Rules.the-variants.{Old, New}
+use Rattle.netlist.specs.Netlist.{Statement, mentioned, undeclared, linesWhere, undeclaredLines, netlist}
+use Rattle.netlist.specs.Layout.{netlistWords, NetlistHolds}
+use Rattle.netlist.specs.Admitting.{wordsUndeclared}
+use Rattle.netlist.proofs.Opening.{words-undeclared, where-same}
+use Rattle.calculation.specs.Calculation.{Analysed, analysed}
+use Rattle.report.specs.Report.{reportBytes}
+use Rattle.copying.specs.Copy.{openLine, openLines, copyOf, declaredToo}
+use Rattle.copying.specs.Kept.{Kept}
+use Rattle.copying.proofs.Copying.{copy-keeps}
+use Rattle.outcome.specs.declared.Progress.{Progress}
+use Rattle.outcome.specs.declared.Progress.the-variants.{Unrefused, AtEntry, Later}
+use Rattle.outcome.specs.Outcome.{Lent, entry, givenBy, tableShort, textLong, reportOf}
+use Rattle.outcome.specs.Progress.{entryBy, progressOf, progressFrom, Begun}
+use Rattle.outcome.proofs.Entering.{texts-entry, entered}
+use Rattle.outcome.proofs.Promising.{NetlistRead, entry-shut, later-shut, unrefused-entry}
+use Rattle.analysis.specs.Own.{ownTables}
+use Rattle.analysis.specs.Netlist.{TextRead}
+use Rattle.analysis.proofs.Reading.{netlist-read}
+use Rattle.printing.specs.Printed.{reported, shown, printed}
+use Rattle.open_lines.specs.Copied.{copyBytes, copied, copyPrinted, Accepted, Copied}
+
+-- ---- the lines, one more
+
+module _ (p : ℕ → Bool) where
+  where-more : (n first : ℕ) → linesWhere p (suc n) first ≡ linesWhere p n first ++ pick (p (first + n)) ((first + n) ∷ []) []
+  unfolding linesWhere pick
+  where-more zero first = let e : first + 0 ≡ first = omega arith in rw e
+  where-more (suc n) first =
+      let e : first + suc n ≡ suc first + n = omega arith in
+      let rest = where-more n (suc first) in
+      by-test (p first) (λ t. rw (t, e) (ap (λ (ls : List ℕ). first ∷ ls) rest)) (λ t. rw (t, e) rest)
+
+  lines-append : (xs ys : List ℕ) → openLines (xs ++ ys) ≡ openLines xs ++ openLines ys
+  unfolding openLines
+  lines-append [] ys = refl
+  lines-append (x ∷ xs) ys = rw (lines-append xs ys) (sym (append-assoc (openLine x) (openLines xs) (openLines ys)))
+
+  one-line : (b : Bool) (l : ℕ) → openLines (pick b (l ∷ []) []) ≡ pick b (openLine l) []
+  unfolding openLines pick
+  one-line true l = append-nil (openLine l)
+  one-line false l = refl
+
+  pub opens-more : (n : ℕ) → openLines (linesWhere p (suc n) 1) ≡ openLines (linesWhere p n 1) ++ pick (p (1 + n)) (openLine (1 + n)) []
+  opens-more n =
+      ap openLines (where-more n 1)
+      ∙ lines-append (linesWhere p n 1) (pick (p (1 + n)) ((1 + n) ∷ []) [])
+      ∙ ap (λ (xs : List ℕ). openLines (linesWhere p n 1) ++ xs) (one-line (p (1 + n)) (1 + n))
+
+  -- ---- their length
+
+  open-length : (l : ℕ) → l < 10000 → length (openLine l) ≤ 10
+  unfolding openLine bytes
+  open-length l h = simp length-append (omega (arith, decimal-below 3 l h))
+
+  opens-length : (n first : ℕ) → first + n ≤ 10000 → length (openLines (linesWhere p n first)) ≤ n * 10
+  unfolding linesWhere openLines pick
+  opens-length zero first h = omega arith
+  opens-length (suc n) first h =
+      let rest = opens-length n (suc first) (omega arith) in
+      by-test (p first)
+      (λ t. rw t (rw (length-append (openLine first) (openLines (linesWhere p n (suc first)))) (omega (arith, rest, open-length first (omega arith)))))
+      (λ t. rw t (omega (arith, rest)))
+
+copy-length : (net : List ℕ) (ss : List Statement) → length net ≤ Size.textBytes → length (copyOf net ss) ≤ copyBytes
+unfolding copyOf undeclaredLines
+copy-length net ss h =
+    rw (length-append net (openLines (linesWhere (undeclared ss) Size.lines 1)))
+    (omega (arith, opens-length (undeclared ss) Size.lines 1 (omega arith)))
+
+refusal-length : (number line : ℕ) → length (refusalBytes number line) ≤ 50
+unfolding refusalBytes bytes
+refusal-length number line =
+    simp length-append (omega (arith, decimal-length number .1, decimal-length line .1))
+
+-- The lines that the table says are those of the statements that it holds.
+pub table-copy : {table : List ℕ} {ss : List Statement} → NetlistHolds table ss → (net : List ℕ)
+    → net ++ openLines (linesWhere (wordsUndeclared table) Size.lines 1) ≡ copyOf net ss
+unfolding copyOf undeclaredLines
+table-copy {table} {ss} h net =
+    ap (λ (ls : List ℕ). net ++ openLines ls)
+    (where-same (wordsUndeclared table) (undeclared ss) Size.lines 1 (λ l low high. words-undeclared h l low (omega arith)))
+
+-- ---- what an accepted netlist comes to
+
+module _ (lib net : List ℕ) where
+  module _ (cells : List Cell) (ss : List Statement) (short-lib : length lib ≤ Size.textBytes) (short-net : length net ≤ Size.textBytes)
+      (cells-read : library lib ≡ read cells) (ss-read : netlist Old cells net ≡ read ss) where
+    pub copied-read : copied lib net ≡ read (copyOf net ss)
+    unfolding copied textLong weigh pick _>>=_ _>>_
+    copied-read = rw (le-ltb Size.textBytes (length lib) short-lib, le-ltb Size.textBytes (length net) short-net, cells-read, ss-read)
+
+    kept : Kept cells net ss
+    kept = copy-keeps cells net ss ss-read
+
+    same-report : reportOf (declaredToo ss) (analysed cells (declaredToo ss)) ≡ reportOf ss (analysed cells ss)
+    unfolding reportOf
+    same-report =
+        let a = analysed cells ss in
+        ap (λ (x : Analysed). reportBytes (λ l. mentioned l (declaredToo ss)) (x .numbers) (x .counts)) (kept .numbers)
+        ∙ ap (λ (f : ℕ → Bool). reportBytes f (a .numbers) (a .counts)) (fun-ext (kept .mentions))
+
+    reports : length (copyOf net ss) ≤ Size.textBytes → printed lib (copyOf net ss) ≡ reportOf ss (analysed cells ss)
+    unfolding printed reported shown textLong weigh pick _>>=_ _>>_
+    reports short =
+        rw (le-ltb Size.textBytes (length lib) short-lib, le-ltb Size.textBytes (length (copyOf net ss)) short, cells-read, kept .accepts)
+        same-report
+
+    accepted : Accepted lib net cells ss
+    unfolding copyPrinted shown
+    accepted = record { copies = ap shown copied-read; keeps = kept; reports = reports }
+
+  -- ---- the copy or the refusal in the buffer
+
+  module _ (before : List ℕ) (room : copyBytes ≡ length before) (after : List ℕ) (said : ℕ) where
+    put-all : (bs : List ℕ) → copyPrinted lib net ≡ bs → length bs ≤ copyBytes → Put 0 bs before after said → Copied lib net before after said
+    put-all bs e h p =
+        let fits : length bs ≤ length before = omega arith in
+        let counts : said ≡ length bs = omega (arith, p .moved) in
+        let front = put-front p fits in
+        record {
+          answers = rw e counts;
+          leaves = rw e front;
+          prints = rw (e, counts, front) (take-at bs (drop (length bs) before) (length bs) refl);
+          within = omega arith;
+          long = room ∙ sym (ap length (p .stored) ∙ length-sets before 0 bs);
+          accepted = accepted;
+        }
+
+    pub put-refused : (r : Refusal) → copied lib net ≡ refused (r .number) (r .line)
+        → Put 0 (refusalBytes (r .number) (r .line)) before after said → Copied lib net before after said
+    unfolding copyPrinted shown
+    put-refused r e p = put-all (refusalBytes (r .number) (r .line)) (rw e) (omega (arith, refusal-length (r .number) (r .line))) p
+
+  -- ---- where the reading by the old rules stands
+
+  pub record BothOld (table : List ℕ) : Type 0 where
+    pub cells : List Cell
+    pub statements : List Statement
+    pub libShort : length lib ≤ Size.textBytes
+    pub netShort : length net ≤ Size.textBytes
+    pub cellsRead : library lib ≡ read cells
+    pub statementsRead : netlist Old cells net ≡ read statements
+    pub holds : NetlistHolds table statements
+
+  unfoldable pub Stands : List ℕ → Progress → Type 0
+  Stands table Unrefused = BothOld table
+  Stands table (AtEntry r) = copied lib net ≡ refused (r .number) (r .line)
+  Stands table (Later r) = copied lib net ≡ refused (r .number) (r .line)
+
+  pub put-accepted : (before : List ℕ) → copyBytes ≡ length before → (after : List ℕ) (said : ℕ) (table : List ℕ) → BothOld table
+      → Put 0 (net ++ openLines (linesWhere (wordsUndeclared table) Size.lines 1)) before after said → Copied lib net before after said
+  unfolding copyPrinted shown
+  put-accepted before room after said table b p =
+      put-all before room after said (copyOf net (b .statements))
+      (ap shown (copied-read (b .cells) (b .statements) (b .libShort) (b .netShort) (b .cellsRead) (b .statementsRead)))
+      (copy-length net (b .statements) (b .netShort))
+      (rw (← table-copy (b .holds) net) p)
+
+  module _ (before : List ℕ) (begun : Progress) (lib′ : List ℕ)
+      (b : Begun lib (length net) (replicate Size.library 0) Size.netlist Size.numbers begun lib′)
+      (said : Progress) (table : List ℕ) (t : TextRead Old net lib′ (replicate Size.netlist 0) begun table said) where
+    abbrev first : Read (Unit {0})
+    first = entryBy (length lib) (length net) (length {A = ℕ} (replicate Size.library 0)) Size.netlist Size.numbers
+
+    first-is : first ≡ weigh 0 ((No.textLong, textLong lib || textLong net) ∷ [])
+    unfolding entryBy textLong weigh pick
+    first-is = refl
+
+    -- Behind the entry the netlist text is not too long, and its table has the published size.
+    fitting : begun ≡ Unrefused → (length net ≤ Size.textBytes) × (Size.netlist ≤ length (ownTables before .netlist))
+    unfolding ownTables
+    fitting o =
+        let e = entered _ _ _ _ _ (unrefused-entry first (library lib) (sym (b .answers) ∙ o)) in
+        (e .net-short, omega (arith, length-replicate {A = ℕ} Size.netlist 0))
+
+    reads : NetlistRead (givenBy Old lib net) (ownTables before) lib′ begun table said
+    unfolding ownTables
+    reads = netlist-read Old lib net (ownTables before) lib′ begun table said fitting t
+
+    from-statements : first ≡ read tt → begun ≡ Unrefused → (cells : List Cell) → library lib ≡ read cells
+        → lib′ ≡ libraryWords cells ++ drop Size.library (ownTables before .library)
+        → (o : Read (List Statement)) → netlist Old cells net ≡ o → Stands table said
+    unfolding Stands copied givenBy progressOf ownTables _>>=_ _>>_
+    from-statements q o cells p l (refused number line) r =
+        let h = reads .reads o cells (library-sound lib cells p) l in
+        let is : said ≡ Later (record { number = number; line = line }) = h .0 ∙ ap progressOf r in
+        rw is (rw (← first-is, q, p, r))
+    from-statements q o cells p l (read ss) r =
+        let h = reads .reads o cells (library-sound lib cells p) l in
+        let is : said ≡ Unrefused = h .0 ∙ ap progressOf r in
+        let e = entered _ _ _ _ _ q in
+        rw is (record {
+          cells = cells;
+          statements = ss;
+          libShort = e .lib-short;
+          netShort = e .net-short;
+          cellsRead = p;
+          statementsRead = r;
+          holds = record { past = drop Size.netlist (replicate Size.netlist 0); words = h .1 ss r };
+        })
+
+    from-library : first ≡ read tt → (o : Read (List Cell)) → library lib ≡ o → Stands table said
+    unfolding progressFrom progressOf leftBehind libraryAfter Stands copied ownTables _>>=_ _>>_
+    from-library q (refused number line) p =
+        let begins : begun ≡ Later (record { number = number; line = line }) = rw (q, p) at (b .answers) in
+        let is : said ≡ Later (record { number = number; line = line }) = t .stays (λ x. later-shut _ (sym begins ∙ x)) .0 ∙ begins in
+        rw is (rw (← first-is, q, p))
+    from-library q (read cells) p =
+        from-statements q (rw (q, p) at (b .answers)) cells p (rw (q, p) at (b .leaves)) (netlist Old cells net) refl
+
+    from-entry : (e : Read (Unit {0})) → first ≡ e → Stands table said
+    unfolding progressFrom Stands copied _>>_
+    from-entry (refused number line) q =
+        let begins : begun ≡ AtEntry (record { number = number; line = line }) = rw q at (b .answers) in
+        let is : said ≡ AtEntry (record { number = number; line = line }) = t .stays (λ x. entry-shut _ (sym begins ∙ x)) .0 ∙ begins in
+        rw is (rw (← first-is, q))
+    from-entry (read u) q = from-library q (library lib) refl
+
+    pub stands : Stands table said
+    stands = from-entry first refl
+
+    pub at-entry : (r : Refusal) → said ≡ AtEntry r → copied lib net ≡ refused (r .number) (r .line)
+    unfolding Stands
+    at-entry r e = rw e at stands
+
+    pub later : (r : Refusal) → said ≡ Later r → copied lib net ≡ refused (r .number) (r .line)
+    unfolding Stands
+    later r e = rw e at stands
+
+    pub both-old : said ≡ Unrefused → BothOld table
+    unfolding Stands
+    both-old e = rw e at stands
