@@ -122,6 +122,16 @@ uint64_t scoap_report(const uint8_t *lib, size_t lib_len, const uint8_t *net, si
  */
 uint64_t scoap_cell(const uint8_t *line, size_t line_len, uint8_t *entry, size_t entry_len);
 
+/* The length of the built-in library text. */
+#define SCOAP_BUILT_IN 2044u
+
+/*
+ * Writes the built-in library text, AND2 to AND4, then likewise NAND, OR, NOR, XOR and XNOR, and last NOT: what
+ * scoap_cell writes of their truth tables. Answers SCOAP_BUILT_IN, or 17 times 1,000,000 where the buffer of
+ * text_len bytes is shorter, which is then all zero.
+ */
+uint64_t scoap_built_in(uint8_t *text, size_t text_len);
+
 /* The two parts of a refusal. */
 static inline unsigned scoap_number(uint64_t answer)
 {

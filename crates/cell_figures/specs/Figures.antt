@@ -7,7 +7,7 @@ use Prim.Native.String.{String}
 use Rattle.text.specs.Bytes.{text, bytes-open}
 use Rattle.reading.specs.Refusal.{Read, refused, read, _>>=_}
 use Rattle.generator.specs.Generated.{generated, generated-open}
-use Rattle.cell_figures.specs.BuiltIn.{tables, builtIn}
+use Rattle.built_in.specs.BuiltIn.{tables, builtIn}
 
 -- What the generator prints of each line, one entry behind the other.
 unfoldable pub entries : List String → Read (List ℕ)

@@ -8,7 +8,7 @@ use Prim.Native.Nat.{ℕ, _+_, _^_, _≤_, _<_}
 use native.Mathlib.Omega.{arith}
 use lib.Dec.{leb, ltb, eqb}
 use lib.ListN.{length, take, drop, length-append}
-use lib.Seq.{take-append-seam, drop-append-seam}
+use lib.Seq.{take-append-seam, drop-append-seam, length-sets}
 use borrow.Author.Tests.{le-ltb, ltb-false}
 use Rattle.sizes.specs.Sizes as Size
 use Rattle.reading.specs.Choice.{pick}
@@ -29,7 +29,7 @@ use Rattle.truth_tables.specs.Tables.{allOf}
 use Rattle.truth_tables.proofs.Lengths.{longestEntry, entry-short}
 use Rattle.generator.specs.Masks.{isBit, isOne}
 use Rattle.generator.specs.Generated.{TableLine, withPins, tableLine, tableAfter, ended, oneLine, wrongCount, entryOf, judged, generated, fitted, generatedInto, leftBy, answerRead, lengthRead, Comes}
-use Rattle.generator.specs.Shown.{shown, Shows, Bounded}
+use Rattle.generator.specs.Shown.{entryRoom, shown, Shows, Bounded}
 use Rattle.generator.specs.declared.Generated.the-variants.{Length, Refused}
 
 -- ---- a line that is read has a name
@@ -91,22 +91,24 @@ room-enough text room h =
 
 -- ---- from the answer
 
-pub entry-shown : (o : Read (List ℕ)) (before after : List ℕ) (n : ℕ) → Comes o before after (Length n) → Shows o before after n
+pub entry-shown : (o : Read (List ℕ)) (before after : List ℕ) (n : ℕ) → entryRoom ≡ length after → Comes o before after (Length n)
+    → Shows o before after n
 unfolding shown leftBy answerRead lengthRead
-entry-shown (refused number line) before after n c = refused-read (sym (c .answers))
-entry-shown (read entry) before after n c =
+entry-shown (refused number line) before after n long c = refused-read (sym (c .answers))
+entry-shown (read entry) before after n long c =
     let size : n ≡ length entry = cc (c .answers) in
     record {
       answers = size;
       leaves = c .leaves ∙ ap (λ (l : List ℕ). entry ++ l) (sym (drop-append-seam entry (drop (length entry) before)));
       prints = rw (size, c .leaves) (take-append-seam entry (drop (length entry) before));
+      long = long;
     }
 
 refusal-short : (number line : ℕ) → length (refusalBytes number line) ≤ 50
 unfolding refusalBytes bytes
 refusal-short number line = simp length-append (omega (arith, decimal-length number .1, decimal-length line .1))
 
-pub refusal-shown : (o : Read (List ℕ)) (before mid after : List ℕ) (r : Refusal) (said : ℕ) → 50 ≤ length mid → Comes o before mid (Refused r)
+pub refusal-shown : (o : Read (List ℕ)) (before mid after : List ℕ) (r : Refusal) (said : ℕ) → entryRoom ≡ length mid → Comes o before mid (Refused r)
     → Put 0 (refusalBytes (r .number) (r .line)) mid after said → Shows o before after said
 unfolding shown leftBy answerRead lengthRead
 refusal-shown (read entry) before mid after r said h c p = refused-read (c .answers)
@@ -121,6 +123,7 @@ refusal-shown (refused number line) before mid after r said h c p =
       answers = size;
       leaves = whole ∙ ap (λ (l : List ℕ). b ++ drop (length b) l) (c .leaves);
       prints = rw (size, whole) (take-append-seam b (drop (length b) mid));
+      long = h ∙ sym (ap length (q .stored) ∙ length-sets mid 0 b);
     }
 
 -- ---- the bounds of what a text comes to

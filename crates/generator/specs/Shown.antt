@@ -21,6 +21,8 @@ pub record Shows (o : Read (List ℕ)) (before after : List ℕ) (said : ℕ) : 
   pub answers : said ≡ length (shown o)
   pub leaves : after ≡ shown o ++ drop (length (shown o)) (leftBy o before)
   pub prints : take said after ≡ shown o
+  -- the whole buffer, of which a program hands the front on
+  pub long : entryRoom ≡ length after
 
 -- What every text comes to: a refusal by a small number at line 0 or 1, or an entry that is not long.
 unfoldable pub Bounded : Read (List ℕ) → Type 0

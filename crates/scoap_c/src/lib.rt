@@ -1,10 +1,11 @@
 // The calls for C, in one archive, `libscoap_c.a`, with one header, include/scoap.h. Each has tables of
 // its own, and answers by one number.
 //
-// Open to others: `scoap_report` and `scoap_cell`. They have no condition on their input; specs/Coded.antt
-// and specs/Cell.antt say what they promise.
+// Open to others: `scoap_report`, `scoap_cell` and `scoap_built_in`. They have no condition on their input;
+// specs/Coded.antt, specs/Cell.antt and specs/BuiltIn.antt say what they promise.
 use generator::Generated;
 use outcome::Answer;
+ghost use Rattle.scoap_c.specs.BuiltIn.{BuiltInCoded};
 ghost use Rattle.scoap_c.specs.Cell.{CellCoded};
 ghost use Rattle.scoap_c.specs.Coded.{Coded};
 
@@ -38,4 +39,16 @@ pub extern "C" fn scoap_cell(line: &[u8], entry: &mut [u8]) -> u64
         Generated::Length(n) => n as u64,
         Generated::Refused(r) => r.number as u64 * CODE_LINES + r.line as u64,
     }
+}
+
+// For C: the text of the built-in library, and its length; 17 where the buffer is too short.
+#[no_mangle]
+pub extern "C" fn scoap_built_in(text: &mut [u8]) -> u64
+    ensures { λ r. ⌜ BuiltInCoded (now (text .entry)) (now (text .exit)) r ⌝ }
+{
+    if text.len() < built_in::BYTES {
+        table::clear_bytes(text);
+        return reading::REPORT_LONG as u64 * CODE_LINES;
+    }
+    built_in::put_built_in(text) as u64
 }

@@ -14,7 +14,7 @@ returns c =
     let a = k .before .before .before .args in
     let long : 8192 ≡ length (a .entry .now) = search needs in
     rw (← room-enough (a .text .now) (length (a .entry .now)) (omega arith))
-    (entry-shown _ _ _ _ (rw (c .before .answer .given .1) at (k .put-entry .ensures)))
+    (entry-shown _ _ _ _ (omega (arith, k .put-entry .kept .1 .0)) (rw (c .before .answer .given .1) at (k .put-entry .ensures)))
 
 returns-2 : tie.Need-returns-2
 returns-2 c =
