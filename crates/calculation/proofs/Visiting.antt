@@ -222,7 +222,7 @@ named-from n (d ∷ cs) x c m = side (bit x (bitOf n d)) (named-from n cs x c) m
     side false r i = List·Memᴰ·tail (r i)
 
 -- .. and a column whose bit is set is named.
-named-listed : (n : ℕ) (cs : List Column) (x : ℕ) (c : Column) → bit x (bitOf n c) ≡ true → List·Memᴰ c cs → List·Memᴰ c (named n cs x)
+pub named-listed : (n : ℕ) (cs : List Column) (x : ℕ) (c : Column) → bit x (bitOf n c) ≡ true → List·Memᴰ c cs → List·Memᴰ c (named n cs x)
 unfolding named pick
 named-listed n (d ∷ cs) x c h (List·Memᴰ·head e) = rw (ap (λ (t : Column). bit x (bitOf n t)) (sym e) ∙ h) (List·Memᴰ·head e)
 named-listed n (d ∷ cs) x c h (List·Memᴰ·tail m) = side (bit x (bitOf n d)) (named-listed n cs x c h m)

@@ -26,13 +26,13 @@ use Rattle.netlist.proofs.Reading.{admitted-more, admitted-refused}
 
 -- ---- lists of lines
 
-apart-right : (xs ys : List ℕ) → Apart (xs ++ ys) → Apart ys
+pub apart-right : (xs ys : List ℕ) → Apart (xs ++ ys) → Apart ys
 unfolding Apart
 apart-right [] ys a = a
 apart-right (x ∷ xs) ys a = apart-right xs ys (a .1)
 
 -- No line stands in both.
-apart-both : {A : Type 0} (l : ℕ) (xs ys : List ℕ) → Apart (xs ++ ys) → member l xs ≡ true → member l ys ≡ true → A
+pub apart-both : {A : Type 0} (l : ℕ) (xs ys : List ℕ) → Apart (xs ++ ys) → member l xs ≡ true → member l ys ≡ true → A
 unfolding Apart member
 apart-both l [] ys a p q = clash false p refl
 apart-both l (x ∷ xs) ys a p q =

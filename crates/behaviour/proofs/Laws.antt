@@ -1,0 +1,84 @@
+-- What "never" says of the chip, of each accepted analysis. `NeverMeans` of specs/Never.antt is the statement.
+-- Assumes nothing.
+use mathlib.Core.Bool.{Bool, true, false}
+use mathlib.Core.List.{List, List·Memᴰ}
+use mathlib.Core.Path.{_≡_, refl, sym, subst, ap}
+use Prim.Native.Nat.{ℕ, _≤_}
+use lib.ListN.{length, getD}
+use Rattle.reading.specs.Refusal.{Read, read}
+use Rattle.cost.specs.Cost.{never}
+use Rattle.cell_library.specs.Cells.{Cell}
+use Rattle.netlist.specs.Netlist.{Gate, Statement, gatesOf, mentioned}
+use Rattle.netlist.specs.Sound.{InRange}
+use Rattle.netlist.proofs.Laws.{mentioned-in-range}
+use Rattle.calculation.specs.Acceptance.{BothSound}
+use Rattle.calculation.specs.Nodes.{combinational, set, node}
+use Rattle.calculation.specs.Plans.{Plan, Exact}
+use Rattle.calculation.specs.Ways.{cellOf}
+use Rattle.calculation.proofs.Laws.{exact}
+use Rattle.outcome.specs.declared.Summary.{Summary}
+use Rattle.outcome.specs.Outcome.{Given, Lent, givenTexts}
+use Rattle.outcome.specs.Demands.{Reported, PairRead, Promised}
+use Rattle.outcome.proofs.Checking.{Checked, texts-checked}
+use Rattle.outcome.proofs.Fitting.{pair-sound}
+use Rattle.truth_tables.specs.Tables.{digit}
+use Rattle.behaviour.specs.Loops.{NoneOpen, ReadOnce}
+use Rattle.behaviour.specs.Values.{Setting, Values, Tables, Does}
+use Rattle.behaviour.specs.Built.{Qualifies, tablesOf}
+use Rattle.behaviour.specs.Never.{ccNumber, NeverMeans}
+use Rattle.behaviour.proofs.Giving.{one-value}
+use Rattle.behaviour.proofs.Telling.{Tells}
+use Rattle.behaviour.proofs.Rows.{tells}
+use Rattle.behaviour.proofs.Planned.{digit-small, planned}
+use Rattle.behaviour.proofs.Reached.{reached}
+
+module _ (cells : List Cell) (ss : List Statement) (sound : BothSound cells ss) (q : Qualifies cells ss) (numbers : List ℕ)
+    (stands : (l : ℕ) (x : Bool) → Reported (set l (digit x)) → Exact cells ss combinational (set l (digit x)) (ccNumber numbers l x)) where
+  abbrev tables : Tables
+  tables = tablesOf (q .built .bits)
+
+  gates-tell : (g : Gate) → List·Memᴰ g (gatesOf ss) → Tells (cellOf cells g) (tables g)
+  unfolding tablesOf
+  gates-tell g m = tells (cellOf cells g) (q .built .bits (g .cell)) (q .built .generated g m)
+
+  exact-here : (l : ℕ) → mentioned l ss ≡ true → (x : Bool) → Exact cells ss combinational (set l (digit x)) (ccNumber numbers l x)
+  unfolding InRange
+  exact-here l m x =
+      let r = mentioned-in-range cells ss (sound .netlist) l m in stands l x (r .0, r .1, digit-small x)
+
+  none-gives : (s : Setting) (v : Values) → Does ss tables s v → (l : ℕ) → mentioned l ss ≡ true → (x : Bool) → v l ≡ x → ccNumber numbers l x ≡ never → ⊥
+  unfolding NoneOpen
+  none-gives s v d l m x e n =
+      exact-here l m x .isNever .0 n
+      (subst (λ (y : Bool). Plan cells ss combinational (set l (digit y))) e
+      (planned cells ss sound tables (q .loopless) (q .noneOpen) gates-tell s v d l (q .noneOpen l m)))
+
+  pub never-stands : NeverMeans ss tables numbers
+  never-stands =
+      let value = one-value ss tables (q .loopless) (q .noneOpen) cells (sound .netlist) in
+      let none : Setting = λ l. false in
+      record {
+        oneValue = value;
+        noneGives = λ s v d l m. none-gives s v d l m (v l) refl;
+        exactly = λ once l m x. (
+          λ n s v d e. none-gives s v d l m x e n,
+          λ h. exact-here l m x .isNever .1
+              (λ p. let c = reached cells ss sound tables (q .loopless) (q .noneOpen) gates-tell once l x p none (value none .values) (value none .given) in
+              h (c .setting) (c .values) (c .does) (c .met)),
+        );
+      }
+
+-- Of every call whose promise is `Promised`, whatever it is given to read.
+pub never-means-of : (g : Given) → Checked g → (before after : Lent) (said : Read Summary) → Promised g before after said
+    → (pair : PairRead g) (s : Summary) → said ≡ read s → (q : Qualifies (pair .cells) (pair .statements))
+    → NeverMeans (pair .statements) (tablesOf (q .built .bits)) (after .numbers)
+unfolding ccNumber
+never-means-of g checked before after said p pair s e q =
+    never-stands (pair .cells) (pair .statements) (pair-sound g checked pair) q (after .numbers)
+    (λ l x h. p .demand3 pair s e combinational (set l (digit x)) h)
+
+-- Of two texts: behind the promise of `analyse`.
+pub never-means : (lib net : List ℕ) (before after : Lent) (said : Read Summary) → Promised (givenTexts lib net) before after said
+    → (pair : PairRead (givenTexts lib net)) (s : Summary) → said ≡ read s → (q : Qualifies (pair .cells) (pair .statements))
+    → NeverMeans (pair .statements) (tablesOf (q .built .bits)) (after .numbers)
+never-means lib net = never-means-of (givenTexts lib net) (texts-checked lib net)

@@ -1,0 +1,10 @@
+mod Descending
+mod Giving
+mod Parting
+mod Telling
+mod Naming
+mod Rows
+mod Example
+mod Planned
+mod Reached
+pub mod Laws

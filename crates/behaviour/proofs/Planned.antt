@@ -1,0 +1,114 @@
+-- A value that a setting gives a line has a plan: where the values of a gate's pins meet a row, that row is a way, and each line
+-- that it asks for has the value asked for.
+-- Assumes nothing.
+use mathlib.Core.Bool.{Bool, true, false, not, _&&_, _||_}
+use mathlib.Core.List.{List, [], _∷_, map, List·Memᴰ, List·Memᴰ·head, List·Memᴰ·tail, List·Memᴰ·not-nil}
+use mathlib.Core.Path.{_≡_, refl, sym, subst, ap, _∙_}
+use Prim.Native.Nat.{ℕ, zero, suc, _-_, _≤_, _<_}
+use native.Mathlib.Omega.{arith}
+use lib.Dec.{eqb}
+use lib.ListN.{length, getD, length-map}
+use borrow.Author.Tests.{eqb-true, ne-eqb}
+use Rattle.reading.proofs.Laws.{by-test}
+use Rattle.cell_library.specs.Cells.{Row, Cell, Column, pin, output, observe}
+use Rattle.cell_library.specs.Library.{anyOf}
+use Rattle.netlist.specs.Netlist.{Gate, Statement, gatesOf}
+use Rattle.calculation.specs.Acceptance.{BothSound}
+use Rattle.calculation.specs.Nodes.{Kind, combinational, Purpose, set}
+use Rattle.calculation.specs.Nodes as N
+use Rattle.calculation.specs.Ways.{cellOf, pinLine, asked, setting, groupOf, asks}
+use Rattle.calculation.specs.Plans.{Plan, Plan.input, Plan.row, Plans, Plans.done, Plans.also}
+use Rattle.calculation.proofs.Laws.{getD-listed, pin-count}
+use Rattle.calculation.proofs.Visiting.{MayName, asks-named}
+use Rattle.truth_tables.specs.Tables.{digit}
+use Rattle.behaviour.specs.Loops.{Feeds, Loopless, Driver, Driver.input, Driver.gate, NoneOpen}
+use Rattle.behaviour.specs.Values.{Setting, Values, Tables, Does}
+use Rattle.behaviour.proofs.Descending.{by-feeding}
+use Rattle.behaviour.proofs.Giving.{feeder}
+use Rattle.behaviour.proofs.Telling.{Met, Tells}
+
+pub digit-small : (x : Bool) → digit x ≤ 1
+unfolding digit
+digit-small false = omega arith
+digit-small true = omega arith
+
+-- ---- plans for all that a row asks for
+
+-- The line has the value asked for.
+abbrev Holds : Values → Purpose → Type 0
+Holds v (N.set l w) = digit (v l) ≡ w
+Holds v (N.observe l) = Unit {0}
+
+all-plans : {cells : List Cell} {ss : List Statement} {k : Kind} (g : Gate) (cs : List Column)
+    → ((c : Column) → List·Memᴰ c cs → Plan cells ss k (asked g c)) → Plans cells ss k g cs
+all-plans g [] h = done
+all-plans g (c ∷ cs) h = also (h c (List·Memᴰ·head refl)) (all-plans g cs (λ d m. h d (List·Memᴰ·tail m)))
+
+-- ---- the pins of a gate
+
+getD-map : {A B : Type 0} (f : A → B) (xs : List A) (i : ℕ) (a : A) (b : B) → i < length xs → getD (map f xs) i b ≡ f (getD xs i a)
+getD-map f [] i a b h = absurd (omega arith)
+getD-map f (x ∷ xs) zero a b h = refl
+getD-map f (x ∷ xs) (suc i) a b h = getD-map f xs i a b (omega arith)
+
+module _ (cells : List Cell) (ss : List Statement) (sound : BothSound cells ss) (tables : Tables) (free : Loopless ss) (driven : NoneOpen ss)
+    (tells : (g : Gate) → List·Memᴰ g (gatesOf ss) → Tells (cellOf cells g) (tables g)) where
+  module _ (g : Gate) (m : List·Memᴰ g (gatesOf ss)) where
+    pub values-count : (v : Values) → length (map v (g .pins)) ≡ cellOf cells g .pins
+    values-count v = length-map (g .pins) v ∙ pin-count sound g m
+
+    -- The value of pin i.
+    pub pin-value : (v : Values) (i : ℕ) → 1 ≤ i → i ≤ cellOf cells g .pins → getD (map v (g .pins)) (i - 1) false ≡ v (pinLine g i)
+    unfolding pinLine
+    pin-value v i a b = getD-map v (g .pins) (i - 1) 0 false (omega (arith, pin-count sound g m))
+
+    pub pin-feeds : (l : ℕ) → g .line ≡ l → (i : ℕ) → 1 ≤ i → i ≤ cellOf cells g .pins → Feeds ss (pinLine g i) l
+    unfolding pinLine
+    pin-feeds l e i a b =
+        record { gate = g; listed = m; drives = e; reads = getD-listed (g .pins) (i - 1) 0 (omega (arith, pin-count sound g m)) }
+
+    -- What a row of the gate's cell names: pins of the gate.
+    pub named-pin : (e : ℕ) (r : Row) (d : Column) → List·Memᴰ d (asks (cellOf cells g) (setting e) r) → MayName (cellOf cells g .pins) (setting e) d
+    named-pin e r d j = asks-named (cellOf cells g) (setting e) r d j
+
+    met-holds : (v : Values) (e : Bool) (r : Row) → Met (cellOf cells g) e r (map v (g .pins))
+        → (d : Column) → List·Memᴰ d (asks (cellOf cells g) (setting (digit e)) r) → MayName (cellOf cells g .pins) (setting (digit e)) d
+        → Holds v (asked g d)
+    unfolding asked
+    met-holds v e r h (pin i w) j n = ap digit (sym (pin-value v i (n .0) (n .1))) ∙ h i w j
+    met-holds v e r h (output w) j n = absurd n
+    met-holds v e r h observe j n = absurd n
+
+  module _ (s : Setting) (v : Values) (does : Does ss tables s v) where
+    abbrev Planned : ℕ → Type 0
+    Planned l = Plan cells ss combinational (set l (digit (v l)))
+
+    -- A plan for what a column asks for.
+    column-plan : (l : ℕ) → ((k : ℕ) → Feeds ss k l → Driver ss k → Planned k) → (g : Gate) (m : List·Memᴰ g (gatesOf ss)) → g .line ≡ l
+        → (e : ℕ) (d : Column) → MayName (cellOf cells g .pins) (setting e) d → Holds v (asked g d) → Plan cells ss combinational (asked g d)
+    unfolding asked
+    column-plan l rec g m q e (pin i w) n h =
+        let fed : Feeds ss (pinLine g i) l = pin-feeds g m l q i (n .0) (n .1) in
+        subst (λ (x : ℕ). Plan cells ss combinational (set (pinLine g i) x)) h
+        (rec (pinLine g i) fed (feeder ss tables free driven (pinLine g i) l fed))
+    column-plan l rec g m q e (output w) n h = absurd n
+    column-plan l rec g m q e observe n h = absurd n
+
+    planned-step : (l : ℕ) → ((k : ℕ) → Feeds ss k l → Driver ss k → Planned k) → Driver ss l → Planned l
+    planned-step l rec (input e) = input (digit-small (v l)) e
+    planned-step l rec (gate g m q) =
+        let c : Cell = cellOf cells g in
+        let xs = map v (g .pins) in
+        let t = tells g m .meets xs (values-count g m v) in
+        let r : Row = t .0 in
+        let e : ℕ = digit (tables g xs) in
+        let holds : (d : Column) → List·Memᴰ d (asks c (setting e) r) → Holds v (asked g d) =
+        λ d j. met-holds g m v (tables g xs) r (t .2) d j (named-pin g m e r d j) in
+        let p : Plan cells ss combinational (set l e) =
+        row g m q r (t .1)
+        (all-plans g (asks c (setting e) r) (λ d j. column-plan l rec g m q e d (named-pin g m e r d j) (holds d j))) in
+        subst (λ (x : Bool). Plan cells ss combinational (set l (digit x))) (sym (does .gates g m) ∙ ap v q) p
+
+    -- The value that a setting gives a line can be planned.
+    pub planned : (l : ℕ) → Driver ss l → Planned l
+    planned = by-feeding ss free (λ (l : ℕ). Driver ss l → Planned l) planned-step

@@ -1,0 +1,5 @@
+pub mod Loops
+pub mod Values
+pub mod Built
+pub mod Never
+pub mod Example
