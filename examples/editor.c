@@ -85,6 +85,10 @@ static const char *reason(unsigned number)
         return "a line is read or marked that nothing drives or declares open";
     case SCOAP_REPORT_TOO_LONG:
         return "the report is longer than its buffer";
+    case SCOAP_NO_FIGURE:
+        return "the number is over or never";
+    case SCOAP_PLAN_TOO_LONG:
+        return "the plan's text is longer than its buffer";
     default:
         return "unknown reason";
     }

@@ -76,6 +76,11 @@ enum scoap_refusal {
     /* the report is longer than its buffer */
     SCOAP_REPORT_TOO_LONG = 17,
 
+    /* the number is over or never, or there is none */
+    SCOAP_NO_FIGURE = 18,
+    /* the plan's text is longer than its buffer */
+    SCOAP_PLAN_TOO_LONG = 19,
+
     /* a line is read by a pin or marked output, and neither driven nor declared open */
     SCOAP_UNDECLARED = 20
 };
@@ -102,6 +107,25 @@ enum scoap_refusal {
  */
 uint64_t scoap_report(const uint8_t *lib, size_t lib_len, const uint8_t *net, size_t net_len,
                       uint8_t *report, size_t report_len);
+
+/* Stack that a thread should have left for scoap_plan, which follows a plan from node to node. */
+#define SCOAP_PLAN_STACK 1048576u
+
+/*
+ * Writes out the cheapest way to set a line to a value: one line of text for each node of the plan,
+ * 'depth in tree,line,value,row', parents before children. The row is octal as its entry writes it, or
+ * 'input'.
+ *
+ * lib, net    the texts, as for scoap_report
+ * line        the line, 1 to 1,000; value 0 or 1; kind 0 combinational, 1 sequential
+ * text        the buffer, text_len bytes, below SCOAP_REFUSED so that a length is told from a refusal
+ *
+ * Answers the text's length, or a refusal as scoap_report answers it. 17 is not made; 18 and 19 have line 0
+ * and come after every other. The buffer afterwards is as scoap_report leaves its own: untouched by 2, zero
+ * after every other refusal; bytes past the text keep their values.
+ */
+uint64_t scoap_plan(const uint8_t *lib, size_t lib_len, const uint8_t *net, size_t net_len,
+                    uint64_t line, uint64_t value, uint64_t kind, uint8_t *text, size_t text_len);
 
 /* No entry of a truth table is longer, so that number 17 never comes of a buffer of this length or more. */
 #define SCOAP_MOST_ENTRY 8192u

@@ -14,6 +14,8 @@
 #include "scoap.h"
 
 #define LIMIT (512u * 1024u)
+/* Of the call that writes out a plan, which goes down as deep as the tree. */
+#define PLAN_LIMIT SCOAP_PLAN_STACK
 /* Far more than the limit, so that a breach is measured rather than met as a crash. */
 #define STACK (64u * 1024u * 1024u)
 #define PAINT 0xa5u
@@ -24,6 +26,8 @@ static uint8_t report[2 * SCOAP_REPORT];
 static size_t lib_length;
 static size_t net_length;
 static uint64_t answer;
+/* The line whose plan is written out, at 1; 0 where the report is. */
+static unsigned plan;
 
 static volatile int entered;
 static volatile unsigned taken;
@@ -59,8 +63,13 @@ void *__wrap_realloc(void *memory, size_t size)
 static void *run(void *unused)
 {
     entered = 1;
-    answer = scoap_report((const uint8_t *)lib, lib_length, (const uint8_t *)net, net_length,
-                          report, sizeof report);
+    if (plan == 0) {
+        answer = scoap_report((const uint8_t *)lib, lib_length, (const uint8_t *)net, net_length,
+                              report, sizeof report);
+    } else {
+        answer = scoap_plan((const uint8_t *)lib, lib_length, (const uint8_t *)net, net_length,
+                            plan, 1, 0, report, sizeof report);
+    }
     entered = 0;
     return unused;
 }
@@ -131,8 +140,8 @@ static void measure(const char *label, unsigned number)
         printf("FAILED: %s: %u calls for memory\n", label, taken);
         taken = 0;
         failed++;
-    } else if (own > LIMIT) {
-        printf("FAILED: %s: above %u\n", label, LIMIT);
+    } else if (own > (plan == 0 ? LIMIT : PLAN_LIMIT)) {
+        printf("FAILED: %s: above %u\n", label, plan == 0 ? LIMIT : PLAN_LIMIT);
         failed++;
     } else {
         passed++;
@@ -242,6 +251,27 @@ int main(void)
     start();
     memset(net, '\n', net_length = SCOAP_MOST_TEXT + 1);
     measure("a text too long", 2);
+
+    /* The deepest tree: the 1 comes from the own 0, and the 0 from the 1 before. */
+    start();
+    add_lib("Name,DEEP,2\nCC,11,5\nCO,201,201\nSC,10,4\nSO,200,200\nEnd\n");
+    add_net("input,1\n");
+    for (unsigned line = 2; line <= 1000; line++) {
+        snprintf(text, sizeof text, "gate,DEEP,%u,%u,%u\n", line, line - 1, line);
+        add_net(text);
+    }
+    plan = 1000;
+    measure("a plan of 1,999 nodes in a chain", 0);
+    /* A tree of more nodes than any buffer has bytes ends with the buffer. */
+    start();
+    add_lib("Name,AND2,2\nCC,21,M,5,13\nCO,205,221\nSC,20,M,4,12\nSO,204,220\nEnd\n");
+    add_net("input,1\ninput,2\n");
+    for (unsigned line = 3; line <= 40; line++) {
+        snprintf(text, sizeof text, "gate,AND2,%u,%u,%u\n", line, line - 1, line - 2);
+        add_net(text);
+    }
+    plan = 40;
+    measure("a plan longer than its buffer", 19);
 
     printf("%u passed, %u failed\n", passed, failed);
     return failed == 0 ? 0 : 1;

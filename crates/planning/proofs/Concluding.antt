@@ -12,6 +12,7 @@ use lib.ListN.{length, getD, drop, replicate, List·getD-append}
 use Rattle.sizes.specs.Sizes as Size
 use Rattle.sizes.specs.Places.{settingPlace}
 use Rattle.reading.specs.Choice.{pick}
+use Rattle.reading.specs.Numbers.{noFigure, planLong}
 use Rattle.reading.specs.Refusal.{Read, refused, read, _>>_, weigh}
 use Rattle.reading.proofs.Laws.{by-test, and-left, and-right, refused-read}
 use Rattle.cost.specs.Cost.{most, never}
@@ -29,7 +30,7 @@ use Rattle.cheapest.specs.Plan.{Cheapest}
 use Rattle.cheapest.specs.Asked.{PlanPut, PutWhere}
 use Rattle.sweep.specs.Ready.{Holds}
 use Rattle.planning.specs.Parts.{Analysed}
-use Rattle.planning.specs.Promise.{noFigure, planLong, known, askedNumber, kindOf, planRead, lengthOf, textAfter, PlanConcluded}
+use Rattle.planning.specs.Promise.{known, askedNumber, kindOf, planRead, lengthOf, textAfter, PlanConcluded}
 
 -- ---- what is asked for
 

@@ -9,6 +9,7 @@ use lib.ListN.{length, getD, drop, replicate}
 use Rattle.sizes.specs.Sizes as Size
 use Rattle.sizes.specs.Places.{settingPlace}
 use Rattle.reading.specs.Choice.{pick}
+use Rattle.reading.specs.Numbers as No
 use Rattle.reading.specs.Refusal.{Read, refused, read, _>>_, weigh}
 use Rattle.cost.specs.Cost.{most, never}
 use Rattle.cell_library.specs.Cells.{Cell}
@@ -20,13 +21,6 @@ use Rattle.cheapest.specs.Plan.{Cheapest}
 use Rattle.outcome.specs.Outcome as O
 use Rattle.planning.specs.declared.Written.{Written}
 use Rattle.planning.specs.declared.Written.the-variants.{Length, Refused}
-
--- "Refused: 18 when the number is over or never; then 19 when the text exceeds its buffer."
-abbrev pub noFigure : ℕ
-noFigure = 18
-
-abbrev pub planLong : ℕ
-planLong = 19
 
 -- "A line outside 1 to 1,000, or an unknown value or kind, counts as never."
 unfoldable pub known : ℕ → ℕ → ℕ → Bool
@@ -44,7 +38,7 @@ kindOf (suc n) = sequential
 unfoldable pub planRead : List Cell → List Statement → ℕ → ℕ → ℕ → ℕ → Read (List ℕ)
 planRead cells ss l v kind space =
     let text = cheapestText (kindOf kind) cells ss l v in
-    weigh 0 ((noFigure, ltb most (askedNumber (analysed cells ss .numbers) l v kind)) ∷ (planLong, ltb space (length text)) ∷ [])
+    weigh 0 ((No.noFigure, ltb most (askedNumber (analysed cells ss .numbers) l v kind)) ∷ (No.planLong, ltb space (length text)) ∷ [])
     >> read text
 
 -- ---- the call
@@ -106,9 +100,9 @@ pub record PlanConcluded (cells : List Cell) (ss : List Statement) (l v kind : �
   pub written : (n : ℕ) → said ≡ read n
       → (askedNumber (analysed cells ss .numbers) l v kind ≤ most) × (n ≡ length (cheapestText (kindOf kind) cells ss l v))
   -- 18: the number is over or never, or there is none.
-  pub noNumber : (line : ℕ) → said ≡ refused noFigure line → most < askedNumber (analysed cells ss .numbers) l v kind
+  pub noNumber : (line : ℕ) → said ≡ refused No.noFigure line → most < askedNumber (analysed cells ss .numbers) l v kind
   -- 19: the number is a figure, and the plan's text is longer than the buffer.
-  pub tooLong : (line : ℕ) → said ≡ refused planLong line
+  pub tooLong : (line : ℕ) → said ≡ refused No.planLong line
       → (askedNumber (analysed cells ss .numbers) l v kind ≤ most) × (length before < length (cheapestText (kindOf kind) cells ss l v))
 
 -- What the call promises: by equation its answer, the refusal and its line, and every entry of every lent slice afterwards; and

@@ -6,6 +6,8 @@ use cheapest::put_cheapest;
 use cost::MOST;
 use cost::NEVER;
 use outcome::Answer;
+use reading::NO_FIGURE;
+use reading::PLAN_LONG;
 use reading::Refusal;
 use reading::TABLE_SHORT;
 use reading::TEXT_LONG;
@@ -23,11 +25,6 @@ ghost use Rattle.outcome.specs.Answer.{answerRead, lentOf};
 ghost use Rattle.outcome.specs.Outcome.{givenTexts};
 ghost use Rattle.planning.specs.Parts.{Alone, Analysed, SomeAnalysed};
 ghost use Rattle.planning.specs.Promise.{known, askedNumber, writtenRead, PlanConcluded, PlanPromised};
-
-// "18 when the number is over or never; then 19 when the text exceeds its buffer"
-const NO_FIGURE: u32 = 18;
-
-const PLAN_LONG: u32 = 19;
 
 // The text's length, or a refusal. `writtenRead` gives its cases.
 pub enum Written {

@@ -63,6 +63,13 @@ markedBefore = 15
 abbrev pub reportLong : ℕ
 reportLong = 17
 
+-- "18 when the number is over or never; then 19 when the text exceeds its buffer" (02, K3)
+abbrev pub noFigure : ℕ
+noFigure = 18
+
+abbrev pub planLong : ℕ
+planLong = 19
+
 -- "20 for a line read or marked but neither driven nor open, at line 0, after all netlist lines" (document 02, K5)
 abbrev pub undeclared : ℕ
 undeclared = 20

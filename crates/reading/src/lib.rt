@@ -53,5 +53,10 @@ pub const MARKED_BEFORE: u32 = 15;
 // Of the report. 16 is unused: a 1,001st gate is refused by 11 or 14 (K9).
 pub const REPORT_LONG: u32 = 17;
 
+// Of a plan written out.
+pub const NO_FIGURE: u32 = 18;
+
+pub const PLAN_LONG: u32 = 19;
+
 // Of a whole netlist, behind its lines.
 pub const UNDECLARED: u32 = 20;

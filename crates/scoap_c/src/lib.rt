@@ -1,13 +1,15 @@
 // The calls for C, in one archive, `libscoap_c.a`, with one header, include/scoap.h. Each has tables of
 // its own, and answers by one number.
 //
-// Open to others: `scoap_report`, `scoap_cell` and `scoap_built_in`. They have no condition on their input;
-// specs/Coded.antt, specs/Cell.antt and specs/BuiltIn.antt say what they promise.
+// Open to others: `scoap_report`, `scoap_plan`, `scoap_cell` and `scoap_built_in`. They have no condition on
+// their input; specs/Coded.antt, specs/Plan.antt, specs/Cell.antt and specs/BuiltIn.antt say what they promise.
 use generator::Generated;
 use outcome::Answer;
+use planning::Written;
 ghost use Rattle.scoap_c.specs.BuiltIn.{BuiltInCoded};
 ghost use Rattle.scoap_c.specs.Cell.{CellCoded};
 ghost use Rattle.scoap_c.specs.Coded.{Coded};
+ghost use Rattle.scoap_c.specs.Plan.{PlanCoded};
 
 // "the refusal number times 1,000,000 plus the line"
 const CODE_LINES: u64 = 1_000_000;
@@ -51,4 +53,38 @@ pub extern "C" fn scoap_built_in(text: &mut [u8]) -> u64
         return reading::REPORT_LONG as u64 * CODE_LINES;
     }
     built_in::put_built_in(text) as u64
+}
+
+// For C: the cheapest way to set a line to a value, written out, on tables of its own, and one number for
+// the answer: the text's length, else the refusal number times 1,000,000 plus the line.
+#[no_mangle]
+pub extern "C" fn scoap_plan(
+    lib: &[u8],
+    net: &[u8],
+    line: u64,
+    value: u64,
+    kind: u64,
+    text: &mut [u8],
+) -> u64
+    ensures { λ r. ⌜ PlanCoded (now (lib .entry)) (now (net .entry)) (now (text .entry)) (now (text .exit))
+        line value kind r ⌝ }
+{
+    let mut library = [0u32; sizes::LIBRARY];
+    let mut netlist = [0u32; sizes::NETLIST];
+    let mut numbers = [0u32; sizes::NUMBERS];
+    let written = planning::write_plan(
+        lib,
+        net,
+        &mut library,
+        &mut netlist,
+        &mut numbers,
+        text,
+        line as usize,
+        value as usize,
+        kind as usize,
+    );
+    match written {
+        Written::Length(n) => n as u64,
+        Written::Refused(r) => r.number as u64 * CODE_LINES + r.line as u64,
+    }
 }

@@ -17,6 +17,18 @@ mod c {
             entry: *mut u8,
             entry_len: usize,
         ) -> u64;
+        #[allow(dead_code)]
+        pub fn scoap_plan(
+            lib: *const u8,
+            lib_len: usize,
+            net: *const u8,
+            net_len: usize,
+            line: u64,
+            value: u64,
+            kind: u64,
+            text: *mut u8,
+            text_len: usize,
+        ) -> u64;
     }
 }
 
@@ -38,4 +50,29 @@ pub fn scoap_report(lib: &[u8], net: &[u8], report: &mut [u8]) -> u64 {
 pub fn scoap_cell(line: &[u8], entry: &mut [u8]) -> u64 {
     // Each slice is valid for its length, and the two do not overlap.
     unsafe { c::scoap_cell(line.as_ptr(), line.len(), entry.as_mut_ptr(), entry.len()) }
+}
+
+#[allow(dead_code)]
+pub fn scoap_plan(
+    lib: &[u8],
+    net: &[u8],
+    line: u64,
+    value: u64,
+    kind: u64,
+    text: &mut [u8],
+) -> u64 {
+    // Each slice is valid for its length, and no two overlap.
+    unsafe {
+        c::scoap_plan(
+            lib.as_ptr(),
+            lib.len(),
+            net.as_ptr(),
+            net.len(),
+            line,
+            value,
+            kind,
+            text.as_mut_ptr(),
+            text.len(),
+        )
+    }
 }

@@ -10,6 +10,7 @@ pub mod figures;
 pub mod generate;
 mod library;
 mod netlist;
+mod plan;
 pub mod random;
 pub mod refusal;
 mod report;
@@ -23,7 +24,7 @@ mod tests;
 pub use cost::{Cost, LARGEST, NEVER, OVER};
 pub use library::{MOST_CELLS, MOST_PINS, MOST_ROWS};
 pub use netlist::{Rules, MOST_LINES};
-use refusal::{REPORT_LONG, TEXT_LONG};
+use refusal::{NO_FIGURE, PLAN_LONG, REPORT_LONG, TEXT_LONG};
 pub use sweep::Counts;
 
 /// A text above this many bytes is refused at entry.
@@ -50,7 +51,7 @@ pub fn analyse(lib: &[u8], net: &[u8], room: usize) -> Answer {
     }
 }
 
-fn accepted(lib: &[u8], net: &[u8], room: usize) -> Result<(Vec<u8>, Counts), Refusal> {
+fn both_read(lib: &[u8], net: &[u8]) -> Result<(library::Library, netlist::Netlist), Refusal> {
     if lib.len() > MOST_BYTES || net.len() > MOST_BYTES {
         return Err(Refusal {
             number: TEXT_LONG,
@@ -59,6 +60,11 @@ fn accepted(lib: &[u8], net: &[u8], room: usize) -> Result<(Vec<u8>, Counts), Re
     }
     let library = library::read(lib)?;
     let netlist = netlist::read(net, &library, Rules::New)?;
+    Ok((library, netlist))
+}
+
+fn accepted(lib: &[u8], net: &[u8], room: usize) -> Result<(Vec<u8>, Counts), Refusal> {
+    let (library, netlist) = both_read(lib, net)?;
     let (numbers, counts) = sweep::run(&library, &netlist);
     let report = report::write(&netlist, &numbers, &counts);
     if report.len() > room {
@@ -80,6 +86,38 @@ pub fn report_into(lib: &[u8], net: &[u8], buffer: &mut [u8]) -> u64 {
         }
         Err(Refusal { number, line }) => {
             // A refusal at entry touches nothing; every later one clears the whole buffer.
+            if number > TEXT_LONG {
+                buffer.fill(0);
+            }
+            u64::from(number) * 1_000_000 + u64::from(line)
+        }
+    }
+}
+
+/// The cheapest way to set a line to a value, written out, in the form of the C entry.
+pub fn plan_into(
+    lib: &[u8],
+    net: &[u8],
+    line: u64,
+    value: u64,
+    kind: u64,
+    buffer: &mut [u8],
+) -> u64 {
+    let at_line_0 = |number| Refusal { number, line: 0 };
+    let written = both_read(lib, net).and_then(|(library, netlist)| {
+        let text = plan::write(&library, &netlist, line, value, kind, buffer.len())
+            .ok_or(at_line_0(NO_FIGURE))?;
+        if text.len() > buffer.len() {
+            return Err(at_line_0(PLAN_LONG));
+        }
+        Ok(text)
+    });
+    match written {
+        Ok(text) => {
+            buffer[..text.len()].copy_from_slice(&text);
+            text.len() as u64
+        }
+        Err(Refusal { number, line }) => {
             if number > TEXT_LONG {
                 buffer.fill(0);
             }

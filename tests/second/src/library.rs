@@ -43,6 +43,8 @@ pub struct Row {
 pub struct Cell {
     name: Name,
     pub pins: usize,
+    /// The lowest bits of each row, as the entry writes it, that are its depth.
+    pub depth_bits: u32,
     pub combinational: Ways,
     pub sequential: Ways,
 }
@@ -81,6 +83,7 @@ pub fn read(text: &[u8]) -> Result<Library, Refusal> {
         let mut cell = Cell {
             name,
             pins,
+            depth_bits: form.depth_bits,
             combinational: Ways::default(),
             sequential: Ways::default(),
         };

@@ -33,5 +33,9 @@ pub const DRIVEN_BEFORE: u32 = 14;
 pub const MARKED_BEFORE: u32 = 15;
 /// the report is longer than its buffer
 pub const REPORT_LONG: u32 = 17;
+/// the number is over or never, or there is none
+pub const NO_FIGURE: u32 = 18;
+/// the plan's text is longer than its buffer
+pub const PLAN_LONG: u32 = 19;
 /// a line is read by a pin or marked output, and neither driven nor declared open
 pub const UNDECLARED: u32 = 20;

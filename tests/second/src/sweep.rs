@@ -123,7 +123,7 @@ fn observe(
 
 /// The depth and the costs of the values that a row names, of pins and of the output.
 #[inline]
-fn row_sum(row: Row, gate: &Gate, costs: &Setting) -> Cost {
+pub fn row_sum(row: Row, gate: &Gate, costs: &Setting) -> Cost {
     let mut sum = row.depth;
     let mut columns = row.columns;
     while columns != 0 {

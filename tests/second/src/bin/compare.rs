@@ -16,12 +16,14 @@ use second::generate::{
     Style, Wiring,
 };
 use second::random::Random;
-use second::{analyse, report_into, Answer, Refusal, MOST_BYTES};
+use second::{analyse, plan_into, report_into, Answer, Refusal, MOST_BYTES, MOST_LINES};
 use std::process::ExitCode;
 
 const SEED: u64 = 0x5c0a_9197_9115_2026;
 /// Random pairs, besides the fixed ones.
 const PAIRS: usize = 40_000;
+/// Random ladders whose plans are written out.
+const PLAN_PAIRS: usize = 300;
 /// Random ladders, besides those of chosen sizes.
 const LADDERS: usize = 2_000;
 /// Every answer must come up at least so often among the random pairs.
@@ -88,6 +90,8 @@ struct Comparison {
     /// By refusal number, 0 for acceptance, as the archive answered.
     answers: [u64; 21],
     shown: [u64; SHOWN.len()],
+    /// Plans written out, and refused.
+    plans: [u64; 2],
     turn: usize,
 }
 
@@ -187,6 +191,70 @@ impl Comparison {
                     String::from_utf8_lossy(cut)
                 );
             }
+        }
+    }
+
+    /// Lends both sides the same texts and a buffer of `room` bytes for a plan's text.
+    fn check_plan(&mut self, label: &str, pair: [&[u8]; 2], asked: [u64; 3], room: usize) -> u64 {
+        self.turn += 1;
+        let salt = self.turn as u8;
+        let [lib, net] = pair;
+        let [line, value, kind] = asked;
+        let mut got = Lent::of((0..room).map(|at| canary(at, salt)), self.turn % 8, salt);
+        let mut wanted = Lent {
+            bytes: got.bytes.clone(),
+            ..got
+        };
+        let expected = plan_into(lib, net, line, value, kind, wanted.inner_mut());
+        let answer = archive::scoap_plan(lib, net, line, value, kind, got.inner_mut());
+        let problem = if answer != expected {
+            Some(format!(
+                "plan of {asked:?}, {room} bytes: {} instead of {}",
+                answer_of(answer),
+                answer_of(expected)
+            ))
+        } else if got.bytes != wanted.bytes {
+            Some(format!(
+                "plan of {asked:?}, {room} bytes: {:?} instead of {:?}",
+                String::from_utf8_lossy(got.inner()),
+                String::from_utf8_lossy(wanted.inner())
+            ))
+        } else {
+            None
+        };
+        let told = problem.is_some() && self.failed < TOLD;
+        self.verdict(label, problem);
+        if told {
+            for text in pair {
+                println!("  {:?}", String::from_utf8_lossy(text));
+            }
+        }
+        answer
+    }
+
+    /// The plans of all lines that the netlist may mention, both values and kinds, with buffers just long
+    /// enough, one byte short and long.
+    fn check_plans(&mut self, label: &str, lib: &[u8], net: &[u8], lines: u64) {
+        for line in 0..=lines + 1 {
+            for value in [0, 1] {
+                for kind in [0, 1] {
+                    let asked = [line, value, kind];
+                    let answer = self.check_plan(label, [lib, net], asked, 4_000);
+                    self.plans[usize::from(answer >= 1_000_000)] += 1;
+                    if answer < 1_000_000 {
+                        self.check_plan(label, [lib, net], asked, answer as usize);
+                        self.check_plan(label, [lib, net], asked, answer as usize - 1);
+                    }
+                }
+            }
+        }
+        for asked in [
+            [1, 2, 0],
+            [1, 0, 2],
+            [MOST_LINES as u64 + 1, 0, 0],
+            [u64::MAX, 0, 1],
+        ] {
+            self.check_plan(label, [lib, net], asked, 100);
         }
     }
 
@@ -697,6 +765,45 @@ fn tables(all: &mut Comparison) {
     table(all, &long, 1024);
 }
 
+/// The largest line number of a netlist, at most 40.
+fn most_line(net: &[u8]) -> u64 {
+    net.split(|b| !b.is_ascii_digit())
+        .filter_map(|part| std::str::from_utf8(part).ok()?.parse().ok())
+        .filter(|&line: &u64| line <= 40)
+        .max()
+        .unwrap_or(0)
+}
+
+/// Plans written out: the figures, and random pairs with loops.
+fn plans(all: &mut Comparison, rng: &mut Random) {
+    for (label, lib, net) in [
+        ("C1130", C1130, C1130_NET),
+        ("C1490", C1490, C1490_NET),
+        ("latch", NAND2, LATCH_NET),
+        ("C1130 under Name3", C1130_DEEP, C1130_NET),
+        ("depth 7", DELAY, DELAY_NET),
+        ("tie cells", TIES, TIES_NET),
+        ("undriven line", "", UNDRIVEN_NET),
+    ] {
+        all.check_plans(
+            label,
+            lib.as_bytes(),
+            net.as_bytes(),
+            most_line(net.as_bytes()),
+        );
+    }
+    for _ in 0..PLAN_PAIRS {
+        let made = ladder(rng, rng_gates(all.turn));
+        let (lib, net) = (made.lib.bytes(), made.net.bytes());
+        all.check_plans("plan of a ladder", &lib, &net, most_line(&net));
+    }
+}
+
+/// A few gates, by turn.
+fn rng_gates(turn: usize) -> usize {
+    1 + turn % 12
+}
+
 fn main() -> ExitCode {
     println!("seed {SEED:#x}");
     let mut rng = Random::from(SEED);
@@ -705,6 +812,7 @@ fn main() -> ExitCode {
         failed: 0,
         answers: [0; 21],
         shown: [0; SHOWN.len()],
+        plans: [0; 2],
         turn: 0,
     };
     figures(&mut all);
@@ -740,6 +848,18 @@ fn main() -> ExitCode {
     let before = all.passed + all.failed;
     ladders(&mut all, &mut rng);
     println!("{} ladders", all.passed + all.failed - before);
+    plans(&mut all, &mut rng);
+    println!(
+        "{} plans written out, {} refused",
+        all.plans[0], all.plans[1]
+    );
+    for (title, count) in [
+        ("plans written out", all.plans[0]),
+        ("plans refused", all.plans[1]),
+    ] {
+        let problem = (count < AT_LEAST).then(|| format!("came up {count} times only"));
+        all.verdict(title, problem);
+    }
     all.tell_shown(1);
 
     let before = all.passed + all.failed;
