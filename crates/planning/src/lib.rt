@@ -1,7 +1,8 @@
 // The cheapest way to set a line, written out from two texts: document 02, K3.
 //
 // Open to others: `write_plan`, over two texts, three tables and a text buffer that the caller lends, with a line, a
-// value and a kind; the type `Written`. It has no condition on its input; specs/Promise.antt says what it promises.
+// value and a kind; the type `Written`; `put_plan`, what the program prints. They have no condition on their input;
+// specs/Promise.antt and specs/Printed.antt say what they promise.
 use cheapest::put_cheapest;
 use cost::MOST;
 use cost::NEVER;
@@ -24,6 +25,7 @@ ghost use Rattle.netlist.specs.Netlist.{Statement};
 ghost use Rattle.outcome.specs.Answer.{answerRead, lentOf};
 ghost use Rattle.outcome.specs.Outcome.{givenTexts};
 ghost use Rattle.planning.specs.Parts.{Alone, Analysed, SomeAnalysed};
+ghost use Rattle.planning.specs.Printed.{PlanPrinted};
 ghost use Rattle.planning.specs.Promise.{known, askedNumber, writtenRead, PlanConcluded, PlanPromised};
 
 // The text's length, or a refusal. `writtenRead` gives its cases.
@@ -146,5 +148,37 @@ pub fn write_plan(
             Written::Refused(r)
         }
         Answer::Accepted(_s) => conclude_plan(library, netlist, numbers, text, line, value, kind),
+    }
+}
+
+// What the program prints: the text, or the refusal, in the front of the buffer lent. Its tables are its own.
+pub fn put_plan(
+    lib: &[u8],
+    net: &[u8],
+    line: usize,
+    value: usize,
+    kind: usize,
+    text: &mut [u8; sizes::REPORT_BYTES],
+) -> usize
+    ensures { λ r. ⌜ PlanPrinted (now (lib .entry)) (now (net .entry)) line value kind
+        (now (text .entry)) (now (text .exit)) r ⌝ }
+{
+    let mut library = [0u32; sizes::LIBRARY];
+    let mut netlist = [0u32; sizes::NETLIST];
+    let mut numbers = [0u32; sizes::NUMBERS];
+    let written = write_plan(
+        lib,
+        net,
+        &mut library,
+        &mut netlist,
+        &mut numbers,
+        text,
+        line,
+        value,
+        kind,
+    );
+    match written {
+        Written::Length(n) => n,
+        Written::Refused(r) => writer::put_refusal(text, 0, r),
     }
 }
