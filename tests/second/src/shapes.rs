@@ -166,7 +166,7 @@ fn forward_any_order(gates: usize) -> Case {
 }
 
 /// With this seed the loops leave few numbers never.
-const FEW_LOOPS: u64 = 1;
+const FEW_LOOPS: u64 = 75;
 
 fn random(gates: usize) -> Case {
     let pair = random_pair(FEW_LOOPS, gates, Wiring::Near);

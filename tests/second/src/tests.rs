@@ -5,7 +5,7 @@ use crate::generate::{fields, groups_of, ladder, pair, ENTRY};
 use crate::library::{self, Library, Row, Ways, MOST_ROWS};
 use crate::netlist::{self, Netlist, Rules};
 use crate::random::Random;
-use crate::{analyse, report_into, sweep, Answer, LARGEST, NEVER, OVER};
+use crate::{analyse, report_into, shapes, sweep, Answer, LARGEST, NEVER, OVER};
 
 const ROOM: usize = 65_536;
 
@@ -668,4 +668,19 @@ fn ladders() {
     }
     let met = [own, shared, undriven, both, output];
     assert!(met.iter().all(|&count| count >= 100), "{met:?}");
+}
+
+/// What the benchmark times; the heaviest takes this implementation many seconds in a test's build.
+#[test]
+fn each_shape_is_what_its_label_says() {
+    let mut shapes = shapes::all();
+    shapes.retain(|case| !case.label.starts_with("the heaviest"));
+    assert!(shapes.len() > 15);
+    for case in shapes {
+        let mut buffer = vec![0; ROOM];
+        let answer = report_into(&case.lib, &case.net, &mut buffer);
+        let length = if answer < 1_000_000 { answer as usize } else { 0 };
+        let untrue = case.untrue(answer, &buffer[..length]);
+        assert_eq!(untrue, None, "{}, {} gates", case.label, case.gates());
+    }
 }
