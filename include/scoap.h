@@ -100,6 +100,9 @@ enum scoap_refusal {
  * belongs to: 3 to 9 the library, 10 to 15 the netlist; 2, 17 and 20 have line 0. The library is read
  * first; the topmost bad line counts, and within it the lowest number.
  *
+ * Pins of a gate that share a line are one wire: a CC or SC row pays a value of it once, and a row that needs
+ * both is no way. A cell with a row that names both values of one pin pays for each pin.
+ *
  * The buffer afterwards:
  *   accepted       the report, without a byte 0 at its end; bytes past it keep their values
  *   refusal 2      untouched
@@ -114,7 +117,7 @@ uint64_t scoap_report(const uint8_t *lib, size_t lib_len, const uint8_t *net, si
 /*
  * Writes out the cheapest way to set a line to a value: one line of text for each node of the plan,
  * 'depth in tree,line,value,row', parents before children. The row is octal as its entry writes it, or
- * 'input'.
+ * 'input'. Pins on one wire are one node.
  *
  * lib, net    the texts, as for scoap_report
  * line        the line, 1 to 1,000; value 0 or 1; kind 0 combinational, 1 sequential

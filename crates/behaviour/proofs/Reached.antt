@@ -4,7 +4,7 @@
 use mathlib.Core.Bool.{Bool, true, false, _||_}
 use mathlib.Core.List.{List, [], _∷_, map, List·Memᴰ, List·Memᴰ·head, List·Memᴰ·tail, List·Memᴰ·not-nil}
 use mathlib.Core.Logic.{_⊎_, inl, inr}
-use mathlib.Core.Path.{_≡_, refl, sym, subst, ap, _∙_}
+use mathlib.Core.Path.{_≡_, refl, sym, subst, ap, ap₂, _∙_}
 use Prim.Native.Nat.{ℕ, zero, suc, _-_, _≤_, _<_}
 use native.Mathlib.Omega.{arith}
 use lib.Dec.{eqb}
@@ -18,7 +18,7 @@ use Rattle.netlist.specs.Netlist.{Gate, Statement, gatesOf, isInput}
 use Rattle.calculation.specs.Acceptance.{BothSound}
 use Rattle.calculation.specs.Nodes.{Kind, combinational, Purpose, set}
 use Rattle.calculation.specs.Nodes as N
-use Rattle.calculation.specs.Ways.{cellOf, pinLine, asked, setting, groupOf, asks}
+use Rattle.calculation.specs.Ways.{cellOf, pinLine, asked, Role, setting, groupOf, namedBy, merges, sameValue, anyAsks, once, asks}
 use Rattle.calculation.specs.Plans.{Plan, Plan.input, Plan.row, Plans, Plans.done, Plans.also}
 use Rattle.calculation.proofs.Laws.{pin-count}
 use Rattle.calculation.proofs.Visiting.{MayName}
@@ -38,6 +38,55 @@ plan-among : {cells : List Cell} {ss : List Statement} {k : Kind} (g : Gate) (cs
 plan-among g [] done c m = absurd (List·Memᴰ·not-nil m)
 plan-among {cells} {ss} {k} g (d ∷ cs) (also p ps) c (List·Memᴰ·head e) = subst (λ (x : Column). Plan cells ss k (asked g x)) (sym e) p
 plan-among g (d ∷ cs) (also p ps) c (List·Memᴰ·tail m) = plan-among g cs ps c m
+
+same-value : (p q : Purpose) → sameValue p q ≡ true → p ≡ q
+unfolding sameValue
+same-value (N.set l v) (N.set m w) h =
+    by-test (eqb l m)
+    (λ t. by-test (eqb v w) (λ u. ap₂ N.set (eqb-true l m t) (eqb-true v w u)) (λ u. clash false (rw (t, u) at h) refl))
+    (λ t. clash false (rw t at h) refl)
+same-value (N.set l v) (N.observe m) h = clash false h refl
+same-value (N.observe l) q h = clash false h refl
+
+-- What a column asks for a lower one asks for, or one that is left.
+abbrev Asked : Gate → List Column → List Column → Column → Type 0
+Asked g lower left c = (anyAsks g lower (asked g c) ≡ true) ⊎ ((d : Column) × List·Memᴰ d left × (asked g d ≡ asked g c))
+
+once-asked : (g : Gate) (lower cs : List Column) (c : Column) → List·Memᴰ c cs → Asked g lower (once g lower cs) c
+unfolding once pick
+once-asked g lower (x ∷ cs) c (List·Memᴰ·head e) = here (anyAsks g lower (asked g x)) refl
+  where
+    here : (b : Bool) → anyAsks g lower (asked g x) ≡ b → Asked g lower (pick b (once g (x ∷ lower) cs) (x ∷ once g (x ∷ lower) cs)) c
+    here true t = inl (rw e t)
+    here false t = inr (x, List·Memᴰ·head refl, ap (asked g) (sym e))
+once-asked g lower (x ∷ cs) c (List·Memᴰ·tail m) = later (anyAsks g lower (asked g x)) refl (once-asked g (x ∷ lower) cs c m)
+  where
+    same : (b : Bool) → anyAsks g lower (asked g x) ≡ b → asked g x ≡ asked g c → Asked g lower (pick b (once g (x ∷ lower) cs) (x ∷ once g (x ∷ lower) cs)) c
+    same true t e = inl (rw (← e) t)
+    same false t e = inr (x, List·Memᴰ·head refl, e)
+
+    later : (b : Bool) → anyAsks g lower (asked g x) ≡ b → Asked g (x ∷ lower) (once g (x ∷ lower) cs) c
+        → Asked g lower (pick b (once g (x ∷ lower) cs) (x ∷ once g (x ∷ lower) cs)) c
+    later true t (inr d) = inr d
+    later false t (inr d) = inr (d .0, List·Memᴰ·tail (d .1), d .2)
+    later b t (inl a) =
+        by-test (sameValue (asked g x) (asked g c))
+        (λ s. same b t (same-value (asked g x) (asked g c) s))
+        (λ s. inl (unfold anyAsks anyOf in rw s at a))
+
+-- The plan for a column that a row names.
+plan-named : {cells : List Cell} {ss : List Statement} {k : Kind} (g : Gate) (c : Cell) (role : Role) (r : Row) → Plans cells ss k g (asks g c role r)
+    → (d : Column) → List·Memᴰ d (namedBy c role r) → Plan cells ss k (asked g d)
+unfolding asks pick
+plan-named {cells} {ss} {k} g c role r ps d m = side (merges c role) ps
+  where
+    side : (b : Bool) → Plans cells ss k g (pick b (once g [] (namedBy c role r)) (namedBy c role r)) → Plan cells ss k (asked g d)
+    side false ps = plan-among g (namedBy c role r) ps d m
+    side true ps = found (once-asked g [] (namedBy c role r) d m)
+      where
+        found : Asked g [] (once g [] (namedBy c role r)) d → Plan cells ss k (asked g d)
+        found (inl a) = clash false (unfold anyAsks anyOf in a) refl
+        found (inr x) = subst (λ (p : Purpose). Plan cells ss k p) (x .2) (plan-among g (once g [] (namedBy c role r)) ps (x .0) (x .1))
 
 -- ---- whether columns name a pin
 
@@ -99,13 +148,13 @@ module _ (cells : List Cell) (ss : List Statement) (sound : BothSound cells ss) 
 
   module _ (g : Gate) (m : List·Memᴰ g (gatesOf ss)) (e : Bool) (r : Row)
       (among : List·Memᴰ r (groupOf combinational (cellOf cells g) (setting (digit e))))
-      (plans : (i w : ℕ) → List·Memᴰ (pin i w) (asks (cellOf cells g) (setting (digit e)) r) → Plan cells ss combinational (set (pinLine g i) w))
+      (plans : (i w : ℕ) → List·Memᴰ (pin i w) (namedBy (cellOf cells g) (setting (digit e)) r) → Plan cells ss combinational (set (pinLine g i) w))
       (reach : (i : ℕ) → 1 ≤ i → i ≤ cellOf cells g .pins → (x : Bool) → Plan cells ss combinational (set (pinLine g i) (digit x)) → Reachable (pinLine g i) x) where
     abbrev cell : Cell
     cell = cellOf cells g
 
     abbrev columns : List Column
-    columns = asks cell (setting (digit e)) r
+    columns = namedBy cell (setting (digit e)) r
 
     named : (i w : ℕ) → List·Memᴰ (pin i w) columns → MayName (cell .pins) (setting (digit e)) (pin i w)
     named i w n = named-pin cells ss sound tables free driven tells g m (digit e) r (pin i w) n
@@ -198,8 +247,8 @@ module _ (cells : List Cell) (ss : List Statement) (sound : BothSound cells ss) 
       → (e : ℕ) (x : Bool) → e ≡ digit x → Plan cells ss combinational (set l e) → Reachable l x
   unfolding asked
   reached-step l rec e x q (input h i) = input-changed l x i
-  reached-step l rec e x q (row g m d r i ps) =
-      let plans = plan-among g (asks (cellOf cells g) (setting e) r) ps in
+  reached-step l rec e x q (row g m d r i w ps) =
+      let plans = plan-named g (cellOf cells g) (setting e) r ps in
       subst (λ (y : ℕ). Reachable y x) d
       (row-reached g m x r (rw q at i)
       (λ j w n. plans (pin j w) (rw q n))

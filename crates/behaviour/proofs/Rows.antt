@@ -15,8 +15,8 @@ use Rattle.reading.proofs.Laws.{by-test, clash}
 use Rattle.cell_library.specs.Cells.{Row, Cell, Column, pin, bitOf, bit, named, pinColumns, settingColumns}
 use Rattle.cell_library.specs.Library.{wordGroups}
 use Rattle.calculation.specs.Nodes.{combinational}
-use Rattle.calculation.specs.Ways.{setting, wordOf, groupIndex, groupOf, columnsOf, asks}
-use Rattle.calculation.proofs.Visiting.{MayName, asks-named, named-listed}
+use Rattle.calculation.specs.Ways.{setting, wordOf, groupIndex, groupOf, columnsOf, namedBy}
+use Rattle.calculation.proofs.Visiting.{MayName, named-may, named-listed}
 use Rattle.truth_tables.specs.Tables.{Term, Setting, digit, output, meets, terms, prime, primes, gives}
 use Rattle.truth_tables.specs.Entries.{termColumns, settingRow, settingGroup, settingGroups}
 use Rattle.truth_tables.proofs.Lists.{any-member, any-found, kept}
@@ -68,36 +68,36 @@ module _ (c : Cell) (e : ℕ) (t : Term) (size : length t ≡ c .pins) where
   row = settingRow 1 t
 
   -- The row names pin j + 1 at v exactly where the term says so.
-  pub named-says : (i v : ℕ) → List·Memᴰ (pin i v) (asks c (setting e) row) → (1 ≤ i) × (i ≤ c .pins) × (says (getD t (i - 1) none) v ≡ true)
-  unfolding asks columnsOf settingRow bitOf
+  pub named-says : (i v : ℕ) → List·Memᴰ (pin i v) (namedBy c (setting e) row) → (1 ≤ i) × (i ≤ c .pins) × (says (getD t (i - 1) none) v ≡ true)
+  unfolding namedBy columnsOf settingRow bitOf
   named-says i v m =
       let may : MayName (c .pins) (setting e) (pin i v) =
-      asks-named c (setting e) row (pin i v) m in
+      named-may c (setting e) row (pin i v) m in
       let b : bit (termColumns t) (2 * (c .pins - i) + (1 - v)) ≡ true = named-bit (c .pins) (settingColumns (c .pins)) (termColumns t) (pin i v) m in
       let place : 2 * (length t - suc (i - 1)) + (1 - v) ≡ 2 * (c .pins - i) + (1 - v) = omega (arith, size, may .0) in
       (may .0, may .1, sym (term-bit t (i - 1) v (omega (arith, size, may .0, may .1)) (may .2)) ∙ ap (bit (termColumns t)) place ∙ b)
 
-  pub says-named : (j v : ℕ) → j < length t → v ≤ 1 → says (getD t j none) v ≡ true → List·Memᴰ (pin (suc j) v) (asks c (setting e) row)
-  unfolding asks columnsOf settingColumns settingRow bitOf
+  pub says-named : (j v : ℕ) → j < length t → v ≤ 1 → says (getD t j none) v ≡ true → List·Memᴰ (pin (suc j) v) (namedBy c (setting e) row)
+  unfolding namedBy columnsOf settingColumns settingRow bitOf
   says-named j v h b k =
       let place : 2 * (c .pins - suc j) + (1 - v) ≡ 2 * (length t - suc j) + (1 - v) = omega (arith, size) in
       named-listed (c .pins) (settingColumns (c .pins)) (termColumns t) (pin (suc j) v)
       (ap (bit (termColumns t)) place ∙ term-bit t j v h b ∙ k) (pin-listed (c .pins) j v (omega (arith, size)) b)
 
   pub meets-met : (xs : List Bool) → meets t xs ≡ true
-      → (i v : ℕ) → List·Memᴰ (pin i v) (asks c (setting e) row) → digit (getD xs (i - 1) false) ≡ v
+      → (i v : ℕ) → List·Memᴰ (pin i v) (namedBy c (setting e) row) → digit (getD xs (i - 1) false) ≡ v
   meets-met xs h i v m =
       let n = named-says i v m in
       meets-said t xs h (i - 1) v (omega (arith, size, n .0, n .1)) (n .2)
 
   pub met-meets : (xs : List Bool) → length xs ≡ c .pins
-      → ((i v : ℕ) → List·Memᴰ (pin i v) (asks c (setting e) row) → digit (getD xs (i - 1) false) ≡ v) → meets t xs ≡ true
+      → ((i v : ℕ) → List·Memᴰ (pin i v) (namedBy c (setting e) row) → digit (getD xs (i - 1) false) ≡ v) → meets t xs ≡ true
   met-meets xs l h =
       said-meets t xs (l ∙ sym size)
       (λ j v k b s. let z : suc j - 1 ≡ j = omega arith in
       subst (λ (x : ℕ). digit (getD xs x false) ≡ v) z (h (suc j) v (says-named j v k b s)))
 
-  pub named-once : (i v w : ℕ) → List·Memᴰ (pin i v) (asks c (setting e) row) → List·Memᴰ (pin i w) (asks c (setting e) row) → v ≡ w
+  pub named-once : (i v w : ℕ) → List·Memᴰ (pin i v) (namedBy c (setting e) row) → List·Memᴰ (pin i w) (namedBy c (setting e) row) → v ≡ w
   named-once i v w a b = says-once (getD t (i - 1) none) (named-says i v a .2) (named-says i w b .2)
     where
       says-once : (l : Option Bool) → says l v ≡ true → says l w ≡ true → v ≡ w

@@ -192,7 +192,7 @@ module _ (cells : List Cell) (ss : List Statement) (sound : BothSound cells ss) 
       → (c : Column) × MayName (cellOf cells (o .gate) .pins) (o .role) c × (m ≡ node k (asked (o .gate) c)) × (m % Size.costs ≡ costIndex k (asked (o .gate) c))
   need-index {k = k} o m i =
       let f = offer-need o m i in
-      let a : MayName (cellOf cells (o .gate) .pins) (o .role) (f .0) = asks-named (cellOf cells (o .gate)) (o .role) (o .row) (f .0) (f .1) in
+      let a : MayName (cellOf cells (o .gate) .pins) (o .role) (f .0) = asks-named (o .gate) (cellOf cells (o .gate)) (o .role) (o .row) (f .0) (f .1) in
       let p : Placed (asked (o .gate) (f .0)) = asked-placed sound (o .gate) (o .listed) (o .role) (f .0) a in
       (f .0, a, sym (f .2), ap (λ (x : ℕ). x % Size.costs) (sym (f .2)) ∙ node-index k (asked (o .gate) (f .0)) p)
 
@@ -281,9 +281,9 @@ module _ (cells : List Cell) (ss : List Statement) (sound : BothSound cells ss) 
 
   -- ---- CO and SO: every row leads through its gate's output
 
-  asks-output : (k : Kind) (c : Cell) (role : Role) (all : List Group) (r : Row) → Observes c role → SoundRow (wordOf k role) (c .pins) all r → List·Memᴰ C.observe (asks c role r)
-  asks-output k c (setting e) all r h s = absurd h
-  asks-output k c (observing i) all r h s = asks-observe c i r (row-observes k i (c .pins) all r s)
+  asks-output : (k : Kind) (g : Gate) (c : Cell) (role : Role) (all : List Group) (r : Row) → Observes c role → SoundRow (wordOf k role) (c .pins) all r → List·Memᴰ C.observe (asks g c role r)
+  asks-output k g c (setting e) all r h s = absurd h
+  asks-output k g c (observing i) all r h s = asks-observe g c i r (row-observes k i (c .pins) all r s)
 
   abbrev outputs : Kind → List ℕ
   outputs k = map (λ (g : Gate). node k (observe (g .line))) gs
@@ -295,7 +295,7 @@ module _ (cells : List Cell) (ss : List Statement) (sound : BothSound cells ss) 
         let c : Cell = cellOf cells (o .gate) in
         rw (offer-needs o)
         (Memᴰ·map (λ (d : Column). node k (asked (o .gate) d))
-        (asks-output k c (o .role) (wordGroups (wordOf k (o .role)) c) (o .row) (o .allowed)
+        (asks-output k (o .gate) c (o .role) (wordGroups (wordOf k (o .role)) c) (o .row) (o .allowed)
         (role-row sound (o .gate) (o .listed) k (o .role) (observes-has c (o .role) (o .allowed)) (o .row) (o .among))))
 
     leads-others : (m : ℕ) → List·Memᴰ m (w .needs) → (m ≡ node k (observe (o .gate .line))) ⊎ (Visited (observingVisits k cells gs) m → ⊥)

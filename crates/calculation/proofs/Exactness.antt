@@ -88,7 +88,7 @@ module _ (cells : List Cell) (ss : List Statement) (sound : BothSound cells ss) 
   plan-mentioned : (k : Kind) (p : Purpose) → Plan cells ss k p → mentioned (lineOf p) ss ≡ true
   unfolding pinLine
   plan-mentioned k p (P.Plan.input {l = l} h e) = marked-mentioned NL.input l ss e
-  plan-mentioned k p (P.Plan.row {l = l} g m q r i ps) = gate-mentioned g l ss m (List·Memᴰ·head (sym q))
+  plan-mentioned k p (P.Plan.row {l = l} g m q r i u ps) = gate-mentioned g l ss m (List·Memᴰ·head (sym q))
   plan-mentioned k p (P.Plan.output {l = l} e) = marked-mentioned NL.output l ss e
   plan-mentioned k p (P.Plan.through {l = l} g m i a b q r j ps) =
       gate-mentioned g l ss m (List·Memᴰ·tail (rw q at (getD-listed (g .pins) (i - 1) 0 (omega (arith, pin-count sound g m)))))

@@ -10,7 +10,7 @@ use Rattle.cell_library.specs.Cells.{Row, Cell, Column, pin, output}
 use Rattle.cell_library.specs.Cells as C
 use Rattle.netlist.specs.Netlist.{Gate, Statement, gatesOf}
 use Rattle.calculation.specs.Nodes.{Kind, Purpose, set, observe, lineOf, node}
-use Rattle.calculation.specs.Ways.{cellOf, pinLine, asked, needs, Role, setting, observing, groupOf, asks, wayOf, waysOf, visit}
+use Rattle.calculation.specs.Ways.{cellOf, pinLine, asked, needs, Role, setting, observing, groupOf, asks, usable, wayOf, waysOf, visit}
 use Rattle.calculation.specs.Acceptance.{BothSound}
 use Rattle.calculation.proofs.Placing.{Placed, node-injective}
 use Rattle.calculation.proofs.Visiting.{MayName, asks-named}
@@ -25,12 +25,12 @@ module _ (k : Kind) (cells : List Cell) (ss : List Statement) (sound : BothSound
   column : (role : Role) (n : ℕ) → Needs (visit k cells g role) n → (c : Column) × MayName (cell .pins) role c × (node k (asked g c) ≡ n)
   unfolding visit waysOf wayOf needs
   column role n d =
-      let r : (r : Row) × List·Memᴰ r (groupOf k cell role) × (wayOf k g cell role r ≡ d .way) =
-      Memᴰ·of-map (wayOf k g cell role) (groupOf k cell role) (d .listed) in
-      let e : d .way .needs ≡ needs k g (asks cell role (r .0)) = ap (λ (w : Way). w .needs) (sym (r .2)) in
-      let c : (c : Column) × List·Memᴰ c (asks cell role (r .0)) × (node k (asked g c) ≡ n) =
-      Memᴰ·of-map (λ (c : Column). node k (asked g c)) (asks cell role (r .0)) (rw e at (d .among)) in
-      (c .0, asks-named cell role (r .0) (c .0) (c .1), c .2)
+      let r : (r : Row) × List·Memᴰ r (usable g cell role (groupOf k cell role)) × (wayOf k g cell role r ≡ d .way) =
+      Memᴰ·of-map (wayOf k g cell role) (usable g cell role (groupOf k cell role)) (d .listed) in
+      let e : d .way .needs ≡ needs k g (asks g cell role (r .0)) = ap (λ (w : Way). w .needs) (sym (r .2)) in
+      let c : (c : Column) × List·Memᴰ c (asks g cell role (r .0)) × (node k (asked g c) ≡ n) =
+      Memᴰ·of-map (λ (c : Column). node k (asked g c)) (asks g cell role (r .0)) (rw e at (d .among)) in
+      (c .0, asks-named g cell role (r .0) (c .0) (c .1), c .2)
 
   same : (role : Role) (c : Column) → MayName (cell .pins) role c → (p : Purpose) → Placed p → node k (asked g c) ≡ node k p → asked g c ≡ p
   same role c may p placed e = node-injective k k (asked g c) p (asked-placed sound g listed role c may) placed e .1

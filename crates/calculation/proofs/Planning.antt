@@ -19,12 +19,12 @@ use Rattle.plans.specs.Stages.{allVisits}
 use Rattle.cell_library.specs.Cells.{Row, Cell, Column}
 use Rattle.netlist.specs.Netlist.{Gate, Statement, gatesOf, isInput, isOutput}
 use Rattle.calculation.specs.Nodes.{Kind, combinational, sequential, Purpose, set, observe, node}
-use Rattle.calculation.specs.Ways.{cellOf, asked, needs, Role, setting, observing, purposeOf, groupOf, asks, wayOf, waysOf, visit}
+use Rattle.calculation.specs.Ways.{cellOf, asked, needs, Role, setting, observing, purposeOf, groupOf, asks, isWay, wayOf, waysOf, visit}
 use Rattle.calculation.specs.Acceptance.{BothSound}
 use Rattle.calculation.specs.Calculation.{start, stages}
 use Rattle.calculation.specs.Plans.{inputCost, Plan, Plan.input, Plan.row, Plan.output, Plan.through, Plans, Plans.done, Plans.also, cost, costs}
 use Rattle.calculation.proofs.Placing.{Placed, node-injective, start-at, start-bounded}
-use Rattle.calculation.proofs.Visiting.{Has, Visiting, Offer, offer, offer-needs, asks-named}
+use Rattle.calculation.proofs.Visiting.{Has, Visiting, Offer, offer, offer-needs, usable-listed, asks-named, observing-is-way}
 use Rattle.netlist.specs.Netlist as NL
 use Rattle.netlist.proofs.Laws.{marked-in-range}
 use Rattle.calculation.proofs.Accepting.{purpose-placed, asked-placed, row-value}
@@ -103,15 +103,16 @@ module _ (cells : List Cell) (ss : List Statement) (sound : BothSound cells ss) 
   -- A row of a role's group, with plans for all that it asks for.
   from-role : (k : Kind) (g : Gate) → List·Memᴰ g (gatesOf ss) → (role : Role) → Has (cellOf cells g) role
       → (p : Purpose) → purposeOf g role ≡ p → (r : Row) → List·Memᴰ r (groupOf k (cellOf cells g) role)
-      → (c : ℕ) → GenerallyAll cells ss k g (asks (cellOf cells g) role r) c → Generally cells ss k p (r .depth + c)
+      → isWay g (cellOf cells g) role r ≡ true
+      → (c : ℕ) → GenerallyAll cells ss k g (asks g (cellOf cells g) role r) c → Generally cells ss k p (r .depth + c)
   unfolding wayOf waysOf visit General.cost
-  from-role k g m role h p q r i c t = (
+  from-role k g m role h p q r i u c t = (
     General.chosen (wayOf k g (cellOf cells g) role r)
         (record {
           visit = visit k cells g role;
           listed = all-listed cells (gatesOf ss) k g role m h;
           same = ap (node k) q;
-          among = Memᴰ·map (wayOf k g (cellOf cells g) role) i;
+          among = Memᴰ·map (wayOf k g (cellOf cells g) role) (usable-listed g (cellOf cells g) role (groupOf k (cellOf cells g) role) r i u);
         })
         (t .0),
     ap (λ (x : ℕ). r .depth + x) (t .1),
@@ -126,11 +127,11 @@ module _ (cells : List Cell) (ss : List Statement) (sound : BothSound cells ss) 
 
     pub generally : {k : Kind} {p : Purpose} (d : Plan cells ss k p) → Generally cells ss k p (cost d)
     generally {k} (input {l = l} {v = v} h e) = from-input k l v h e
-    generally {k} (row {l = l} {e = e} g m q r i ps) =
-        from-role k g m (setting e) (row-value sound g m k e r i) (set l e) (ap (λ (x : ℕ). set x e) q) r i (costs ps) (generally-all ps)
+    generally {k} (row {l = l} {e = e} g m q r i u ps) =
+        from-role k g m (setting e) (row-value sound g m k e r i) (set l e) (ap (λ (x : ℕ). set x e) q) r i u (costs ps) (generally-all ps)
     generally {k} (output {l = l} e) = from-output k l e
     generally {k} (through {l = l} g m i a b q r j ps) =
-        from-role k g m (observing i) (a, b) (observe l) (ap observe q) r j (costs ps) (generally-all ps)
+        from-role k g m (observing i) (a, b) (observe l) (ap observe q) r j (observing-is-way g (cellOf cells g) i r) (costs ps) (generally-all ps)
 
     pub generally-all : {k : Kind} {g : Gate} {cs : List Column} (ds : Plans cells ss k g cs) → GenerallyAll cells ss k g cs (costs ds)
     generally-all done = (General.done, refl)
@@ -164,11 +165,11 @@ module _ (cells : List Cell) (ss : List Statement) (sound : BothSound cells ss) 
   Needs w c = (k : Kind) (g : Gate) (cs : List Column) → AllPlaced g cs → w .needs ≡ needs k g cs → WrittenAll cells ss k g cs c
 
   by-role : (k : Kind) (g : Gate) → List·Memᴰ g (gatesOf ss) → (role : Role) → Has (cellOf cells g) role
-      → (r : Row) → List·Memᴰ r (groupOf k (cellOf cells g) role)
-      → (c : ℕ) → WrittenAll cells ss k g (asks (cellOf cells g) role r) c → Written cells ss k (purposeOf g role) (r .depth + c)
+      → (r : Row) → List·Memᴰ r (groupOf k (cellOf cells g) role) → isWay g (cellOf cells g) role r ≡ true
+      → (c : ℕ) → WrittenAll cells ss k g (asks g (cellOf cells g) role r) c → Written cells ss k (purposeOf g role) (r .depth + c)
   unfolding cost purposeOf
-  by-role k g m (setting e) h r i c t = (row g m refl r i (t .0), ap (λ (x : ℕ). r .depth + x) (t .1))
-  by-role k g m (observing j) h r i c t = (through g m j (h .0) (h .1) refl r i (t .0), ap (λ (x : ℕ). r .depth + x) (t .1))
+  by-role k g m (setting e) h r i u c t = (row g m refl r i u (t .0), ap (λ (x : ℕ). r .depth + x) (t .1))
+  by-role k g m (observing j) h r i u c t = (through g m j (h .0) (h .1) refl r i (t .0), ap (λ (x : ℕ). r .depth + x) (t .1))
 
   to-role : (k : Kind) (n : ℕ) (w : Way) (o : Offer Has k cells (gatesOf ss) n w) (c : ℕ) → Needs w c → Written cells ss k (purposeOf (o .gate) (o .role)) (w .depth + c)
   unfolding wayOf
@@ -176,9 +177,9 @@ module _ (cells : List Cell) (ss : List Statement) (sound : BothSound cells ss) 
       let d : Cell = cellOf cells (o .gate) in
       let e : w .depth ≡ o .row .depth = ap (λ (t : Way). t .depth) (o .same) in
       rw e
-      (by-role k (o .gate) (o .listed) (o .role) (o .allowed) (o .row) (o .among) c
-      (rec k (o .gate) (asks d (o .role) (o .row))
-      (λ b i. asked-placed sound (o .gate) (o .listed) (o .role) b (asks-named d (o .role) (o .row) b i)) (offer-needs o)))
+      (by-role k (o .gate) (o .listed) (o .role) (o .allowed) (o .row) (o .among) (o .isWay) c
+      (rec k (o .gate) (asks (o .gate) d (o .role) (o .row))
+      (λ b i. asked-placed sound (o .gate) (o .listed) (o .role) b (asks-named (o .gate) d (o .role) (o .row) b i)) (offer-needs o)))
 
   -- A plan for the purpose that has the node's place is one for the purpose in hand.
   placed-here : (j k : Kind) (q p : Purpose) (c : ℕ) → Placed q → Placed p → node j q ≡ node k p → Written cells ss j q c → Written cells ss k p c

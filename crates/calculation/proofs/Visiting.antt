@@ -10,7 +10,7 @@ use native.Mathlib.Omega.{arith}
 use lib.ListN.{length, getD}
 use Rattle.reading.specs.Choice.{pick}
 use Rattle.plans.specs.System.{Way, Visit, Offers}
-use Rattle.cell_library.specs.Cells.{Row, Cell, Column, pin, output, observe, bitOf, pinColumns, settingColumns, observingColumns, bit, named}
+use Rattle.cell_library.specs.Cells.{Row, Group, Cell, Column, pin, output, observe, bitOf, pinColumns, settingColumns, observingColumns, bit, named}
 use Rattle.netlist.specs.Netlist.{Gate}
 use Rattle.calculation.specs.Nodes.{Kind, node}
 use Rattle.calculation.specs.Ways.{
@@ -23,7 +23,13 @@ use Rattle.calculation.specs.Ways.{
   purposeOf,
   groupOf,
   columnsOf,
+  namedBy,
+  merges,
+  anyAsks,
+  once,
   asks,
+  isWay,
+  usable,
   wayOf,
   waysOf,
   visit,
@@ -169,6 +175,28 @@ module _ (k : Kind) (cells : List Cell) where
 
 -- ---- the ways that visits offer: each is a row of a gate's cell
 
+module _ (g : Gate) (c : Cell) (role : Role) where
+  -- The rows that are ways are those of the group that are no row of 0 and 1 of one line.
+  pub usable-from : (rs : Group) (r : Row) → List·Memᴰ r (usable g c role rs) → List·Memᴰ r rs × (isWay g c role r ≡ true)
+  unfolding usable pick
+  usable-from [] r m = absurd (List·Memᴰ·not-nil m)
+  usable-from (x ∷ rs) r m = side (isWay g c role x) refl (usable-from rs r) m
+    where
+      side : (b : Bool) → isWay g c role x ≡ b → (List·Memᴰ r (usable g c role rs) → List·Memᴰ r rs × (isWay g c role r ≡ true))
+          → List·Memᴰ r (pick b (x ∷ usable g c role rs) (usable g c role rs)) → List·Memᴰ r (x ∷ rs) × (isWay g c role r ≡ true)
+      side true e rec (List·Memᴰ·head q) = (List·Memᴰ·head q, rw q e)
+      side true e rec (List·Memᴰ·tail i) = (List·Memᴰ·tail (rec i .0), rec i .1)
+      side false e rec i = (List·Memᴰ·tail (rec i .0), rec i .1)
+
+  pub usable-listed : (rs : Group) (r : Row) → List·Memᴰ r rs → isWay g c role r ≡ true → List·Memᴰ r (usable g c role rs)
+  unfolding usable pick
+  usable-listed (x ∷ rs) r (List·Memᴰ·head q) h = rw (ap (isWay g c role) (sym q) ∙ h) (List·Memᴰ·head q)
+  usable-listed (x ∷ rs) r (List·Memᴰ·tail m) h = side (isWay g c role x) (usable-listed rs r m h)
+    where
+      side : (b : Bool) → List·Memᴰ r (usable g c role rs) → List·Memᴰ r (pick b (x ∷ usable g c role rs) (usable g c role rs))
+      side true i = List·Memᴰ·tail i
+      side false i = i
+
 pub record Offer (has : Cell → Role → Type 0) (k : Kind) (cells : List Cell) (gs : List Gate) (n : ℕ) (w : Way) : Type 0 where
   pub gate : Gate
   pub listed : List·Memᴰ gate gs
@@ -177,13 +205,15 @@ pub record Offer (has : Cell → Role → Type 0) (k : Kind) (cells : List Cell)
   pub node : n ≡ node k (purposeOf gate role)
   pub row : Row
   pub among : List·Memᴰ row (groupOf k (cellOf cells gate) role)
+  pub isWay : isWay gate (cellOf cells gate) role row ≡ true
   pub same : w ≡ wayOf k gate (cellOf cells gate) role row
 
 module _ {has : Cell → Role → Type 0} {k : Kind} {cells : List Cell} {gs : List Gate} {n : ℕ} {w : Way} where
   pub offer : {vs : List Visit} (o : Offers vs n w) → Visiting has k cells gs (o .visit) → Offer has k cells gs n w
   offer o t =
       let c : Cell = cellOf cells (t .gate) in
-      let f : (r : Row) × List·Memᴰ r (groupOf k c (t .role)) × (wayOf k (t .gate) c (t .role) r ≡ w) = row (t .gate) (t .role) (rw (t .same) at (o .among)) in
+      let f = row (t .gate) (t .role) (rw (t .same) at (o .among)) in
+      let u = usable-from (t .gate) c (t .role) (groupOf k c (t .role)) (f .0) (f .1) in
       record {
         gate = t .gate;
         listed = t .listed;
@@ -191,22 +221,25 @@ module _ {has : Cell → Role → Type 0} {k : Kind} {cells : List Cell} {gs : L
         allowed = t .allowed;
         node = sym (o .same) ∙ visiting-node t;
         row = f .0;
-        among = f .1;
+        among = u .0;
+        isWay = u .1;
         same = sym (f .2);
       }
     where
-      row : (g : Gate) (role : Role) → List·Memᴰ w (visit k cells g role .ways) → (r : Row) × List·Memᴰ r (groupOf k (cellOf cells g) role) × (wayOf k g (cellOf cells g) role r ≡ w)
-      row g role m = unfold visit waysOf in Memᴰ·of-map (wayOf k g (cellOf cells g) role) (groupOf k (cellOf cells g) role) m
+      row : (g : Gate) (role : Role) → List·Memᴰ w (visit k cells g role .ways) → (r : Row) × List·Memᴰ r (usable g (cellOf cells g) role (groupOf k (cellOf cells g) role)) × (wayOf k g (cellOf cells g) role r ≡ w)
+      row g role m =
+          unfold visit waysOf in
+          Memᴰ·of-map (wayOf k g (cellOf cells g) role) (usable g (cellOf cells g) role (groupOf k (cellOf cells g) role)) m
 
   -- What such a way needs is what the row's columns ask for.
-  pub offer-needs : (o : Offer has k cells gs n w) → w .needs ≡ needs k (o .gate) (asks (cellOf cells (o .gate)) (o .role) (o .row))
+  pub offer-needs : (o : Offer has k cells gs n w) → w .needs ≡ needs k (o .gate) (asks (o .gate) (cellOf cells (o .gate)) (o .role) (o .row))
   unfolding wayOf
   offer-needs o = ap (λ (t : Way). t .needs) (o .same)
 
-  pub offer-need : (o : Offer has k cells gs n w) (m : ℕ) → List·Memᴰ m (w .needs) → (c : Column) × List·Memᴰ c (asks (cellOf cells (o .gate)) (o .role) (o .row)) × (node k (asked (o .gate) c) ≡ m)
+  pub offer-need : (o : Offer has k cells gs n w) (m : ℕ) → List·Memᴰ m (w .needs) → (c : Column) × List·Memᴰ c (asks (o .gate) (cellOf cells (o .gate)) (o .role) (o .row)) × (node k (asked (o .gate) c) ≡ m)
   unfolding needs
   offer-need o m i =
-      Memᴰ·of-map (λ (c : Column). node k (asked (o .gate) c)) (asks (cellOf cells (o .gate)) (o .role) (o .row)) (rw (offer-needs o) at i)
+      Memᴰ·of-map (λ (c : Column). node k (asked (o .gate) c)) (asks (o .gate) (cellOf cells (o .gate)) (o .role) (o .row)) (rw (offer-needs o) at i)
 
 -- ---- columns
 
@@ -256,13 +289,42 @@ columns-named n (observing i) c m = ⊎-elim (pins-named n n (omega arith) (obse
     last (List·Memᴰ·tail (List·Memᴰ·head e)) = rw e (omega arith)
     last (List·Memᴰ·tail (List·Memᴰ·tail (List·Memᴰ·head e))) = rw e tt
 
-pub asks-named : (c : Cell) (role : Role) (r : Row) (d : Column) → List·Memᴰ d (asks c role r) → MayName (c .pins) role d
-unfolding asks
-asks-named c role r d m = columns-named (c .pins) role d (named-from (c .pins) (columnsOf (c .pins) role) (r .columns) d m)
+-- What is asked for once is asked for.
+once-from : (g : Gate) (lower cs : List Column) (c : Column) → List·Memᴰ c (once g lower cs) → List·Memᴰ c cs
+unfolding once pick
+once-from g lower [] c m = m
+once-from g lower (d ∷ cs) c m = side (anyAsks g lower (asked g d)) (once-from g (d ∷ lower) cs c) m
+  where
+    side : (b : Bool) → (List·Memᴰ c (once g (d ∷ lower) cs) → List·Memᴰ c cs)
+        → List·Memᴰ c (pick b (once g (d ∷ lower) cs) (d ∷ once g (d ∷ lower) cs)) → List·Memᴰ c (d ∷ cs)
+    side true r i = List·Memᴰ·tail (r i)
+    side false r (List·Memᴰ·head e) = List·Memᴰ·head e
+    side false r (List·Memᴰ·tail i) = List·Memᴰ·tail (r i)
+
+-- A row asks for none but the columns that it names.
+pub asks-from : (g : Gate) (c : Cell) (role : Role) (r : Row) (d : Column) → List·Memᴰ d (asks g c role r) → List·Memᴰ d (namedBy c role r)
+unfolding asks pick
+asks-from g c role r d m = side (merges c role) m
+  where
+    side : (b : Bool) → List·Memᴰ d (pick b (once g [] (namedBy c role r)) (namedBy c role r)) → List·Memᴰ d (namedBy c role r)
+    side true i = once-from g [] (namedBy c role r) d i
+    side false i = i
+
+pub named-may : (c : Cell) (role : Role) (r : Row) (d : Column) → List·Memᴰ d (namedBy c role r) → MayName (c .pins) role d
+unfolding namedBy
+named-may c role r d m = columns-named (c .pins) role d (named-from (c .pins) (columnsOf (c .pins) role) (r .columns) d m)
+
+pub asks-named : (g : Gate) (c : Cell) (role : Role) (r : Row) (d : Column) → List·Memᴰ d (asks g c role r) → MayName (c .pins) role d
+asks-named g c role r d m = named-may c role r d (asks-from g c role r d m)
+
+-- "CO and SO rows keep document 01's reading."
+pub observing-is-way : (g : Gate) (c : Cell) (i : ℕ) (r : Row) → isWay g c (observing i) r ≡ true
+unfolding isWay merges
+observing-is-way g c i r = refl
 
 -- A row with the bit of "observe the output" asks for it.
-pub asks-observe : (c : Cell) (i : ℕ) (r : Row) → bit (r .columns) (bitOf (c .pins) observe) ≡ true → List·Memᴰ observe (asks c (observing i) r)
-unfolding asks columnsOf observingColumns
-asks-observe c i r h =
+pub asks-observe : (g : Gate) (c : Cell) (i : ℕ) (r : Row) → bit (r .columns) (bitOf (c .pins) observe) ≡ true → List·Memᴰ observe (asks g c (observing i) r)
+unfolding asks merges pick namedBy columnsOf observingColumns
+asks-observe g c i r h =
     named-listed (c .pins) (observingColumns (c .pins)) (r .columns) observe h
     (Memᴰ·append-right (pinColumns (c .pins)) (List·Memᴰ·tail (List·Memᴰ·tail (List·Memᴰ·head refl))))

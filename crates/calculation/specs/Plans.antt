@@ -10,7 +10,7 @@ use Rattle.cost.specs.Cost.{most, over, never}
 use Rattle.cell_library.specs.Cells.{Row, Cell, Column}
 use Rattle.netlist.specs.Netlist.{Gate, Statement, gatesOf, isInput, isOutput}
 use Rattle.calculation.specs.Nodes.{Kind, combinational, sequential, Purpose, set, observe}
-use Rattle.calculation.specs.Ways.{cellOf, pinLine, asked, setting, observing, groupOf, asks}
+use Rattle.calculation.specs.Ways.{cellOf, pinLine, asked, setting, observing, groupOf, asks, isWay}
 
 -- "An input is set to either value at combinational cost 1, sequential cost 0."
 unfoldable pub inputCost : Kind → ℕ
@@ -24,10 +24,12 @@ module _ (cells : List Cell) (ss : List Statement) (k : Kind) where
       -- "An input is set to either value"
       input : {l v : ℕ} → v ≤ 1 → isInput l ss ≡ true → Plan (set l v)
       -- "A gate's output is set to e by choosing a row of group e of its cell and giving one plan for each column that the row
-      -- names"
+      -- names". Document 02, K7: "a row that needs 0 and 1 of one line is no way at all", and what several pins of one wire ask
+      -- for, the row asks for once.
       row : {l e : ℕ} (g : Gate) → List·Memᴰ g (gatesOf ss) → g .line ≡ l → (r : Row)
           → List·Memᴰ r (groupOf k (cellOf cells g) (setting e))
-          → Plans g (asks (cellOf cells g) (setting e) r)
+          → isWay g (cellOf cells g) (setting e) r ≡ true
+          → Plans g (asks g (cellOf cells g) (setting e) r)
           → Plan (set l e)
       -- "An output line is observed at cost 0."
       output : {l : ℕ} → isOutput l ss ≡ true → Plan (observe l)
@@ -36,10 +38,10 @@ module _ (cells : List Cell) (ss : List Statement) (k : Kind) where
       through : {l : ℕ} (g : Gate) → List·Memᴰ g (gatesOf ss)
           → (i : ℕ) → 1 ≤ i → i ≤ cellOf cells g .pins → pinLine g i ≡ l → (r : Row)
           → List·Memᴰ r (groupOf k (cellOf cells g) (observing i))
-          → Plans g (asks (cellOf cells g) (observing i) r)
+          → Plans g (asks g (cellOf cells g) (observing i) r)
           → Plan (observe l)
 
-    -- One plan for each column named, at a gate.
+    -- One plan for each column, at a gate.
     pub data Plans : Gate → List Column → Type 0 where
       done : {g : Gate} → Plans g []
       also : {g : Gate} {c : Column} {cs : List Column} → Plan (asked g c) → Plans g cs → Plans g (c ∷ cs)
@@ -49,7 +51,7 @@ module _ (cells : List Cell) (ss : List Statement) (k : Kind) where
 unfoldable mutual
   pub cost : {cells : List Cell} {ss : List Statement} {k : Kind} {p : Purpose} → Plan cells ss k p → ℕ
   cost {k = k} (input h e) = inputCost k
-  cost (row g m e r q ps) = r .depth + costs ps
+  cost (row g m e r q u ps) = r .depth + costs ps
   cost (output e) = 0
   cost (through g m i b h e r q ps) = r .depth + costs ps
 

@@ -1,12 +1,15 @@
 -- From gates and cells to ways and visits of crate `plans`: what a row of a cell means at a gate, and in which order a sweep
 -- visits. Every request that changes which ways there are changes this page.
 -- Assumes nothing.
+use mathlib.Core.Bool.{Bool, false, not, _&&_, _||_}
 use mathlib.Core.List.{List, [], _∷_, _++_, map}
 use Prim.Native.Nat.{ℕ, zero, suc, _-_}
+use lib.Dec.{eqb}
 use lib.ListN.{getD}
+use Rattle.reading.specs.Choice.{pick}
 use Rattle.plans.specs.System.{Way, Visit}
-use Rattle.cell_library.specs.Cells.{plain, Row, Group, Cell, Column, pin, output, observe, settingColumns, observingColumns, named, cells-open}
-use Rattle.cell_library.specs.Library.{Word, CC, CO, SC, SO, wordGroups}
+use Rattle.cell_library.specs.Cells.{plain, Row, Group, Cell, Column, pin, output, observe, bitOf, settingColumns, observingColumns, bit, named, cells-open}
+use Rattle.cell_library.specs.Library.{Word, CC, CO, SC, SO, wordGroups, anyOf}
 use Rattle.netlist.specs.Netlist.{Gate}
 use Rattle.calculation.specs.Nodes.{Kind, combinational, sequential, Purpose, node, nodes-open}
 use Rattle.calculation.specs.Nodes as N
@@ -63,19 +66,78 @@ unfoldable pub columnsOf : ℕ → Role → List Column
 columnsOf n (setting e) = settingColumns n
 columnsOf n (observing i) = observingColumns n
 
+-- The columns that a row names, lowest first.
+unfoldable pub namedBy : Cell → Role → Row → List Column
+namedBy c role r = named (c .pins) (columnsOf (c .pins) role) (r .columns)
+
+-- ---- two pins on one wire. Document 02, K7
+
+-- Whether columns of a cell of n pins name both values of one of the pins 1 to i.
+unfoldable pub bothValues : ℕ → ℕ → ℕ → Bool
+bothValues n zero columns = false
+bothValues n (suc i) columns =
+    (bit columns (bitOf n (pin (suc i) 0)) && bit columns (bitOf n (pin (suc i) 1))) || bothValues n i columns
+
+-- "Take a cell none of whose rows names both values of one pin.": CC, SC, CO and SO rows alike. The output at 0 with the output
+-- at 1 is no such row, since the output is no pin.
+unfoldable pub oneWire : Cell → Bool
+oneWire c =
+    not
+    (anyOf (anyOf (λ (r : Row). bothValues (c .pins) (c .pins) (r .columns))) (c .cc ++ (c .sc ++ (c .co ++ c .so))))
+
+-- "Within one of its CC or SC rows"; "CO and SO rows keep document 01's reading."
+unfoldable pub merges : Cell → Role → Bool
+merges c (setting e) = oneWire c
+merges c (observing i) = false
+
+-- Whether two purposes are one value of one line.
+unfoldable pub sameValue : Purpose → Purpose → Bool
+sameValue (N.set l v) (N.set m w) = eqb l m && eqb v w
+sameValue (N.set l v) (N.observe m) = false
+sameValue (N.observe l) p = false
+
+-- 1 for 0 and 0 for 1.
+unfoldable pub otherValue : Purpose → Purpose
+otherValue (N.set l v) = N.set l (1 - v)
+otherValue (N.observe l) = N.observe l
+
+-- Whether one of these columns asks for this value of this line.
+unfoldable pub anyAsks : Gate → List Column → Purpose → Bool
+anyAsks g cs p = anyOf (λ (c : Column). sameValue (asked g c) p) cs
+
+-- "the same value of the same line through several pins is paid and written out once, at its lowest column": a column is left
+-- out where a lower one asks for the same. `lower` are the columns of the row before these.
+unfoldable pub once : Gate → List Column → List Column → List Column
+once g lower [] = []
+once g lower (c ∷ cs) = pick (anyAsks g lower (asked g c)) (once g (c ∷ lower) cs) (c ∷ once g (c ∷ lower) cs)
+
+-- "needs 0 and 1 of one line": a lower column asks for the other value.
+unfoldable pub needsBoth : Gate → List Column → List Column → Bool
+needsBoth g lower [] = false
+needsBoth g lower (c ∷ cs) = anyAsks g lower (otherValue (asked g c)) || needsBoth g (c ∷ lower) cs
+
 -- "giving one plan for each column that the row names"; "a plan for each value named and an observing plan for the gate's
--- output": what a row asks for, lowest column first.
-unfoldable pub asks : Cell → Role → Row → List Column
-asks c role r = named (c .pins) (columnsOf (c .pins) role) (r .columns)
+-- output": what a row asks for, lowest column first, and on one wire "once, at its lowest column".
+unfoldable pub asks : Gate → Cell → Role → Row → List Column
+asks g c role r = pick (merges c role) (once g [] (namedBy c role r)) (namedBy c role r)
+
+-- "Such a row that needs 0 and 1 of one line is no way at all."
+unfoldable pub isWay : Gate → Cell → Role → Row → Bool
+isWay g c role r = not (merges c role && needsBoth g [] (namedBy c role r))
+
+-- The rows of a group that are ways at a gate.
+unfoldable pub usable : Gate → Cell → Role → Group → Group
+usable g c role [] = []
+usable g c role (r ∷ rs) = pick (isWay g c role r) (r ∷ usable g c role rs) (usable g c role rs)
 
 -- ---- ways and visits
 
 -- A row at a gate: its depth, and what its columns ask for.
 unfoldable pub wayOf : Kind → Gate → Cell → Role → Row → Way
-wayOf k g c role r = record { depth = r .depth; needs = needs k g (asks c role r) }
+wayOf k g c role r = record { depth = r .depth; needs = needs k g (asks g c role r) }
 
 unfoldable pub waysOf : Kind → Gate → Cell → Role → Group → List Way
-waysOf k g c role rs = map (wayOf k g c role) rs
+waysOf k g c role rs = map (wayOf k g c role) (usable g c role rs)
 
 -- "choosing a row of group e of its cell"; "choosing a gate and a pin that reads the line, a row of that pin's group"
 unfoldable pub visit : Kind → List Cell → Gate → Role → Visit
@@ -107,5 +169,5 @@ observingVisits k cells (g ∷ gs) = observingVisits k cells gs ++ gateVisits k 
 
 -- Opens the page's definitions, where a figure computes with them.
 unfoldable pub ways-open : ℕ
-unfolding nodes-open cells-open wordGroups noCell cellOf pinLine asked needs purposeOf wordOf groupIndex groupOf columnsOf asks wayOf waysOf visit valueRoles pinRoles gateVisits settingVisits observingVisits
+unfolding nodes-open cells-open wordGroups noCell cellOf pinLine asked needs purposeOf wordOf groupIndex groupOf columnsOf namedBy anyOf bothValues oneWire merges sameValue otherValue anyAsks once needsBoth asks isWay usable wayOf waysOf visit valueRoles pinRoles gateVisits settingVisits observingVisits
 ways-open = 0

@@ -23,14 +23,14 @@ use Rattle.netlist.specs.Netlist.{Gate, Statement, gatesOf}
 use Rattle.netlist.specs.Sound.{InRange, DrivenOnce}
 use Rattle.netlist.proofs.Laws.{driven-once}
 use Rattle.calculation.specs.Nodes.{Kind, kindNumber, Purpose, set, observe, lineOf, node}
-use Rattle.calculation.specs.Ways.{cellOf, needs, Role, setting, observing, purposeOf, groupOf, asks, wayOf, waysOf, visit}
+use Rattle.calculation.specs.Ways.{cellOf, needs, Role, setting, observing, purposeOf, wayOf, waysOf, visit}
 use Rattle.calculation.specs.Acceptance.{BothSound}
 use Rattle.calculation.specs.Calculation.{start}
 use Rattle.calculation.proofs.Placing.{Placed, kind-small, node-injective, start-bounded}
 use Rattle.calculation.proofs.Visiting.{Sets, getD-listed, setting-from, sets-has}
 use Rattle.calculation.proofs.Accepting.{purpose-placed}
 use Rattle.trace.specs.Lowered.{settingTrace}
-use Rattle.cheapest.specs.Text.{noRow, noGate, driverOf, lineAt, valueAt}
+use Rattle.cheapest.specs.Text.{noRow, wayRows, noGate, driverOf, lineAt, valueAt}
 use Rattle.trace.proofs.Standing.{visits, most-sweeps, trace-lower, rests, visits-inside}
 
 -- ---- lists
@@ -94,19 +94,19 @@ module _ (cells : List Cell) (ss : List Statement) (sound : BothSound cells ss) 
     pub gate : Gate
     pub listed : List·Memᴰ gate gs
     pub drives : gate .line ≡ l
-    pub within : m .place < length (groupOf k (cellOf cells gate) (setting v))
-    pub taken : m .way ≡ wayOf k gate (cellOf cells gate) (setting v) (getD (groupOf k (cellOf cells gate) (setting v)) (m .place) noRow)
+    pub within : m .place < length (wayRows k cells gate v)
+    pub taken : m .way ≡ wayOf k gate (cellOf cells gate) (setting v) (getD (wayRows k cells gate v) (m .place) noRow)
 
   module _ (l v : ℕ) (placed : Placed (set l v)) (m : Mark) where
     by-role : (g : Gate) → List·Memᴰ g gs → (role : Role) → Sets (cellOf cells g) role → (u : Visit) → u ≡ visit k cells g role → u .node ≡ node k (set l v)
         → m .place < length (u .ways) → wayAt (u .ways) (m .place) ≡ m .way → Chosen l v m
-    unfolding visit purposeOf waysOf wayAt valueOf
+    unfolding visit purposeOf waysOf wayAt valueOf wayRows
     by-role g i (observing j) a u e n w p = absurd a
     by-role g i (setting e) a u s n w p =
         let same : set (g .line) e ≡ set l v =
         node-injective k k (set (g .line) e) (set l v) (purpose-placed sound g i (setting e) (sets-has (cellOf cells g) (setting e) a)) placed (ap (λ (x : Visit). x .node) (sym s) ∙ n) .1 in
         let value : e ≡ v = ap valueOf same in
-        let group = groupOf k (cellOf cells g) (setting v) in
+        let group = wayRows k cells g v in
         let f = wayOf k g (cellOf cells g) (setting v) in
         let ways : u .ways ≡ map f group = rw (← value) (ap (λ (x : Visit). x .ways) s) in
         let short : m .place < length (map f group) = rw (← ways) w in

@@ -20,12 +20,12 @@ use Rattle.cell_library.specs.Cells.{Row, Group, Cell, Column, pin, output}
 use Rattle.cell_library.specs.Cells as C
 use Rattle.netlist.specs.Netlist.{Gate, Statement, gatesOf, isInput}
 use Rattle.calculation.specs.Nodes.{Kind, kindNumber, Purpose, set, node}
-use Rattle.calculation.specs.Ways.{cellOf, pinLine, asked, needs, setting, groupOf, asks, wayOf}
+use Rattle.calculation.specs.Ways.{cellOf, pinLine, asked, needs, setting, groupOf, asks, isWay, wayOf}
 use Rattle.calculation.specs.Acceptance.{BothSound}
 use Rattle.calculation.specs.Calculation.{start}
 use Rattle.calculation.specs.Plans.{inputCost, Plan, Plan.input, Plan.row, Plans, Plans.done, Plans.also, cost, costs}
 use Rattle.calculation.proofs.Placing.{Placed, start-at}
-use Rattle.calculation.proofs.Visiting.{getD-listed, MayName, asks-named}
+use Rattle.calculation.proofs.Visiting.{getD-listed, MayName, asks-named, usable-from}
 use Rattle.calculation.proofs.Accepting.{asked-placed}
 use Rattle.trace.proofs.Standing.{visits}
 use Rattle.cheapest.specs.Text.{
@@ -35,6 +35,7 @@ use Rattle.cheapest.specs.Text.{
   planText,
   plansText,
   noRow,
+  wayRows,
   LoweredBy,
   LastLowered,
   AllLastLowered,
@@ -96,7 +97,7 @@ module _ (cells : List Cell) (ss : List Statement) (sound : BothSound cells ss) 
   columnsCode before depth g (C.observe ∷ cs) = columnsCode before depth g cs
 
   abbrev pub rowOf : (l v : ℕ) (m : Mark) → Chosen cells ss sound k l v m → Row
-  rowOf l v m c = getD (groupOf k (cellOf cells (c .gate)) (setting v)) (m .place) noRow
+  rowOf l v m c = getD (wayRows k cells (c .gate) v) (m .place) noRow
 
   -- What is written of a line at a value, handed a visit and a depth, goes by its mark.
   pub record Codes : Type 0 where
@@ -106,7 +107,7 @@ module _ (cells : List Cell) (ss : List Statement) (sound : BothSound cells ss) 
         → (before depth : ℕ) → suc (m .time) < before
         → code before depth l v
         ≡ nodeLine depth l v (rowText (cellOf cells (c .gate)) (rowOf l v m c))
-        ++ columnsCode (suc (m .time)) (suc depth) (c .gate) (asks (cellOf cells (c .gate)) (setting v) (rowOf l v m c))
+        ++ columnsCode (suc (m .time)) (suc depth) (c .gate) (asks (c .gate) (cellOf cells (c .gate)) (setting v) (rowOf l v m c))
 
   -- The plan of a line at a value, with all that holds of it.
   pub record Shown (l v : ℕ) : Type 0 where
@@ -131,7 +132,7 @@ module _ (cells : List Cell) (ss : List Statement) (sound : BothSound cells ss) 
   tree-row : (l v : ℕ) → Placed (set l v) → (m : Mark) → markAt marks (node k (set l v)) ≡ some m → (g : Gate) → driverOf gs l ≡ g → (ns : List ℕ) → m .way .needs ≡ ns
       → (more depth : ℕ)
       → treeText k cells gs marks (suc more) depth (node k (set l v))
-      ≡ nodeLine depth l v (rowText (cellOf cells g) (getD (groupOf k (cellOf cells g) (setting v)) (m .place) noRow)) ++ joined (treeText k cells gs marks more (suc depth)) ns
+      ≡ nodeLine depth l v (rowText (cellOf cells g) (getD (wayRows k cells g v) (m .place) noRow)) ++ joined (treeText k cells gs marks more (suc depth)) ns
   unfolding treeText nodeText rowAt
   tree-row l v placed m e g d ns n more depth = rw (e, node-line k l v placed, node-value k l v placed, d, n) refl
 
@@ -200,7 +201,7 @@ module _ (cells : List Cell) (ss : List Statement) (sound : BothSound cells ss) 
       r = rowOf l v m c
 
       abbrev cs : List Column
-      cs = asks (cellOf cells (c .gate)) (setting v) r
+      cs = asks (c .gate) (cellOf cells (c .gate)) (setting v) r
 
       needs-are : m .way .needs ≡ needs k (c .gate) cs
       unfolding wayOf
@@ -229,14 +230,21 @@ module _ (cells : List Cell) (ss : List Statement) (sound : BothSound cells ss) 
       below : ShownAll (suc (m .time)) (c .gate) cs
       below =
           all-shown (suc (m .time)) ih (c .gate) (c .listed) cs
-          (λ d i. setting-named (cellOf cells (c .gate) .pins) v d (asks-named (cellOf cells (c .gate)) (setting v) r d i))
+          (λ d i. setting-named (cellOf cells (c .gate) .pins) v d (asks-named (c .gate) (cellOf cells (c .gate)) (setting v) r d i))
           early (rw needs-are at (exactly .1))
+
+      -- The row is one of the group, and a way.
+      among : List·Memᴰ r (groupOf k (cellOf cells (c .gate)) (setting v)) × (isWay (c .gate) (cellOf cells (c .gate)) (setting v) r ≡ true)
+      unfolding wayRows
+      among =
+          usable-from (c .gate) (cellOf cells (c .gate)) (setting v) (groupOf k (cellOf cells (c .gate)) (setting v)) r
+          (getD-listed (wayRows k cells (c .gate) v) (m .place) noRow (c .within))
 
       row-shown : Shown l v
       unfolding LastLowered cost planText treeText visitOf
       row-shown =
           record {
-            plan = row (c .gate) (c .listed) (c .drives) r (getD-listed (groupOf k (cellOf cells (c .gate)) (setting v)) (m .place) noRow (c .within)) (below .plans);
+            plan = row (c .gate) (c .listed) (c .drives) r (among .0) (among .1) (below .plans);
             lowered = (record { mark = m; marked = e; within = c .within; row = refl }, below .lowered);
             costs = ap₂ (λ (a b : ℕ). a + b) (sym depth-is) (below .total ∙ ap (sums xs) (sym needs-are)) ∙ sym (exactly .0);
             tree = by-tree;

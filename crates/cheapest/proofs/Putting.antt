@@ -19,7 +19,7 @@ use Rattle.writer.proofs.Steps.{put-none, put-then}
 use Rattle.gates.specs.Tables.{columnPlaces}
 use Rattle.gates.proofs.Columns.{no-places, lowest-first}
 use Rattle.cheapest.specs.Text.{nodeLine, joined}
-use Rattle.cheapest.specs.Writing.{asWritten, visitAt, depthAt, lastAt, columnsAt, goalAt, goals, goalRow, goalLine, levels, lineBytes, rowBytes}
+use Rattle.cheapest.specs.Writing.{visitAt, rowAt, lastAt, columnsAt, goalAt, goals, goalRow, goalLine, levels, lineBytes, rowBytes}
 
 -- ---- a cursor past the buffer's end
 
@@ -100,14 +100,14 @@ module _ (marks netlist : List ℕ) where
   -- ---- what the two writers leave
 
   module _ (before depth goal : ℕ) {at next end : ℕ} {out out₁ out₂ : List ℕ} where
-    pub line-put : (visit deep columns last : ℕ) → visit ≡ visitAt marks goal → deep ≡ depthAt marks goal → columns ≡ columnsAt marks goal → last ≡ lastAt marks goal → visit < before
-        → Put at (nodeLine depth (goal / 2) (goal % 2) (goalRow visit (asWritten last deep columns))) out out₁ next
+    pub line-put : (visit row columns last : ℕ) → visit ≡ visitAt marks goal → row ≡ rowAt marks goal → columns ≡ columnsAt marks goal → last ≡ lastAt marks goal → visit < before
+        → Put at (nodeLine depth (goal / 2) (goal % 2) (goalRow visit row)) out out₁ next
         → Put next (rowBytes marks netlist visit (depth + 1) last columns) out₁ out₂ end
         → Put at (lineBytes marks netlist before depth goal) out out₂ end
     unfolding goalLine
-    line-put visit deep columns last v d c l below p q =
+    line-put visit row columns last v d c l below p q =
         rw (line-some before depth goal (rw v at below))
-        (put-then (rw (v, l, d, c) at p) (rw (v, c, l, add-one depth) at q))
+        (put-then (rw (v, d) at p) (rw (v, c, l, add-one depth) at q))
 
   -- Whatever the rest of a row puts from here, the whole row puts from its start.
   abbrev pub Puts : ℕ → ℕ → ℕ → ℕ → List ℕ → ℕ → ℕ → ℕ → List ℕ → Type 0

@@ -1,19 +1,21 @@
 -- What the two writers put from the tables that `trace` and the readers leave is the text of the plan.
 -- Assumes nothing.
+use mathlib.Core.Bool.{Bool, true, false, _&&_}
 use mathlib.Core.List.{List, [], _∷_, _++_, List·Memᴰ, List·Memᴰ·head, List·Memᴰ·tail, map, append-nil}
 use mathlib.Core.Option.{Option, none, some}
 use mathlib.Core.Path.{_≡_, refl, sym, ap, ap₂, subst, _∙_}
 use Prim.Native.Nat.{ℕ, zero, suc, _+_, _*_, _-_, _/_, _%_, _^_, _≤_, _<_}
+use native.Mathlib.Nat.{le-trans, pow-le-pow-right}
 use native.Mathlib.Omega.{arith}
-use borrow.Author.Tests.{ne-eqb, lt-ltb, le-ltb}
+use borrow.Author.Tests.{ne-eqb}
 use lib.ListN.{length, getD, take, drop}
 use lib.Seq.{getD-take, getD-drop}
 use Rattle.sizes.specs.Sizes as Size
-use Rattle.sizes.specs.Places.{headingPlace, gatePlace, settingPlace, markPlace}
+use Rattle.sizes.specs.Places.{headingPlace, groupPlace, gatePlace, settingPlace, markPlace}
 use Rattle.reading.specs.Choice.{pick}
 use Rattle.table.proofs.Places.{getD-fitted}
 use Rattle.plans.specs.Trace.{Mark, markAt}
-use Rattle.cell_library.specs.Cells.{Heading, plain, deep, depthBits, Row, rowValue, Cell, Column, pin, output, settingColumns, named}
+use Rattle.cell_library.specs.Cells.{Heading, plain, deep, deepest, depthBits, Row, rowValue, Group, Cell, Column, pin, output, settingColumns, named}
 use Rattle.cell_library.specs.Cells as C
 use Rattle.cell_library.specs.Library.{columnCount}
 use Rattle.cell_library.specs.Layout.{libraryWords, headingNumber}
@@ -24,7 +26,7 @@ use Rattle.netlist.proofs.Laws.{driven-once, gate-sound}
 use Rattle.cell_library.proofs.Places.{cell-heading}
 use Rattle.netlist.proofs.Places.{netlist-count}
 use Rattle.calculation.specs.Nodes.{Kind, combinational, sequential, kindNumber, set, node}
-use Rattle.calculation.specs.Ways.{noCell, cellOf, pinLine, setting, groupOf, groupIndex, columnsOf, wordOf, asks}
+use Rattle.calculation.specs.Ways.{noCell, cellOf, pinLine, Role, setting, groupOf, groupIndex, wordOf, bothValues, oneWire, asks, isWay, usable}
 use Rattle.calculation.specs.Acceptance.{BothSound}
 use Rattle.calculation.specs.Calculation.{analysed}
 use Rattle.calculation.proofs.Placing.{Placed, node-inside}
@@ -34,13 +36,14 @@ use Rattle.plans.proofs.Laws.{at-getD}
 use Rattle.cost.specs.Cost.{most}
 use Rattle.trace.proofs.Standing.{reported}
 use Rattle.calculation.proofs.Visiting.{getD-listed, MayName, asks-named}
-use Rattle.calculation.proofs.Accepting.{role-row}
-use Rattle.gates.specs.Tables.{gateCell, gateLines, byRole, columnPlaces}
+use Rattle.gates.specs.Tables.{readRow, hasWay, gateCell, gatePins, gateLines, byRole, columnPlaces, visitGroup, gateTied}
+use Rattle.wires.specs.Wires.{onceColumns, sharesLine}
+use Rattle.gates.proofs.Wiring.{way-told, asking-few, asking-named}
 use Rattle.gates.proofs.Naming.{set-node, linesOf, setting-named}
 use Rattle.gates.proofs.Bridge as B
-use Rattle.trace.specs.Marks.{deepMark, marked, Noted, Unnoted, NotedAs, AllNoted}
-use Rattle.cheapest.specs.Text.{nodeLine, rowText, inputText, noRow, driverOf, joined, visitOf, cheapestText}
-use Rattle.cheapest.specs.Writing.{asWritten, visitAt, depthAt, columnsAt, lastAt, goalAt, goals, goalRow, goalLine, lineBytes, rowBytes}
+use Rattle.trace.specs.Marks.{rowPlace, stepRow, wayRow, gateRow, asWritten, askingColumns, Noted, Unnoted, NotedAs, AllNoted}
+use Rattle.cheapest.specs.Text.{nodeLine, rowText, inputText, noRow, wayRows, driverOf, joined, visitOf, cheapestText}
+use Rattle.cheapest.specs.Writing.{visitAt, rowAt, columnsAt, lastAt, goalAt, goals, goalRow, goalLine, lineBytes, rowBytes}
 use Rattle.cheapest.proofs.Choosing.{driver-is, trace, Chosen, driver-chosen}
 use Rattle.writer.specs.Put.{Put}
 use Rattle.sweep.specs.Ready.{Holds}
@@ -61,6 +64,41 @@ setting-width : (k : Kind) (v n : ℕ) → columnCount (wordOf k (setting v)) n 
 unfolding columnCount wordOf
 setting-width combinational v n = refl
 setting-width sequential v n = refl
+
+-- Which row of the table a way is: the one that is counted so among the rows that are ways.
+module _ (g : Gate) (c : Cell) (role : Role) (read : ℕ → Option ℕ) (library : List ℕ) (d : Row) where
+  way-row : (rs : Group) (place j : ℕ)
+      → ((i : ℕ) → i < length rs → getD library (place + Size.rowWords * i + 1) 0 ≡ (getD rs i d) .columns)
+      → ((r : Row) → List·Memᴰ r rs → hasWay (read (r .columns)) ≡ isWay g c role r)
+      → j < length (usable g c role rs)
+      → (wayRow read library (length rs) place j < length rs) × (getD rs (wayRow read library (length rs) place j) d ≡ getD (usable g c role rs) j d)
+  unfolding wayRow usable hasWay stepRow pick
+  way-row [] place j q p h = absurd (omega arith)
+  way-row (r ∷ rs) place j q p h =
+      let z : place + Size.rowWords * 0 ≡ place = omega arith in
+      let first : getD library (place + 1) 0 ≡ r .columns = rw z at (q 0 (omega arith)) in
+      rw first
+      (side (wayRow read library (length rs) (place + Size.rowWords)) (usable g c role rs) (read (r .columns)) (isWay g c role r) (p r (List·Memᴰ·head refl)) j h
+      (λ i f.
+      way-row rs (place + Size.rowWords) i (λ x b. rw (next x) (q (suc x) (omega arith))) (λ y m. p y (List·Memᴰ·tail m)) f))
+    where
+      next : (i : ℕ) → place + Size.rowWords + Size.rowWords * i ≡ place + Size.rowWords * suc i
+      next i = omega arith
+
+      side : (later : ℕ → ℕ) (ways : Group) (o : Option ℕ) (b : Bool) → hasWay o ≡ b → (i : ℕ) → i < length (pick b (r ∷ ways) ways)
+          → ((x : ℕ) → x < length ways → (later x < length rs) × (getD rs (later x) d ≡ getD ways x d))
+          → (stepRow o i later < suc (length rs)) × (getD (r ∷ rs) (stepRow o i later) d ≡ getD (pick b (r ∷ ways) ways) i d)
+      side later ways none true e i h f = let z : _≡_ {A = ℕ} 0 1 = cc in absurd (omega arith)
+      side later ways none false e i h f = (omega (arith, f i h .0), f i h .1)
+      side later ways (some x) true e zero h f = (omega arith, refl)
+      side later ways (some x) true e (suc i) h f = (omega (arith, f i (omega arith) .0), f i (omega arith) .1)
+      side later ways (some x) false e i h f = let z : _≡_ {A = ℕ} 0 1 = cc in absurd (omega arith)
+
+-- A row as it is written, within 32 bits.
+told : (h : Heading) (depth columns : ℕ) → depth ≤ deepest → columns < 65536 → asWritten (headingNumber h) depth columns ≡ rowValue h (record { depth = depth; columns = columns })
+unfolding asWritten headingNumber rowValue depthBits pick
+told plain depth columns d c = omega arith
+told deep depth columns d c = omega arith
 
 module _ (cells : List Cell) (ss : List Statement) (sound : BothSound cells ss) (k : Kind) (behind past table : List ℕ) where
   abbrev library : List ℕ
@@ -127,22 +165,62 @@ module _ (cells : List Cell) (ss : List Statement) (sound : BothSound cells ss) 
       abbrev n : ℕ
       n = cellOf cells gate .pins
 
-      within : m .place < length (groupOf k (cellOf cells gate) (setting v))
+      within : m .place < length (wayRows k cells gate v)
       within = rw same-gate (c .within)
 
       abbrev r : Row
-      r = getD (groupOf k (cellOf cells gate) (setting v)) (m .place) noRow
+      r = getD (wayRows k cells gate v) (m .place) noRow
 
-      same-row : getD (groupOf k (cellOf cells gate) (setting v)) (m .place) B.noRow ≡ r
-      same-row = any-default (groupOf k (cellOf cells gate) (setting v)) (m .place) B.noRow noRow within
+      abbrev rows : Group
+      rows = groupOf k (cellOf cells gate) (setting v)
 
-      depth-word : depthAt table (l * 2 + v) ≡ r .depth
+      pins-few : n ≤ Size.pins
+      pins-few = B.pins-most cells ss sound behind past i inside
+
+      -- ---- which row of the table it is
+
+      few-columns : (x : Row) → List·Memᴰ x rows → x .columns < 2 ^ (2 * n)
+      few-columns x q = rw (← setting-width k v n) (B.row-sound cells ss sound behind past i inside k (setting v) (placed .1) x q .within)
+
+      abbrev lone : (x : Row) → List·Memᴰ x rows → oneWire (cellOf cells gate) ≡ true → bothValues n n (x .columns) ≡ false
+      lone x q = B.lone cells ss sound behind past i inside k (setting v) (placed .1) x q
+
+      abbrev read : ℕ → Option ℕ
+      read = readRow (gateTied library netlist i) (gateLines netlist i) (gatePins library netlist i)
+
+      ways-told : (x : Row) → List·Memᴰ x rows → hasWay (read (x .columns)) ≡ isWay gate (cellOf cells gate) (setting v) x
+      ways-told x q =
+          rw (B.tied-is cells ss sound behind past i inside, B.lines-are cells ss sound behind past i inside, B.pins-number cells ss sound behind past i inside)
+          (way-told gate (cellOf cells gate) v pins-few x (few-columns x q) (lone x q))
+
+      abbrev found : ℕ
+      found = gateRow (kindNumber k) library netlist i v (m .place)
+
+      found-is : (found < length rows) × (getD rows found noRow ≡ r)
+      unfolding groupIndex wayRows
+      found-is =
+          rw (B.group-number cells ss sound behind past i inside k (setting v) (placed .1))
+          (way-row gate (cellOf cells gate) (setting v) read library noRow rows
+          (groupPlace (gateCell netlist i) (visitGroup 0 (kindNumber k) v) + 1) (m .place)
+          (λ x b. B.columns-number cells ss sound behind past i inside k (setting v) (placed .1) x b ∙ ap (λ (y : Row). y .columns) (any-default rows x B.noRow noRow b))
+          ways-told within)
+
+      same-row : getD rows found B.noRow ≡ r
+      same-row = any-default rows found B.noRow noRow (found-is .0) ∙ found-is .1
+
+      listed : List·Memᴰ r rows
+      listed = subst (λ (x : Row). List·Memᴰ x rows) (found-is .1) (getD-listed rows found noRow (found-is .0))
+
+      abbrev place : ℕ
+      place = rowPlace (kindNumber k) netlist i v found
+
+      depth-word : getD library place 0 ≡ r .depth
       unfolding groupIndex
-      depth-word = nt .depth ∙ B.depth-number cells ss sound behind past i inside k (setting v) (placed .1) (m .place) within ∙ ap (λ (x : Row). x .depth) same-row
+      depth-word = B.depth-number cells ss sound behind past i inside k (setting v) (placed .1) found (found-is .0) ∙ ap (λ (x : Row). x .depth) same-row
 
-      columns-word : columnsAt table (l * 2 + v) ≡ r .columns
+      columns-word : getD library (place + 1) 0 ≡ r .columns
       unfolding groupIndex
-      columns-word = nt .columns ∙ B.columns-number cells ss sound behind past i inside k (setting v) (placed .1) (m .place) within ∙ ap (λ (x : Row). x .columns) same-row
+      columns-word = B.columns-number cells ss sound behind past i inside k (setting v) (placed .1) found (found-is .0) ∙ ap (λ (x : Row). x .columns) same-row
 
       heading-word : getD library (headingPlace (gateCell netlist i)) 0 ≡ headingNumber (cellOf cells gate .heading)
       unfolding cellOf
@@ -150,40 +228,30 @@ module _ (cells : List Cell) (ss : List Statement) (sound : BothSound cells ss) 
           rw (B.cell-number cells ss sound behind past i inside)
           (cell-heading noCell cells behind (sound .library .few) (gate .cell) (gate-sound cells ss (sound .netlist) gate (getD-listed gs i B.noGate inside) .known))
 
-      last-word : lastAt table (l * 2 + v) ≡ marked (gatePlace i + 1 + n) (headingNumber (cellOf cells gate .heading))
-      last-word = nt .last ∙ ap₂ (λ (x y : ℕ). marked (gatePlace i + 1 + x) y) (B.pins-number cells ss sound behind past i inside) heading-word
+      last-place : lastAt table (l * 2 + v) ≡ gatePlace i + 1 + n
+      last-place = nt .last ∙ ap (λ (x : ℕ). gatePlace i + 1 + x) (B.pins-number cells ss sound behind past i inside)
 
-      pins-few : n ≤ Size.pins
-      pins-few = B.pins-most cells ss sound behind past i inside
+      columns-few : r .columns < 2 ^ (2 * n)
+      columns-few = few-columns r listed
 
-      low : gatePlace i + 1 + n < deepMark
-      low = omega (arith, inside, sound .netlist .few, pins-few)
-
-      -- The heading and the place, told apart.
-      told : (h : Heading) (last : ℕ) → last < deepMark → (marked last (headingNumber h) % deepMark ≡ last)
-          × ((depth columns : ℕ) → asWritten (marked last (headingNumber h)) depth columns ≡ rowValue h (record { depth = depth; columns = columns }))
-      unfolding marked headingNumber asWritten rowValue depthBits pick
-      told plain last h = (omega arith, λ depth columns. rw (lt-ltb last deepMark h) refl)
-      told deep last h = (omega arith, λ depth columns. rw (le-ltb (last + deepMark) deepMark (omega arith)) refl)
-
-      last-place : lastAt table (l * 2 + v) % deepMark ≡ gatePlace i + 1 + n
-      last-place = ap (λ (x : ℕ). x % deepMark) last-word ∙ told (cellOf cells gate .heading) (gatePlace i + 1 + n) low .0
-
-      row-word : asWritten (lastAt table (l * 2 + v)) (r .depth) (r .columns) ≡ rowValue (cellOf cells gate .heading) r
-      row-word = ap (λ (x : ℕ). asWritten x (r .depth) (r .columns)) last-word ∙ told (cellOf cells gate .heading) (gatePlace i + 1 + n) low .1 (r .depth) (r .columns)
+      row-word : rowAt table (l * 2 + v) ≡ rowValue (cellOf cells gate .heading) r
+      row-word =
+          let few : 2 * n ≤ 16 = omega (arith, pins-few) in
+          let most : 2 ^ (2 * n) ≤ 2 ^ 16 = pow-le-pow-right {n = 2} (omega arith) few in
+          nt .row
+          ∙ rw (heading-word, depth-word, columns-word)
+          (told (cellOf cells gate .heading) (r .depth) (r .columns) (B.row-sound cells ss sound behind past i inside k (setting v) (placed .1) r listed .depth)
+          (le-trans columns-few most))
 
       -- ---- the lines that its columns name
-
-      few : n ≤ Size.pins
-      few = B.pins-most cells ss sound behind past i inside
 
       pin-word : (j : ℕ) → j < n → getD netlist (gatePlace i + 1 + suc j) 0 ≡ pinLine gate (suc j)
       unfolding gateLines pinLine
       pin-word j h =
           let z : suc j - 1 ≡ j = omega arith in
-          sym (getD-take Size.gateLines (drop (gatePlace i + 1) netlist) (suc j) 0 (omega (arith, few)) ∙ getD-drop (gatePlace i + 1) netlist (suc j) 0)
+          sym (getD-take Size.gateLines (drop (gatePlace i + 1) netlist) (suc j) 0 (omega (arith, pins-few)) ∙ getD-drop (gatePlace i + 1) netlist (suc j) 0)
           ∙ ap (λ (ls : List ℕ). getD ls (suc j) 0) (B.lines-are cells ss sound behind past i inside)
-          ∙ rw z (getD-fitted 0 Size.pins (gate .pins) j (omega (arith, few)))
+          ∙ rw z (getD-fitted 0 Size.pins (gate .pins) j (omega (arith, pins-few)))
 
       -- Each column as a goal.
       value : Column → ℕ
@@ -198,14 +266,22 @@ module _ (cells : List Cell) (ss : List Statement) (sound : BothSound cells ss) 
           let bit : 1 - (2 * (n - suc j) + (1 - w)) % 2 ≡ w = omega arith in
           rw (last-place, back, bit, pin-word j h) (omega arith)
 
-      columns-few : r .columns < 2 ^ (2 * n)
-      columns-few =
-          rw (← setting-width k v n)
-          (role-row sound gate (getD-listed gs i B.noGate inside) k (setting v) (placed .1) r (getD-listed (groupOf k (cellOf cells gate) (setting v)) (m .place) noRow within) .within)
+      -- The columns by which it asks.
+      abbrev asking : ℕ
+      asking = pick (sharesLine (linesOf gate) n && oneWire (cellOf cells gate)) (onceColumns (linesOf gate) n (r .columns)) (r .columns)
 
-      goals-are : goals netlist (lastAt table (l * 2 + v)) (r .columns) ≡ map value (named n (settingColumns n) (r .columns))
+      asking-word : columnsAt table (l * 2 + v) ≡ asking
+      unfolding askingColumns
+      asking-word =
+          nt .columns
+          ∙ rw (columns-word, B.tied-is cells ss sound behind past i inside, B.lines-are cells ss sound behind past i inside, B.pins-number cells ss sound behind past i inside) refl
+
+      goals-are : goals netlist (lastAt table (l * 2 + v)) asking ≡ map value (asks gate (cellOf cells gate) (setting v) r)
       unfolding goals value
-      goals-are = setting-named n (goalAt netlist (lastAt table (l * 2 + v))) value pin-goal (λ w b. refl) refl (r .columns) few columns-few
+      goals-are =
+          setting-named n (goalAt netlist (lastAt table (l * 2 + v))) value pin-goal (λ w b. refl) refl asking pins-few
+          (asking-few gate (cellOf cells gate) v pins-few r columns-few (lone r listed) _)
+          ∙ ap (map value) (asking-named gate (cellOf cells gate) v pins-few r columns-few (lone r listed))
 
       joined-columns : (before depth : ℕ) (cs : List Column) → ((d : Column) → List·Memᴰ d cs → MayName n (setting v) d)
           → joined (lineBytes table netlist before depth) (map value cs) ≡ P.columnsCode cells ss sound k code before depth gate cs
@@ -217,32 +293,32 @@ module _ (cells : List Cell) (ss : List Statement) (sound : BothSound cells ss) 
       joined-columns before depth (C.observe ∷ cs) h = absurd (h C.observe (List·Memᴰ·head refl))
 
       row-code : (before depth : ℕ) → rowBytes table netlist before depth (lastAt table (l * 2 + v)) (columnsAt table (l * 2 + v))
-          ≡ P.columnsCode cells ss sound k code before depth gate (asks (cellOf cells gate) (setting v) r)
-      unfolding rowBytes asks columnsOf
+          ≡ P.columnsCode cells ss sound k code before depth gate (asks gate (cellOf cells gate) (setting v) r)
+      unfolding rowBytes
       row-code before depth =
-          rw (columns-word, goals-are)
-          (joined-columns before depth (named n (settingColumns n) (r .columns)) (λ d q. asks-named (cellOf cells gate) (setting v) r d q))
+          rw (asking-word, goals-are)
+          (joined-columns before depth (asks gate (cellOf cells gate) (setting v) r) (λ d q. asks-named gate (cellOf cells gate) (setting v) r d q))
 
       marked-gate : (before depth : ℕ) → suc (m .time) < before
-          → code before depth l v ≡ nodeLine depth l v (rowText (cellOf cells gate) r) ++ P.columnsCode cells ss sound k code (suc (m .time)) (suc depth) gate (asks (cellOf cells gate) (setting v) r)
+          → code before depth l v ≡ nodeLine depth l v (rowText (cellOf cells gate) r) ++ P.columnsCode cells ss sound k code (suc (m .time)) (suc depth) gate (asks gate (cellOf cells gate) (setting v) r)
       unfolding code goalLine goalRow pick rowText
       marked-gate before depth h =
           let goal = l * 2 + v in
           let line : goalLine table depth goal ≡ nodeLine depth l v (rowText (cellOf cells gate) r) =
-          rw (nt .visit, ne-eqb (suc (m .time)) 0 (λ q. omega arith), goal-line l v (placed .1), goal-value l v (placed .1), depth-word, columns-word, row-word) refl in
+          rw (nt .visit, ne-eqb (suc (m .time)) 0 (λ q. omega arith), goal-line l v (placed .1), goal-value l v (placed .1), row-word) refl in
           let rest : rowBytes table netlist (visitAt table goal) (suc depth) (lastAt table goal) (columnsAt table goal)
-          ≡ P.columnsCode cells ss sound k code (suc (m .time)) (suc depth) gate (asks (cellOf cells gate) (setting v) r) =
+          ≡ P.columnsCode cells ss sound k code (suc (m .time)) (suc depth) gate (asks gate (cellOf cells gate) (setting v) r) =
           ap (λ (x : ℕ). rowBytes table netlist x (suc depth) (lastAt table goal) (columnsAt table goal)) (nt .visit) ∙ row-code (suc (m .time)) (suc depth) in
           line-some table netlist before depth goal (omega (arith, nt .visit)) ∙ ap₂ (λ (a b : List ℕ). a ++ b) line rest
 
       marked-code : (before depth : ℕ) → suc (m .time) < before
           → code before depth l v
           ≡ nodeLine depth l v (rowText (cellOf cells (c .gate)) (P.rowOf cells ss sound k code l v m c))
-          ++ P.columnsCode cells ss sound k code (suc (m .time)) (suc depth) (c .gate) (asks (cellOf cells (c .gate)) (setting v) (P.rowOf cells ss sound k code l v m c))
+          ++ P.columnsCode cells ss sound k code (suc (m .time)) (suc depth) (c .gate) (asks (c .gate) (cellOf cells (c .gate)) (setting v) (P.rowOf cells ss sound k code l v m c))
       marked-code before depth h =
           subst (λ (g : Gate). code before depth l v
-          ≡ nodeLine depth l v (rowText (cellOf cells g) (getD (groupOf k (cellOf cells g) (setting v)) (m .place) noRow))
-          ++ P.columnsCode cells ss sound k code (suc (m .time)) (suc depth) g (asks (cellOf cells g) (setting v) (getD (groupOf k (cellOf cells g) (setting v)) (m .place) noRow)))
+          ≡ nodeLine depth l v (rowText (cellOf cells g) (getD (wayRows k cells g v) (m .place) noRow))
+          ++ P.columnsCode cells ss sound k code (suc (m .time)) (suc depth) g (asks g (cellOf cells g) (setting v) (getD (wayRows k cells g v) (m .place) noRow)))
           same-gate (marked-gate before depth h)
 
     pub codes : P.Codes cells ss sound k code

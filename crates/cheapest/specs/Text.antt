@@ -15,7 +15,7 @@ use Rattle.plans.specs.Trace.{Mark, Trace, markAt}
 use Rattle.cell_library.specs.Cells.{Row, rowValue, Group, Cell}
 use Rattle.netlist.specs.Netlist.{Gate, Statement, gatesOf}
 use Rattle.calculation.specs.Nodes.{Kind, Purpose, set, node}
-use Rattle.calculation.specs.Ways.{cellOf, setting, groupOf}
+use Rattle.calculation.specs.Ways.{cellOf, setting, groupOf, usable}
 use Rattle.calculation.specs.Plans.{Plan, Plan.input, Plan.row, Plan.output, Plan.through, Plans, Plans.done, Plans.also}
 use Rattle.trace.specs.Lowered.{settingTrace, lowered-open}
 
@@ -37,7 +37,7 @@ module _ {cells : List Cell} {ss : List Statement} {k : Kind} where
     -- "parents before children", "the root has depth 0". A plan that sets a line has none that observes one.
     pub planText : {p : Purpose} → ℕ → Plan cells ss k p → List ℕ
     planText depth (input {l = l} {v = v} h e) = nodeLine depth l v inputText
-    planText depth (row {l = l} {e = e} g m q r i ps) = nodeLine depth l e (rowText (cellOf cells g) r) ++ plansText (suc depth) ps
+    planText depth (row {l = l} {e = e} g m q r i w ps) = nodeLine depth l e (rowText (cellOf cells g) r) ++ plansText (suc depth) ps
     planText depth (output e) = []
     planText depth (through g m i a b q r j ps) = []
 
@@ -52,6 +52,10 @@ module _ {cells : List Cell} {ss : List Statement} {k : Kind} where
 unfoldable pub noRow : Row
 noRow = record { depth = 0; columns = 0 }
 
+-- The rows by which a gate's output is set to a value: those of its group that are ways there (document 02, K7).
+unfoldable pub wayRows : Kind → List Cell → Gate → ℕ → Group
+wayRows k cells g v = usable g (cellOf cells g) (setting v) (groupOf k (cellOf cells g) (setting v))
+
 -- "the row is the one by which the sweeps last lowered the number": the mark of the line at the value tells it.
 pub record LoweredBy (marks : List (Option Mark)) (n : ℕ) (group : Group) (r : Row) : Type 0 where
   pub mark : Mark
@@ -64,8 +68,7 @@ module _ {cells : List Cell} {ss : List Statement} {k : Kind} (marks : List (Opt
     -- Every row of the plan is that, and no input's number was ever lowered.
     pub LastLowered : {p : Purpose} → Plan cells ss k p → Type 0
     LastLowered (input {l = l} {v = v} h e) = markAt marks (node k (set l v)) ≡ none
-    LastLowered (row {l = l} {e = e} g m q r i ps) =
-        LoweredBy marks (node k (set l e)) (groupOf k (cellOf cells g) (setting e)) r × AllLastLowered ps
+    LastLowered (row {l = l} {e = e} g m q r i w ps) = LoweredBy marks (node k (set l e)) (wayRows k cells g e) r × AllLastLowered ps
     LastLowered (output e) = ⊥
     LastLowered (through g m i a b q r j ps) = ⊥
 
@@ -101,11 +104,9 @@ visitOf none = 0
 visitOf (some m) = suc (m .time)
 
 module _ (k : Kind) (cells : List Cell) (gs : List Gate) (marks : List (Option Mark)) where
-  -- The row at a place of the group of the gate that drives a line, as it is written.
+  -- The row at a place among those that are ways at the gate that drives a line, as it is written.
   unfoldable pub rowAt : ℕ → ℕ → ℕ → List ℕ
-  rowAt l v place =
-      let c = cellOf cells (driverOf gs l) in
-      rowText c (getD (groupOf k c (setting v)) place noRow)
+  rowAt l v place = rowText (cellOf cells (driverOf gs l)) (getD (wayRows k cells (driverOf gs l) v) place noRow)
 
   unfoldable pub nodeText : ℕ → ℕ → Option Mark → (ℕ → List ℕ) → List ℕ
   nodeText depth n none below = nodeLine depth (lineAt n) (valueAt n) inputText
@@ -127,5 +128,5 @@ cheapestText k cells ss l v =
 
 -- Opens the page's definitions, where a figure computes with them.
 unfoldable pub text-open : ℕ
-unfolding decimal-open octal-open lowered-open nodeLine rowText inputText bytes noRow noGate driverOf joined visitOf rowAt nodeText treeText cheapestText
+unfolding decimal-open octal-open lowered-open nodeLine rowText inputText bytes noRow wayRows noGate driverOf joined visitOf rowAt nodeText treeText cheapestText
 text-open = 0

@@ -9,15 +9,14 @@ use Rattle.sizes.specs.Sizes as Size
 use Rattle.reading.specs.Choice.{pick}
 use Rattle.writer.specs.Octal.{octalBytes}
 use Rattle.gates.specs.Tables.{columnPlaces}
-use Rattle.trace.specs.Marks.{deepMark}
 use Rattle.cheapest.specs.Text.{nodeLine, inputText, joined}
 
 module _ (marks : List ℕ) where
   abbrev pub visitAt : ℕ → ℕ
   visitAt goal = getD marks (goal * Size.markWords) 0
 
-  abbrev pub depthAt : ℕ → ℕ
-  depthAt goal = getD marks (goal * Size.markWords + 1) 0
+  abbrev pub rowAt : ℕ → ℕ
+  rowAt goal = getD marks (goal * Size.markWords + 1) 0
 
   abbrev pub columnsAt : ℕ → ℕ
   columnsAt goal = getD marks (goal * Size.markWords + 2) 0
@@ -28,22 +27,18 @@ module _ (marks : List ℕ) where
 module _ (netlist : List ℕ) where
   -- What a column asks for: the lines from the last pin's back, each at 1 and then at 0.
   unfoldable pub goalAt : ℕ → ℕ → ℕ
-  goalAt last j = 2 * getD netlist (last % deepMark - j / 2) 0 + (1 - j % 2)
+  goalAt last j = 2 * getD netlist (last - j / 2) 0 + (1 - j % 2)
 
   -- "each line it names, lowest column first"
   unfoldable pub goals : ℕ → ℕ → List ℕ
   goals last columns = columnPlaces (goalAt last) 32 0 columns
-
--- A row as its entry writes it: by the mark the entry begins with `Name`, or with `Name3`.
-unfoldable pub asWritten : ℕ → ℕ → ℕ → ℕ
-asWritten last depth columns = pick (ltb last deepMark) (columns * 2 + depth) (columns * 8 + depth)
 
 unfoldable pub goalRow : ℕ → ℕ → List ℕ
 goalRow visit row = pick (eqb visit 0) inputText (octalBytes row)
 
 unfoldable pub goalLine : List ℕ → ℕ → ℕ → List ℕ
 goalLine marks depth goal =
-    nodeLine depth (goal / 2) (goal % 2) (goalRow (visitAt marks goal) (asWritten (lastAt marks goal) (depthAt marks goal) (columnsAt marks goal)))
+    nodeLine depth (goal / 2) (goal % 2) (goalRow (visitAt marks goal) (rowAt marks goal))
 
 module _ (marks netlist : List ℕ) where
   -- Of a goal that was last lowered at a visit below `before`, of at most so many levels; of any other nothing.

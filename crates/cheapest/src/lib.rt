@@ -6,7 +6,6 @@
 // 01's own sense and that it costs the number reported; specs/Writing.antt what the two writers put from
 // the tables.
 use table::word;
-use trace::DEEP_MARK;
 use trace::trace;
 use writer::put_byte;
 use writer::put_bytes;
@@ -18,36 +17,25 @@ ghost use lib.Count.{trailingZeros};
 ghost use Rattle.writer.specs.Put.{Put};
 ghost use Rattle.cheapest.specs.Asked.{Askable, PutWhere};
 ghost use Rattle.cheapest.specs.Text.{nodeLine};
-ghost use Rattle.cheapest.specs.Writing.{asWritten, goalAt, goalRow, lineBytes, rowBytes};
+ghost use Rattle.cheapest.specs.Writing.{goalAt, goalRow, lineBytes, rowBytes};
 
 const COMMA: u8 = 44;
 
 const LINE_END: u8 = 10;
 
 // "The row is octal as its entry writes it, or `input`": no visit lowered an input's number.
-fn put_row(out: &mut [u8], at: usize, visit: u32, row: u64) -> usize
+fn put_row(out: &mut [u8], at: usize, visit: u32, row: u32) -> usize
     ensures { λ r. ⌜ Put at (goalRow visit row) (now (out .entry)) (now (out .exit)) r ⌝ }
 {
     if visit == 0 {
         put_bytes(out, at, b"input")
     } else {
-        put_octal(out, at, row)
-    }
-}
-
-// A row as its entry writes it, by the mark's heading.
-fn as_written(last: u32, depth: u32, columns: u32) -> u64
-    ensures { λ r. ⌜ r ≡ asWritten last depth columns ⌝ }
-{
-    if last < DEEP_MARK {
-        columns as u64 * 2 + depth as u64
-    } else {
-        columns as u64 * 8 + depth as u64
+        put_octal(out, at, row as u64)
     }
 }
 
 // "depth in tree,line,value,row"
-fn put_node(out: &mut [u8], at: usize, depth: u32, goal: usize, visit: u32, row: u64) -> usize
+fn put_node(out: &mut [u8], at: usize, depth: u32, goal: usize, visit: u32, row: u32) -> usize
     requires { ⌜ goal < 2 ^ 33 ⌝ }
     ensures { λ r.
         ⌜ Put at (nodeLine depth (goal / 2) (goal % 2) (goalRow visit row)) (now (out .entry))
@@ -87,7 +75,7 @@ fn pin_place(last: u32, column: u32) -> usize
 fn goal_at(netlist: &[u32], last: u32, column: u32) -> usize
     ensures { λ r. ⌜ (r ≡ goalAt (now (netlist .entry)) last column) × (r < 2 ^ 33) ⌝ }
 {
-    let line = word(netlist, pin_place(last % DEEP_MARK, column));
+    let line = word(netlist, pin_place(last, column));
     2 * line as usize + (1 - column % 2) as usize
 }
 
@@ -118,7 +106,7 @@ fn write_line(
     }
     let columns = word(marks, mark + 2);
     let last = word(marks, mark + 3);
-    let row = as_written(last, word(marks, mark + 1), columns);
+    let row = word(marks, mark + 1);
     let next = put_node(out, at, depth, goal, visit, row);
     write_row(out, next, marks, netlist, depth + 1, visit, columns, last)
 }

@@ -31,3 +31,12 @@ c1130Deep = "Name3,C1130,3" ∷ "CC,201,M,41,M,11,521" ∷ "CO,4121,4421,4501" �
 -- A cell that hands its pin's value on at depth 7.
 abbrev pub delay : List String
 delay = "Name3,DELAY,1" ∷ "CC,27,17" ∷ "CO,207" ∷ "SC,27,17" ∷ "SO,207" ∷ "End" ∷ []
+
+-- Of document 02, K7: a cell that names both values of a pin in one row, 7, which is never its cheapest; and XOR2, in the order
+-- in which K6 prints it.
+abbrev pub both2 : List String
+both2 = "Name,BOTH2,2" ∷ "CC,21,M,7,M,5,13" ∷ "CO,203,211" ∷ "SC,20,M,4,12" ∷ "SO,202,210" ∷ "End" ∷ []
+
+abbrev pub xor2 : List String
+xor2 =
+    "Name,XOR2,2" ∷ "CC,25,M,13,23,M,15" ∷ "CO,205,M,203,221,M,211" ∷ "SC,24,M,12,22,M,14" ∷ "SO,204,M,202,220,M,210" ∷ "End" ∷ []

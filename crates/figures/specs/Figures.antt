@@ -1,4 +1,4 @@
--- Document 01's figures that are marked P: whole texts in, whole report out, by computation over the definitions. They are one
+-- Document 01's figures that are marked P, as document 02 changes them, and document 02's own: whole texts in, whole report out, by computation over the definitions. They are one
 -- theorem over a list, `figures-hold`.
 -- Assumes nothing.
 use mathlib.Core.List.{List, [], _∷_, _++_}
@@ -17,7 +17,7 @@ use Rattle.calculation.specs.Calculation.{calculation-open}
 use Rattle.plans.specs.Sweep.{sweep-open}
 use Rattle.report.specs.Report.{report-open}
 use Rattle.outcome.specs.Outcome.{Lent, Accepted, entry, outcome, tableShort, textLong, reportOf, conclude, reading, givenBy, givenTexts}
-use Rattle.figures.specs.Entries.{c1130, c1490, nand2, and2}
+use Rattle.figures.specs.Entries.{c1130, c1490, nand2, and2, both2, xor2}
 
 -- Opens all that a whole analysis computes with.
 unfoldable pub outcome-open : ℕ
@@ -111,42 +111,62 @@ chain =
     ∷ "gate,AND2,22,21,21" ∷ "gate,AND2,23,22,22" ∷ "gate,AND2,24,23,23" ∷ "gate,AND2,25,24,24" ∷ "gate,AND2,26,25,25"
     ∷ "gate,AND2,27,26,26" ∷ "gate,AND2,28,27,27" ∷ "gate,AND2,29,28,28" ∷ "gate,AND2,30,29,29" ∷ []
 
--- "28 gates give CC1 536,870,911 .. CC0 29"
+-- Document 02, K7: "Document 01's chains of 28 and 29 AND2 gates now give CC1 29 and 30, not 536,870,911 and over."
 abbrev pub chain28Figure : Figure
 chain28Figure =
     record {
       library = and2;
       netlist = "input,1" ∷ (take 28 chain ++ ("output,29" ∷ []));
       report =
-          "line,cc0,cc1,sc0,sc1,co,so" ∷ "1,1,1,0,0,536870910,0" ∷ "2,2,3,0,0,536870908,0" ∷ "3,3,7,0,0,536870904,0"
-          ∷ "4,4,15,0,0,536870896,0" ∷ "5,5,31,0,0,536870880,0" ∷ "6,6,63,0,0,536870848,0" ∷ "7,7,127,0,0,536870784,0"
-          ∷ "8,8,255,0,0,536870656,0" ∷ "9,9,511,0,0,536870400,0" ∷ "10,10,1023,0,0,536869888,0"
-          ∷ "11,11,2047,0,0,536868864,0" ∷ "12,12,4095,0,0,536866816,0" ∷ "13,13,8191,0,0,536862720,0"
-          ∷ "14,14,16383,0,0,536854528,0" ∷ "15,15,32767,0,0,536838144,0" ∷ "16,16,65535,0,0,536805376,0"
-          ∷ "17,17,131071,0,0,536739840,0" ∷ "18,18,262143,0,0,536608768,0" ∷ "19,19,524287,0,0,536346624,0"
-          ∷ "20,20,1048575,0,0,535822336,0" ∷ "21,21,2097151,0,0,534773760,0" ∷ "22,22,4194303,0,0,532676608,0"
-          ∷ "23,23,8388607,0,0,528482304,0" ∷ "24,24,16777215,0,0,520093696,0" ∷ "25,25,33554431,0,0,503316480,0"
-          ∷ "26,26,67108863,0,0,469762048,0" ∷ "27,27,134217727,0,0,402653184,0" ∷ "28,28,268435455,0,0,268435456,0"
-          ∷ "29,29,536870911,0,0,0,0" ∷ "sweeps,2,2,2,2" ∷ [];
+          "line,cc0,cc1,sc0,sc1,co,so" ∷ "1,1,1,0,0,434,0" ∷ "2,2,2,0,0,432,0" ∷ "3,3,3,0,0,429,0" ∷ "4,4,4,0,0,425,0"
+          ∷ "5,5,5,0,0,420,0" ∷ "6,6,6,0,0,414,0" ∷ "7,7,7,0,0,407,0" ∷ "8,8,8,0,0,399,0" ∷ "9,9,9,0,0,390,0"
+          ∷ "10,10,10,0,0,380,0" ∷ "11,11,11,0,0,369,0" ∷ "12,12,12,0,0,357,0" ∷ "13,13,13,0,0,344,0" ∷ "14,14,14,0,0,330,0"
+          ∷ "15,15,15,0,0,315,0" ∷ "16,16,16,0,0,299,0" ∷ "17,17,17,0,0,282,0" ∷ "18,18,18,0,0,264,0" ∷ "19,19,19,0,0,245,0"
+          ∷ "20,20,20,0,0,225,0" ∷ "21,21,21,0,0,204,0" ∷ "22,22,22,0,0,182,0" ∷ "23,23,23,0,0,159,0" ∷ "24,24,24,0,0,135,0"
+          ∷ "25,25,25,0,0,110,0" ∷ "26,26,26,0,0,84,0" ∷ "27,27,27,0,0,57,0" ∷ "28,28,28,0,0,29,0" ∷ "29,29,29,0,0,0,0"
+          ∷ "sweeps,2,2,2,2" ∷ [];
     }
 
--- ".. 29 give over; CC0 .. 30"
 abbrev pub chain29Figure : Figure
 chain29Figure =
     record {
       library = and2;
       netlist = "input,1" ∷ (chain ++ ("output,30" ∷ []));
       report =
-          "line,cc0,cc1,sc0,sc1,co,so" ∷ "1,1,1,0,0,over,0" ∷ "2,2,3,0,0,over,0" ∷ "3,3,7,0,0,over,0"
-          ∷ "4,4,15,0,0,over,0" ∷ "5,5,31,0,0,over,0" ∷ "6,6,63,0,0,over,0" ∷ "7,7,127,0,0,over,0"
-          ∷ "8,8,255,0,0,over,0" ∷ "9,9,511,0,0,over,0" ∷ "10,10,1023,0,0,over,0" ∷ "11,11,2047,0,0,over,0"
-          ∷ "12,12,4095,0,0,over,0" ∷ "13,13,8191,0,0,over,0" ∷ "14,14,16383,0,0,over,0" ∷ "15,15,32767,0,0,over,0"
-          ∷ "16,16,65535,0,0,over,0" ∷ "17,17,131071,0,0,over,0" ∷ "18,18,262143,0,0,over,0"
-          ∷ "19,19,524287,0,0,over,0" ∷ "20,20,1048575,0,0,over,0" ∷ "21,21,2097151,0,0,over,0"
-          ∷ "22,22,4194303,0,0,over,0" ∷ "23,23,8388607,0,0,over,0" ∷ "24,24,16777215,0,0,over,0"
-          ∷ "25,25,33554431,0,0,over,0" ∷ "26,26,67108863,0,0,over,0" ∷ "27,27,134217727,0,0,939524096,0"
-          ∷ "28,28,268435455,0,0,805306368,0" ∷ "29,29,536870911,0,0,536870912,0" ∷ "30,30,over,0,0,0,0"
-          ∷ "sweeps,2,2,2,2" ∷ [];
+          "line,cc0,cc1,sc0,sc1,co,so" ∷ "1,1,1,0,0,464,0" ∷ "2,2,2,0,0,462,0" ∷ "3,3,3,0,0,459,0" ∷ "4,4,4,0,0,455,0"
+          ∷ "5,5,5,0,0,450,0" ∷ "6,6,6,0,0,444,0" ∷ "7,7,7,0,0,437,0" ∷ "8,8,8,0,0,429,0" ∷ "9,9,9,0,0,420,0"
+          ∷ "10,10,10,0,0,410,0" ∷ "11,11,11,0,0,399,0" ∷ "12,12,12,0,0,387,0" ∷ "13,13,13,0,0,374,0" ∷ "14,14,14,0,0,360,0"
+          ∷ "15,15,15,0,0,345,0" ∷ "16,16,16,0,0,329,0" ∷ "17,17,17,0,0,312,0" ∷ "18,18,18,0,0,294,0" ∷ "19,19,19,0,0,275,0"
+          ∷ "20,20,20,0,0,255,0" ∷ "21,21,21,0,0,234,0" ∷ "22,22,22,0,0,212,0" ∷ "23,23,23,0,0,189,0" ∷ "24,24,24,0,0,165,0"
+          ∷ "25,25,25,0,0,140,0" ∷ "26,26,26,0,0,114,0" ∷ "27,27,27,0,0,87,0" ∷ "28,28,28,0,0,59,0" ∷ "29,29,29,0,0,30,0"
+          ∷ "30,30,30,0,0,0,0" ∷ "sweeps,2,2,2,2" ∷ [];
+    }
+
+-- "Take a cell none of whose rows names both values of one pin": any other cell pays for each pin, as document 01 has it.
+abbrev pub bothFigure : Figure
+bothFigure =
+    record {
+      library = both2;
+      netlist = "input,1" ∷ "gate,BOTH2,2,1,1" ∷ "gate,BOTH2,3,2,2" ∷ "output,3" ∷ [];
+      report = "line,cc0,cc1,sc0,sc1,co,so" ∷ "1,1,1,0,0,6,0" ∷ "2,2,3,0,0,4,0" ∷ "3,3,7,0,0,0,0" ∷ "sweeps,2,2,2,2" ∷ [];
+    }
+
+-- "Such a row that needs 0 and 1 of one line is no way at all.": XOR2 with both pins on one line is never 1.
+abbrev pub xorFigure : Figure
+xorFigure =
+    record {
+      library = xor2;
+      netlist = "input,1" ∷ "gate,XOR2,2,1,1" ∷ "output,2" ∷ [];
+      report = "line,cc0,cc1,sc0,sc1,co,so" ∷ "1,1,1,0,0,2,0" ∷ "2,2,never,0,never,0,0" ∷ "sweeps,2,2,2,2" ∷ [];
+    }
+
+-- "CO and SO rows keep document 01's reading.": line 2 is paid once for line 4 at 1, and twice where line 1 is observed.
+abbrev pub tiedFigure : Figure
+tiedFigure =
+    record {
+      library = c1130;
+      netlist = "input,1" ∷ "input,2" ∷ "gate,C1130,4,1,2,2" ∷ "output,4" ∷ [];
+      report = "line,cc0,cc1,sc0,sc1,co,so" ∷ "1,1,1,0,0,3,0" ∷ "2,1,1,0,0,3,0" ∷ "4,2,3,0,0,0,0" ∷ "sweeps,2,2,2,2" ∷ [];
     }
 
 -- "Plausible errors: .. stopping after three sweeps": a chain listed backwards takes five (D43).
@@ -158,11 +178,11 @@ backwardsFigure =
           "gate,AND2,5,4,4" ∷ "gate,AND2,4,3,3" ∷ "gate,AND2,3,2,2" ∷ "gate,AND2,2,1,1" ∷ "output,5" ∷ "input,1" ∷ [];
       report =
           "line,cc0,cc1,sc0,sc1,co,so"
-          ∷ "1,1,1,0,0,30,0"
-          ∷ "2,2,3,0,0,28,0"
-          ∷ "3,3,7,0,0,24,0"
-          ∷ "4,4,15,0,0,16,0"
-          ∷ "5,5,31,0,0,0,0"
+          ∷ "1,1,1,0,0,14,0"
+          ∷ "2,2,2,0,0,12,0"
+          ∷ "3,3,3,0,0,9,0"
+          ∷ "4,4,4,0,0,5,0"
+          ∷ "5,5,5,0,0,0,0"
           ∷ "sweeps,5,5,5,5"
           ∷ [];
     }
@@ -216,6 +236,9 @@ figures =
     ∷ latchFigure
     ∷ chain28Figure
     ∷ chain29Figure
+    ∷ bothFigure
+    ∷ xorFigure
+    ∷ tiedFigure
     ∷ backwardsFigure
     ∷ undrivenFigure
     ∷ emptyFigure
@@ -225,5 +248,5 @@ pub figures-hold : Each Decodes rows × Each Holds figures
 unfolding outcome-open lent reported Each
 figures-hold = (
   ((refl, refl), ((refl, refl), ((refl, refl), tt))),
-  (refl, (refl, (refl, (refl, (refl, (refl, (refl, (refl, tt)))))))),
+  (refl, (refl, (refl, (refl, (refl, (refl, (refl, (refl, (refl, (refl, (refl, tt))))))))))),
 )

@@ -1,7 +1,9 @@
 -- The gates of the tables of accepted cells and statements: read place for place their visits are those of crate `calculation`,
 -- and every place that is read is there.
 -- Assumes nothing.
-use mathlib.Core.List.{List, [], _++_, _∷_, List·Memᴰ, List·Memᴰ·head, List·Memᴰ·tail}
+use mathlib.Core.Bool.{Bool, true, false, _&&_}
+use mathlib.Core.List.{List, [], _++_, _∷_, map, List·Memᴰ, List·Memᴰ·head, List·Memᴰ·tail}
+use mathlib.Core.Option.{Option}
 use mathlib.Core.Path.{_≡_, refl, ap, _∙_}
 use Prim.Native.Nat.{ℕ, zero, suc, _+_, _*_, _-_, _^_, _≤_, _<_}
 use native.Mathlib.Numerals.{add-one}
@@ -27,12 +29,15 @@ use Rattle.netlist.proofs.Laws.{gate-sound}
 use Rattle.netlist.proofs.Places.{length-netlistWords, netlist-count, gate-word}
 use Rattle.calculation.specs.Acceptance.{BothSound}
 use Rattle.calculation.specs.Nodes.{Kind, combinational, sequential, kindNumber}
-use Rattle.calculation.specs.Ways.{noCell, cellOf, pinLine, needs, Role, setting, observing, purposeOf, wordOf, groupIndex, groupOf, asks, wayOf, waysOf, visit}
-use Rattle.calculation.proofs.Accepting.{has-index, gate-cell, pin-count, role-group, role-row, depth-figure}
+use Rattle.calculation.specs.Ways.{noCell, cellOf, pinLine, Role, setting, observing, purposeOf, wordOf, groupIndex, groupOf, bothValues, oneWire, isWay, usable, wayOf, waysOf, visit}
+use Rattle.calculation.proofs.Accepting.{has-index, gate-cell, pin-count, gate-groups, role-group, role-row, depth-figure}
 use Rattle.calculation.proofs.Visiting.{getD-listed, Has}
-use Rattle.gates.specs.Tables.{rowPlaces, rowWays, groupWays, groupVisit, gateCell, gatePins, gateLines, byRole, roleColumns, visitCount, visitGroup, gateVisit}
+use Rattle.gates.specs.Tables.{rowPlaces, readRow, withWay, rowWays, groupWays, groupVisit, gateCell, gatePins, gateLines, byRole, roleColumns, visitCount, visitGroup, gateTied, visitWired, gateVisit}
+use Rattle.wires.specs.Wires.{sharesLine, tiedAt}
+use Rattle.wires.proofs.Cells.{one-wire-row, cell-one-wire}
 use Rattle.gates.specs.Fits.{GroupFits, GateFits, TablesFit}
-use Rattle.gates.proofs.Naming.{set-node, observe-node, linesOf, role-places}
+use Rattle.gates.proofs.Naming.{set-node, observe-node, linesOf}
+use Rattle.gates.proofs.Wiring.{roleWired, row-read}
 
 pub noRow : Row
 noRow = record { depth = 0; columns = 0 }
@@ -42,27 +47,35 @@ noGate = record { cell = 0; line = 0; pins = [] }
 
 -- ---- rows
 
-module _ (k : Kind) (g : Gate) (c : Cell) (role : Role) (library : List ℕ) where
+module _ (k : Kind) (g : Gate) (c : Cell) (role : Role) (library : List ℕ) (read : ℕ → Option ℕ) (places : ℕ → List ℕ) where
   rows-ways : (rs : Group) (place : ℕ)
       → ((r : ℕ) → r < length rs → getD library (place + Size.rowWords * r) 0 ≡ (getD rs r noRow) .depth)
       → ((r : ℕ) → r < length rs → getD library (place + Size.rowWords * r + 1) 0 ≡ (getD rs r noRow) .columns)
-      → ((r : Row) → List·Memᴰ r rs → rowPlaces (kindNumber k) (linesOf g) (c .pins) (r .columns) ≡ needs k g (asks c role r))
-      → rowWays (kindNumber k) (linesOf g) (c .pins) library (length rs) place ≡ waysOf k g c role rs
-  unfolding rowWays waysOf wayOf
+      → ((r : Row) → List·Memᴰ r rs → (ws : List Way) → withWay (r .depth) places (read (r .columns)) ws ≡ pick (isWay g c role r) (wayOf k g c role r ∷ ws) ws)
+      → rowWays read places library (length rs) place ≡ waysOf k g c role rs
+  unfolding rowWays waysOf usable
   rows-ways [] place d q p = refl
   rows-ways (r ∷ rs) place d q p =
       let z : place + Size.rowWords * 0 ≡ place = omega arith in
       let d0 : getD library place 0 ≡ r .depth = rw z at (d 0 (omega arith)) in
       let c0 : getD library (place + 1) 0 ≡ r .columns = rw z at (q 0 (omega arith)) in
-      rw (d0, c0, p r (List·Memᴰ·head refl))
-      (ap (λ (l : List Way). record { depth = r .depth; needs = needs k g (asks c role r) } ∷ l)
+      rw (d0, c0)
+      (ap (withWay (r .depth) places (read (r .columns)))
       (rows-ways rs (place + Size.rowWords)
       (λ i h. rw (next i) (d (suc i) (omega arith)))
       (λ i h. rw (next i) (q (suc i) (omega arith)))
-      (λ x m. p x (List·Memᴰ·tail m))))
+      (λ y m. p y (List·Memᴰ·tail m)))
+      ∙ p r (List·Memᴰ·head refl) (map (wayOf k g c role) (usable g c role rs))
+      ∙ mapped (isWay g c role r))
     where
       next : (i : ℕ) → place + Size.rowWords + Size.rowWords * i ≡ place + Size.rowWords * suc i
       next i = omega arith
+
+      mapped : (b : Bool)
+          → pick b (wayOf k g c role r ∷ map (wayOf k g c role) (usable g c role rs)) (map (wayOf k g c role) (usable g c role rs))
+          ≡ map (wayOf k g c role) (pick b (r ∷ usable g c role rs) (usable g c role rs))
+      mapped true = unfold pick in refl
+      mapped false = unfold pick in refl
 
 -- A role as the tables count it.
 abbrev pub roleNumber : Role → ℕ
@@ -151,6 +164,19 @@ module _ (cells : List Cell) (ss : List Statement) (sound : BothSound cells ss) 
             ∙ ap (λ (m : ℕ). getD netlist m 0) e
             ∙ unfold gateWords in gate-number (suc j) (omega arith)
 
+    -- Whether its rows are read as those of one wire.
+    pub tied-is : gateTied library netlist i ≡ (sharesLine (linesOf gate) (cell .pins) && oneWire cell)
+    unfolding tiedAt cellOf
+    tied-is =
+        rw (lines-are, pins-number, cell-number)
+        (ap (λ (b : Bool). sharesLine (linesOf gate) (cell .pins) && b)
+        (cell-one-wire noCell cells behind (sound .library .few) (gate .cell) (sound-gate .known) (gate-cell sound gate listed)))
+
+    wired-is : (role : Role) → visitWired (roleNumber role) library netlist i ≡ roleWired gate cell role
+    unfolding byRole pick
+    wired-is (setting e) = tied-is
+    wired-is (observing p) = refl
+
     -- ---- its groups, by the role
 
     module _ (k : Kind) (role : Role) (has : Has cell role) where
@@ -170,10 +196,10 @@ module _ (cells : List Cell) (ss : List Statement) (sound : BothSound cells ss) 
       most : length rows ≤ Size.rows
       most = role-group sound gate listed k role has .most-rows
 
-      row-sound : (r : Row) → List·Memᴰ r rows → SoundRow (wordOf k role) (cell .pins) (wordGroups (wordOf k role) cell) r
+      pub row-sound : (r : Row) → List·Memᴰ r rows → SoundRow (wordOf k role) (cell .pins) (wordGroups (wordOf k role) cell) r
       row-sound = role-row sound gate listed k role has
 
-      group-number : getD library place 0 ≡ length rows
+      pub group-number : getD library place 0 ≡ length rows
       unfolding cellOf
       group-number = rw (cell-number, ← same) (group-count noCell cells behind (sound .library .few) (gate .cell) (sound-gate .known) (roleGroup k role) low)
 
@@ -208,12 +234,19 @@ module _ (cells : List Cell) (ss : List Statement) (sound : BothSound cells ss) 
           within : (r : ℕ) → r < length rows → getD library (place + 1 + Size.rowWords * r + 1) 0 < 2 ^ roleColumns (roleNumber role) (gatePins library netlist i)
           within r q = rw (columns-number r q, ← width) (row-sound (getD rows r noRow) (getD-listed rows r noRow q) .within)
 
-      group-ways : groupWays (kindNumber k) (gateLines netlist i) (gatePins library netlist i) library place ≡ waysOf k gate cell role rows
+      -- A row of a one-wire cell names no pin at both values.
+      pub lone : (r : Row) → List·Memᴰ r rows → oneWire cell ≡ true → bothValues (cell .pins) (cell .pins) (r .columns) ≡ false
+      unfolding groupOf
+      lone r m w =
+          one-wire-row cell w (wordOf k role) (groupIndex role) (rw (gate-groups sound gate listed (wordOf k role) .count) (has-index k cell role has)) r m
+
+      group-ways : groupWays (readRow (visitWired (roleNumber role) library netlist i) (gateLines netlist i) (gatePins library netlist i)) (rowPlaces (kindNumber k) (gateLines netlist i) (gatePins library netlist i)) library place
+          ≡ waysOf k gate cell role rows
       unfolding groupWays
       group-ways =
-          rw (lines-are, group-number, pins-number)
-          (rows-ways k gate cell role library rows (place + 1) depth-number columns-number
-          (λ r m. role-places k gate cell role pins-most r (row-sound r m .within)))
+          rw (wired-is role, lines-are, group-number, pins-number)
+          (rows-ways k gate cell role library (readRow (roleWired gate cell role) (linesOf gate) (cell .pins)) (rowPlaces (kindNumber k) (linesOf gate) (cell .pins)) rows (place + 1) depth-number columns-number
+          (λ r m. row-read k gate cell role pins-most r (row-sound r m .within) (lone r m)))
 
     -- ---- its visits
 

@@ -1,7 +1,9 @@
 -- The costs of a gate's columns, gathered out of the numbers table: one column after the other, and what the rows come to over
 -- them.
 -- Assumes nothing.
+use mathlib.Core.Bool.{Bool, true, false}
 use mathlib.Core.List.{List, [], _∷_}
+use mathlib.Core.Option.{Option, none, some}
 use mathlib.Core.Path.{_≡_, refl, sym, ap, ap₂, _∙_}
 use Prim.Native.Nat.{ℕ, zero, suc, _+_, _*_, _-_, _/_, _%_, _^_, _≤_, _<_}
 use native.Mathlib.Decide.{ℕ-discrete}
@@ -10,11 +12,15 @@ use lib.ListN.{length, getD, set, length-set}
 use lib.Pow.{pow-mono}
 use lib.Seq.{getD-set-same, getD-set-other}
 use Rattle.sizes.specs.Sizes as Size
+use Rattle.reading.specs.Choice.{pick}
+use Rattle.wires.specs.Wires.{onceColumns, bothColumns}
+use Rattle.wires.proofs.Reading.{once-few}
 use Rattle.sizes.specs.Places.{settingPlace, observingPlace}
 use Rattle.cost.specs.Cost.{_⊕_, capped, lesser}
+use Rattle.plans.specs.System.{Way}
 use Rattle.plans.specs.Sweep.{at, sums, way, least}
 use Rattle.plans.proofs.Laws.{at-getD}
-use Rattle.gates.specs.Tables.{columnPlace, withNamed, columnPlaces, rowPlaces, namedColumns, rowWays, columnWays, groupWays, groupColumns}
+use Rattle.gates.specs.Tables.{columnPlace, withNamed, columnPlaces, rowPlaces, namedColumns, readRow, withWay, rowWays, groupWays, groupColumns}
 use Rattle.gates.specs.Fits.{LinesFit, Gathered, GroupFits}
 use Rattle.gates.proofs.Columns.{fewer-places}
 use Rattle.gates.proofs.Rows.{line-column, observe-column, column-inside}
@@ -98,24 +104,32 @@ module _ {kind : ℕ} {lines : List ℕ} {pins : ℕ} {numbers : List ℕ} where
         ∙ sym (ap (λ (k : ℕ). sums numbers (columnPlaces (columnPlace kind lines pins) k 0 columns)) s
         ∙ ap (sums numbers) (fewer-places (columnPlace kind lines pins) count (32 - count) 0 columns b))
 
-    pub rows-same : (library : List ℕ) (n place : ℕ) → count ≤ 32 → ((i : ℕ) → i < n → getD library (place + Size.rowWords * i + 1) 0 < 2 ^ count)
-        → least costs (columnWays library n place) ≡ least numbers (rowWays kind lines pins library n place)
-    unfolding columnWays rowWays least way
-    rows-same library zero place few b = refl
-    rows-same library (suc n) place few b =
-        let z : place + Size.rowWords * 0 ≡ place = omega arith in
-        ap₂ (λ (x y : ℕ). lesser (capped (getD library place 0) ⊕ x) y)
-        (row-same (getD library (place + 1) 0) few (rw z at (b 0 (omega arith))))
-        (rows-same library n (place + Size.rowWords) few (λ i h. rw (next i) (b (suc i) (omega arith))))
-      where
-        next : (i : ℕ) → place + Size.rowWords + Size.rowWords * i ≡ place + Size.rowWords * suc i
-        next i = omega arith
+    -- Rows that are read as some of the columns.
+    module _ (read : ℕ → Option ℕ) (narrow : (c x : ℕ) → c < 2 ^ count → read c ≡ some x → x < 2 ^ count) where
+      pub rows-same : (library : List ℕ) (n place : ℕ) → count ≤ 32 → ((i : ℕ) → i < n → getD library (place + Size.rowWords * i + 1) 0 < 2 ^ count)
+          → least costs (rowWays read namedColumns library n place) ≡ least numbers (rowWays read (rowPlaces kind lines pins) library n place)
+      unfolding rowWays withWay least way
+      rows-same library zero place few b = refl
+      rows-same library (suc n) place few b =
+          side (read (getD library (place + 1) 0)) refl _ _ (rows-same library n (place + Size.rowWords) few (λ i h. rw (next i) (b (suc i) (omega arith))))
+        where
+          next : (i : ℕ) → place + Size.rowWords + Size.rowWords * i ≡ place + Size.rowWords * suc i
+          next i = omega arith
 
-    -- The least row sum of a group.
-    pub group-same : (library : List ℕ) (group : ℕ) → count ≤ Size.columns → GroupFits library group count
-        → least costs (groupColumns library group) ≡ least numbers (groupWays kind lines pins library group)
-    unfolding groupColumns groupWays
-    group-same library group few f = rows-same library (getD library group 0) (group + 1) (omega arith) (f .columns)
+          first : getD library (place + 1) 0 < 2 ^ count
+          first = let z : place + Size.rowWords * 0 ≡ place = omega arith in rw z at (b 0 (omega arith))
+
+          side : (o : Option ℕ) → read (getD library (place + 1) 0) ≡ o → (us vs : List Way) → least costs us ≡ least numbers vs
+              → least costs (withWay (getD library place 0) namedColumns o us) ≡ least numbers (withWay (getD library place 0) (rowPlaces kind lines pins) o vs)
+          side none e us vs ih = ih
+          side (some x) e us vs ih =
+              ap₂ (λ (y z : ℕ). lesser (capped (getD library place 0) ⊕ y) z) (row-same x few (narrow (getD library (place + 1) 0) x first e)) ih
+
+      -- The least row sum of a group.
+      pub group-same : (library : List ℕ) (group : ℕ) → count ≤ Size.columns → GroupFits library group count
+          → least costs (groupColumns read library group) ≡ least numbers (groupWays read (rowPlaces kind lines pins) library group)
+      unfolding groupWays
+      group-same library group few f = rows-same library (getD library group 0) (group + 1) (omega arith) (f .columns)
 
 -- A group whose rows have so few columns.
 pub group-wider : {library : List ℕ} {group count : ℕ} → count ≤ Size.columns → GroupFits library group count → GroupFits library group Size.columns
@@ -125,3 +139,13 @@ group-wider {library} {group} {count} few f =
       depth = f .depth;
       columns = λ i h. omega (arith, f .columns i h, pow-mono few);
     }
+
+-- A row is read as columns that it has.
+pub read-narrow : (wired : Bool) (lines : List ℕ) (pins count : ℕ) → 2 * pins ≤ count → (c x : ℕ) → c < 2 ^ count → readRow wired lines pins c ≡ some x → x < 2 ^ count
+unfolding readRow pick
+read-narrow true lines pins count few c x h e = side (bothColumns lines pins c) e
+  where
+    side : (b : Bool) → pick b none (some (onceColumns lines pins c)) ≡ some x → x < 2 ^ count
+    side true q = let z : _≡_ {A = ℕ} 0 1 = cc in absurd (omega arith)
+    side false q = let z : onceColumns lines pins c ≡ x = cc in omega (arith, z, once-few lines pins c, pow-mono few)
+read-narrow false lines pins count few c x h e = let z : c ≡ x = cc in rw z at h

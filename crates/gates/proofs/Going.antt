@@ -15,7 +15,7 @@ use Rattle.reading.specs.Choice.{pick}
 use Rattle.cell_library.specs.Cells.{Row, Cell, bitOf, settingColumns, observingColumns, named}
 use Rattle.cell_library.specs.Library.{columnCount}
 use Rattle.calculation.specs.Nodes.{Kind, combinational, sequential}
-use Rattle.calculation.specs.Ways.{Role, setting, observing, wordOf, columnsOf, asks}
+use Rattle.calculation.specs.Ways.{Role, setting, observing, wordOf, columnsOf, namedBy}
 use Rattle.gates.specs.Gone.{goneFrom, columnsGone}
 use Rattle.gates.specs.Tables.{columnPlaces}
 use Rattle.gates.proofs.Columns.{no-places, lowest-first, rest-fewer, ones-most}
@@ -56,10 +56,10 @@ module _ (n : ℕ) (few : n ≤ Size.pins) where
   unfolding bitOf
   observing-gone columns b w = gone-places columns w ∙ observing-named n (λ j. j) (bitOf n) (λ i v h c. refl) (λ v c. refl) refl columns few b
 
--- Of every row of a group: the columns gone to are those that the row asks for, each once, in their order, by their bits.
+-- Of every row of a group: the columns gone to are those that the row names, each once, in their order, by their bits.
 pub gone-named : (k : Kind) (c : Cell) (role : Role) → c .pins ≤ Size.pins → (r : Row) → r .columns < 2 ^ columnCount (wordOf k role) (c .pins)
-    → r .columns < 2 ^ 32 → columnsGone (r .columns) ≡ map (bitOf (c .pins)) (asks c role r)
-unfolding asks columnsOf wordOf columnCount
+    → r .columns < 2 ^ 32 → columnsGone (r .columns) ≡ map (bitOf (c .pins)) (namedBy c role r)
+unfolding namedBy columnsOf wordOf columnCount
 gone-named combinational c (setting e) few r b w = setting-gone (c .pins) few (r .columns) b w
 gone-named sequential c (setting e) few r b w = setting-gone (c .pins) few (r .columns) b w
 gone-named combinational c (observing i) few r b w = observing-gone (c .pins) few (r .columns) b w

@@ -4,5 +4,6 @@ pub mod Columns
 pub mod Rows
 pub mod Gathering
 pub mod Naming
+pub mod Wiring
 pub mod Bridge
 pub mod Going

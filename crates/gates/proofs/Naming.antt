@@ -19,7 +19,7 @@ use Rattle.cell_library.specs.Cells.{Row, Cell, Column, pin, output, observe, b
 use Rattle.netlist.specs.Netlist.{Gate}
 use Rattle.calculation.specs.Nodes.{Kind, combinational, sequential, kindNumber, node}
 use Rattle.calculation.specs.Nodes as N
-use Rattle.calculation.specs.Ways.{pinLine, asked, needs, Role, setting, observing, wordOf, columnsOf, asks}
+use Rattle.calculation.specs.Ways.{pinLine, asked, needs, Role, setting, observing, wordOf, columnsOf, namedBy}
 use Rattle.gates.specs.Tables.{columnPlace, withNamed, columnPlaces, rowPlaces}
 use Rattle.gates.proofs.Columns.{fewer-places}
 use Rattle.gates.proofs.Rows.{line-column, observe-column}
@@ -168,8 +168,8 @@ module _ (k : Kind) (g : Gate) (n : ℕ) (few : n ≤ Size.pins) where
 
 -- A row of the group of a role.
 pub role-places : (k : Kind) (g : Gate) (c : Cell) (role : Role) → c .pins ≤ Size.pins → (r : Row) → r .columns < 2 ^ columnCount (wordOf k role) (c .pins)
-    → rowPlaces (kindNumber k) (linesOf g) (c .pins) (r .columns) ≡ needs k g (asks c role r)
-unfolding asks columnsOf wordOf columnCount
+    → rowPlaces (kindNumber k) (linesOf g) (c .pins) (r .columns) ≡ needs k g (namedBy c role r)
+unfolding namedBy columnsOf wordOf columnCount
 role-places combinational g c (setting e) few r b = setting-places combinational g (c .pins) few (r .columns) b
 role-places sequential g c (setting e) few r b = setting-places sequential g (c .pins) few (r .columns) b
 role-places combinational g c (observing i) few r b = observing-places combinational g (c .pins) few (r .columns) b

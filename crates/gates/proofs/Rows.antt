@@ -1,7 +1,8 @@
 -- Rows of the library table at a gate: where their columns stand, and their sums over the columns' costs.
 -- Assumes nothing.
 use mathlib.Core.List.{List}
-use mathlib.Core.Path.{_≡_, sym, ap, _∙_}
+use mathlib.Core.Option.{Option, none, some}
+use mathlib.Core.Path.{_≡_, refl, sym, ap, _∙_}
 use Prim.Native.Nat.{ℕ, suc, _+_, _*_, _-_, _/_, _%_, _≤_, _<_}
 use native.Mathlib.Decide.{decLe}
 use native.Mathlib.Omega.{arith}
@@ -11,13 +12,14 @@ use lib.ListN.{length, getD}
 use borrow.Author.Tests.{le-leb, lt-leb}
 use Rattle.sizes.specs.Sizes as Size
 use Rattle.sizes.specs.Places.{settingPlace, observingPlace}
-use Rattle.cost.specs.Cost.{never, capped, _⊕_, lesser}
+use Rattle.cost.specs.Cost.{over, never, capped, _⊕_}
 use Rattle.reading.specs.Choice.{pick}
+use Rattle.plans.specs.System.{Way}
 use Rattle.plans.specs.Sweep.{at, sums, way, least}
 use Rattle.plans.proofs.Laws.{at-getD}
-use Rattle.gates.specs.Tables.{columnPlace, namedColumns, columnWays, groupColumns}
+use Rattle.gates.specs.Tables.{columnPlace, namedColumns, withWay, rowWays, groupWays, groupColumns}
 use Rattle.gates.specs.Fits.{LinesFit, ColumnsFit, GroupFits}
-use Rattle.gates.specs.Sums.{rowSum}
+use Rattle.gates.specs.Sums.{rowSum, lesserRow}
 use Rattle.gates.proofs.Columns.{no-places, lowest-below, lowest-first}
 
 -- ---- the place of a column
@@ -72,28 +74,31 @@ module _ (columns : ℕ) (costs : List ℕ) (fit : ColumnsFit columns costs) (so
 
 -- ---- the least row sum, the rows taken from the last to the first
 
-module _ (library costs : List ℕ) (group : ℕ) where
+module _ (read : ℕ → Option ℕ) (library costs : List ℕ) (group : ℕ) where
   -- Of the rows from `row` on.
   abbrev pub leastFrom : ℕ → ℕ
-  leastFrom row = least costs (columnWays library (getD library group 0 - row) (group + 1 + Size.rowWords * row))
+  leastFrom row = least costs (rowWays read namedColumns library (getD library group 0 - row) (group + 1 + Size.rowWords * row))
 
   pub rows-none : (row : ℕ) → row ≡ getD library group 0 → never ≡ leastFrom row
-  unfolding columnWays least
+  unfolding rowWays least
   rows-none row h = let e : getD library group 0 - row ≡ 0 = omega arith in rw e
 
   pub rows-more : (row count : ℕ) → 0 < row → row ≤ getD library group 0 → GroupFits library group count
       → let at = group + 1 + Size.rowWords * (row - 1) in
-      lesser (rowSum costs (getD library at 0) (getD library (at + 1) 0)) (leastFrom row) ≡ leastFrom (row - 1)
-  unfolding columnWays least way capped rowSum
+      lesserRow costs (getD library at 0) (read (getD library (at + 1) 0)) (leastFrom row) ≡ leastFrom (row - 1)
+  unfolding rowWays
   rows-more row count p h f =
       let at = group + 1 + Size.rowWords * (row - 1) in
       let e : getD library group 0 - (row - 1) ≡ suc (getD library group 0 - row) = omega arith in
       let n : at + Size.rowWords ≡ group + 1 + Size.rowWords * row = omega arith in
-      let d : capped (getD library at 0) ≡ getD library at 0 = omega (arith, f .depth (row - 1) (omega arith)) in
-      rw (e, n, d)
+      rw (e, n) (one (getD library at 0) (f .depth (row - 1) (omega arith)) (read (getD library (at + 1) 0)) _)
+    where
+      one : (d : ℕ) → d ≤ over → (o : Option ℕ) (ws : List Way) → lesserRow costs d o (least costs ws) ≡ least costs (withWay d namedColumns o ws)
+      one d b none ws = unfold lesserRow withWay in refl
+      one d b (some x) ws = unfold lesserRow rowSum withWay least way capped in (let c : capped d ≡ d = omega arith in rw c)
 
-  pub rows-all : (row : ℕ) → row ≤ 0 → leastFrom row ≡ least costs (groupColumns library group)
-  unfolding groupColumns
+  pub rows-all : (row : ℕ) → row ≤ 0 → leastFrom row ≡ least costs (groupColumns read library group)
+  unfolding groupWays
   rows-all row h =
       let e : row ≡ 0 = omega arith in
       let n : getD library group 0 - 0 ≡ getD library group 0 = omega arith in

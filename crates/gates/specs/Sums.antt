@@ -1,9 +1,10 @@
 -- Sums in the costs of their kind. A kind is a number here, 0 combinational and 1 sequential.
 -- Assumes nothing.
 use mathlib.Core.List.{List}
+use mathlib.Core.Option.{Option, none, some}
 use mathlib.Core.Path.{_≡_}
 use Prim.Native.Nat.{ℕ}
-use Rattle.cost.specs.Cost.{_⊕_}
+use Rattle.cost.specs.Cost.{_⊕_, lesser}
 use Rattle.plans.specs.Sweep.{sums}
 use Rattle.gates.specs.Tables.{namedColumns}
 use Rattle.gates.specs.declared.Sum.{Sum}
@@ -25,3 +26,8 @@ pub record Summed (kind number : ℕ) (sum : Sum) : Type 0 where
 -- "the sum of those plans plus the depth", over the costs of the columns
 unfoldable pub rowSum : List ℕ → ℕ → ℕ → ℕ
 rowSum costs depth columns = depth ⊕ sums costs (namedColumns columns)
+
+-- The lesser of such a sum and of the best so far, where the row is a way.
+unfoldable pub lesserRow : List ℕ → ℕ → Option ℕ → ℕ → ℕ
+lesserRow costs depth none best = best
+lesserRow costs depth (some columns) best = lesser (rowSum costs depth columns) best

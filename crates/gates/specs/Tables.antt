@@ -3,14 +3,17 @@
 -- visits of crate `calculation`.
 -- A kind is a number here, 0 combinational and 1 sequential, and so is a role, 0 setting and 1 observing.
 -- Assumes nothing.
+use mathlib.Core.Bool.{Bool, true, false}
 use mathlib.Core.List.{List, [], _∷_}
+use mathlib.Core.Option.{Option, none, some}
 use Prim.Native.Nat.{ℕ, zero, suc, _+_, _*_, _-_, _/_, _%_}
 use lib.Dec.{leb, eqb}
 use lib.ListN.{getD, take, drop}
 use Rattle.sizes.specs.Sizes as Size
-use Rattle.sizes.specs.Places.{pinsPlace, groupPlace, gatePlace, settingPlace, observingPlace}
+use Rattle.sizes.specs.Places.{cellPlace, pinsPlace, groupPlace, gatePlace, settingPlace, observingPlace}
 use Rattle.reading.specs.Choice.{pick}
 use Rattle.plans.specs.System.{Way, Visit}
+use Rattle.wires.specs.Wires.{onceColumns, bothColumns, tiedAt}
 
 -- ---- rows
 
@@ -37,15 +40,30 @@ columnPlaces place (suc count) first columns =
 unfoldable pub rowPlaces : ℕ → List ℕ → ℕ → ℕ → List ℕ
 rowPlaces kind lines pins columns = columnPlaces (columnPlace kind lines pins) 32 0 columns
 
--- The rows of a group, `count` of them from a place of the library table on.
-unfoldable pub rowWays : ℕ → List ℕ → ℕ → List ℕ → ℕ → ℕ → List Way
-rowWays kind lines pins library zero at = []
-rowWays kind lines pins library (suc count) at =
-    record { depth = getD library at 0; needs = rowPlaces kind lines pins (getD library (at + 1) 0) }
-    ∷ rowWays kind lines pins library count (at + Size.rowWords)
+-- The columns by which a row asks, of those that it names: all, or where it is read as a row of one wire (document 02, K7) each
+-- line once; none where it is no way.
+unfoldable pub readRow : Bool → List ℕ → ℕ → ℕ → Option ℕ
+readRow true lines pins columns = pick (bothColumns lines pins columns) none (some (onceColumns lines pins columns))
+readRow false lines pins columns = some columns
 
-unfoldable pub groupWays : ℕ → List ℕ → ℕ → List ℕ → ℕ → List Way
-groupWays kind lines pins library group = rowWays kind lines pins library (getD library group 0) (group + 1)
+-- Whether it is a way.
+unfoldable pub hasWay : Option ℕ → Bool
+hasWay none = false
+hasWay (some columns) = true
+
+-- One way more, of the row with this depth whose columns are read so.
+unfoldable pub withWay : ℕ → (ℕ → List ℕ) → Option ℕ → List Way → List Way
+withWay depth places none ws = ws
+withWay depth places (some columns) ws = record { depth = depth; needs = places columns } ∷ ws
+
+-- The rows of a group, `count` of them from a place of the library table on.
+unfoldable pub rowWays : (ℕ → Option ℕ) → (ℕ → List ℕ) → List ℕ → ℕ → ℕ → List Way
+rowWays read places library zero at = []
+rowWays read places library (suc count) at =
+    withWay (getD library at 0) places (read (getD library (at + 1) 0)) (rowWays read places library count (at + Size.rowWords))
+
+unfoldable pub groupWays : (ℕ → Option ℕ) → (ℕ → List ℕ) → List ℕ → ℕ → List Way
+groupWays read places library group = rowWays read places library (getD library group 0) (group + 1)
 
 -- ---- the same rows over the costs of the columns, which stand in a list of their own, each by its bit
 
@@ -53,18 +71,13 @@ groupWays kind lines pins library group = rowWays kind lines pins library (getD 
 unfoldable pub namedColumns : ℕ → List ℕ
 namedColumns columns = columnPlaces (λ j. j) 32 0 columns
 
-unfoldable pub columnWays : List ℕ → ℕ → ℕ → List Way
-columnWays library zero at = []
-columnWays library (suc count) at =
-    record { depth = getD library at 0; needs = namedColumns (getD library (at + 1) 0) }
-    ∷ columnWays library count (at + Size.rowWords)
-
-unfoldable pub groupColumns : List ℕ → ℕ → List Way
-groupColumns library group = columnWays library (getD library group 0) (group + 1)
+abbrev pub groupColumns : (ℕ → Option ℕ) → List ℕ → ℕ → List Way
+groupColumns read library group = groupWays read namedColumns library group
 
 -- A group whose number stands at a place.
-unfoldable pub groupVisit : ℕ → List ℕ → ℕ → List ℕ → ℕ → ℕ → Visit
-groupVisit kind lines pins library group place = record { node = place; ways = groupWays kind lines pins library group }
+unfoldable pub groupVisit : Bool → ℕ → List ℕ → ℕ → List ℕ → ℕ → ℕ → Visit
+groupVisit wired kind lines pins library group place =
+    record { node = place; ways = groupWays (readRow wired lines pins) (rowPlaces kind lines pins) library group }
 
 -- ---- gates
 
@@ -97,8 +110,16 @@ visitGroup role kind i = byRole role (Size.ccGroup + kind * Size.values + i) (Si
 abbrev pub visitPlace : ℕ → ℕ → List ℕ → ℕ → ℕ
 visitPlace role kind lines i = byRole role (settingPlace kind (getD lines 0 0) i) (observingPlace kind (getD lines (i + 1) 0))
 
+-- Whether a gate's rows are read as those of one wire: CC and SC rows, "CO and SO rows keep document 01's reading".
+abbrev pub gateTied : List ℕ → List ℕ → ℕ → Bool
+gateTied library netlist g =
+    tiedAt library (cellPlace (gateCell netlist g)) (gateLines netlist g) (gatePins library netlist g)
+
+abbrev pub visitWired : ℕ → List ℕ → List ℕ → ℕ → Bool
+visitWired role library netlist g = byRole role (gateTied library netlist g) false
+
 unfoldable pub gateVisit : ℕ → ℕ → List ℕ → List ℕ → ℕ → ℕ → Visit
 gateVisit role kind library netlist g i =
-    groupVisit kind (gateLines netlist g) (gatePins library netlist g) library
+    groupVisit (visitWired role library netlist g) kind (gateLines netlist g) (gatePins library netlist g) library
     (groupPlace (gateCell netlist g) (visitGroup role kind i))
     (visitPlace role kind (gateLines netlist g) i)

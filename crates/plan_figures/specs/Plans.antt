@@ -10,7 +10,7 @@ use Rattle.reading.specs.Refusal.{Read, refused, read}
 use Rattle.outcome.specs.Outcome.{givenTexts}
 use Rattle.cheapest.specs.Text.{text-open}
 use Rattle.planning.specs.Promise.{known, askedNumber, kindOf, planRead, ownReport, planAfter, planOutcome}
-use Rattle.figures.specs.Entries.{c1130, nand2}
+use Rattle.figures.specs.Entries.{c1130, nand2, and2}
 use Rattle.figures.specs.Figures.{outcome-open, lent}
 
 -- What a library and a netlist come to for a line, a value and a kind, with a buffer of 100 bytes.
@@ -49,6 +49,14 @@ ownCell = "Name,OWN,2" ∷ "CC,11,5" ∷ "CO,201,201" ∷ "SC,10,4" ∷ "SO,200,
 pub own-plan : planned ownCell ("input,1" ∷ "gate,OWN,2,1,2" ∷ []) 2 1 0 ≡ read (text ("0,2,1,5" ∷ "1,2,0,11" ∷ "2,1,1,input" ∷ []))
 unfolding plans-open
 own-plan = refl
+
+-- Two pins on one wire (02, K7): "the same value of the same line through several pins is paid and written out once".
+abbrev tiedNet : List String
+tiedNet = "input,1" ∷ "gate,AND2,2,1,1" ∷ "gate,AND2,3,2,2" ∷ []
+
+pub tied-plan : planned and2 tiedNet 3 1 0 ≡ read (text ("0,3,1,13" ∷ "1,2,1,13" ∷ "2,1,1,input" ∷ []))
+unfolding plans-open
+tied-plan = refl
 
 -- 18 and 19, at line 0.
 pub no-plan : planned c1130 c1130Net 9 1 0 ≡ refused 18 0

@@ -156,8 +156,8 @@ pinPlaces = 1 + gates * pins
 
 -- ---- the marks of crate `trace`
 
--- For each line, counted from 0, and each value: the visit, the depth and the columns of the row, and where the line of the gate's
--- last pin stands in the netlist table.
+-- For each line, counted from 0, and each value: the visit, the row as its entry writes it, the columns by which it asks, and
+-- where the line of the gate's last pin stands in the netlist table.
 abbrev pub markWords : ℕ
 markWords = 4
 

@@ -109,8 +109,8 @@ pub const PIN_PLACES: usize = 1 + GATES * PINS;
 
 // ---- the marks of crate `trace`
 
-// For each line, counted from 0, and each value: the visit, the depth and the columns of the row,
-// and where the line of the gate's last pin stands in the netlist table.
+// For each line, counted from 0, and each value: the visit, the row as its entry writes it, the columns
+// by which it asks, and where the line of the gate's last pin stands in the netlist table.
 pub const MARK_WORDS: usize = 4;
 
 pub const MARKS: usize = LINE_PLACES * VALUES * MARK_WORDS;

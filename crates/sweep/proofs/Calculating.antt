@@ -1,6 +1,6 @@
 -- The four runs at the tables of accepted cells and statements.
 -- Assumes nothing.
-use mathlib.Core.Bool.{false}
+use mathlib.Core.Bool.{Bool, false}
 use mathlib.Core.List.{List, [], _∷_}
 use mathlib.Core.Logic.{_↔_}
 use mathlib.Core.Path.{_≡_, refl, ap, _∙_}
@@ -27,6 +27,7 @@ use Rattle.gates.specs.Fits.{TablesFit}
 use Rattle.gates.proofs.Bridge.{tables-fit, netlist-room}
 use Rattle.awake.specs.Lines.{LinesStand, Chained, Driven}
 use Rattle.sweep.specs.Fits.{FreshFits}
+use Rattle.gates.specs.Fits.{Tied}
 use Rattle.sweep.specs.Order.{ruleOf, sweepVisits}
 use Rattle.sweep.specs.Ready.{Holds}
 use Rattle.sweep.specs.Runs.{Runs}
@@ -45,7 +46,7 @@ module _ {library netlist : List ℕ} {cells : List Cell} {ss : List Statement} 
   abbrev Left : ℕ → ℕ → List ℕ → ℕ → List ℕ → Type 0
   Left role kind xs count ys = Settles (ruleOf role) (sweepVisits role kind library netlist) xs count ys
 
-  fit : TablesFit library netlist
+  pub fit : TablesFit library netlist
   fit = rw (h .cellsStand, h .statementsStand) (tables-fit cells ss (h .sound) (h .behind) (h .past))
 
   pub room : Size.netlist ≤ length netlist
@@ -65,12 +66,12 @@ module _ {library netlist : List ℕ} {cells : List Cell} {ss : List Statement} 
 
   -- ---- each run ends, with arrays that tell who reads and drives a line ..
 
-  module _ {first next driver : List ℕ} (chained : Chained netlist (getD netlist 0 0) first next) (driven : Driven netlist (getD netlist 0 0) driver) where
+  module _ {first next driver : List ℕ} {tied : List Bool} (chained : Chained netlist (getD netlist 0 0) first next) (driven : Driven netlist (getD netlist 0 0) driver) (noted : Tied library netlist (getD netlist 0 0) tied) where
     fresh-fits : (role : ℕ) (k : Kind) {xs : List ℕ} → role ≤ 1 → Linked role (kindNumber k) library netlist first next driver → length xs ≡ Size.numbers
         → Lowering (ruleOf role) (sweepVisits role (kindNumber k) library netlist) xs → Runs (ruleOf role) (sweepVisits role (kindNumber k) library netlist) xs
-        → FreshFits role (kindNumber k) library netlist first next driver xs
+        → FreshFits role (kindNumber k) library netlist first next driver tied xs
     fresh-fits role k r linked n low runs =
-        record { linksFit = record { roleFits = r; kindFits = kind-small k; tablesFit = fit; linked = linked }; size = n; lowering = low; runs = runs }
+        record { linksFit = record { roleFits = r; kindFits = kind-small k; tablesFit = fit; linked = linked; few = stands .count; noted = noted }; size = n; lowering = low; runs = runs }
 
     -- The bound of a run is small, since there are few gates.
     runs-within : {rule : Rule} {vs : List Visit} {xs : List ℕ} (bound : ℕ) → bound ≤ 2 * gates + 1
@@ -78,7 +79,7 @@ module _ {library netlist : List ℕ} {cells : List Cell} {ss : List Statement} 
     runs-within bound b flag w = record { flag = flag; fuel = bound; bound = bound; within = w; small = omega (arith, h .sound .netlist .few) }
 
     set-fits : (k : Kind) {xs : List ℕ} → length xs ≡ Size.numbers → SettlesWithin renew (settingVisits k cells (gatesOf ss)) xs (2 * gates + 1) (2 * gates + 1)
-        → Lowering renew (settingVisits k cells (gatesOf ss)) xs → FreshFits 0 (kindNumber k) library netlist first next driver xs
+        → Lowering renew (settingVisits k cells (gatesOf ss)) xs → FreshFits 0 (kindNumber k) library netlist first next driver tied xs
     unfolding byRole pick
     set-fits k n w low =
         fresh-fits 0 k (omega arith)
@@ -86,7 +87,7 @@ module _ {library netlist : List ℕ} {cells : List Cell} {ss : List Statement} 
         n (rw (sets k) low) (rw (sets k) (runs-within (2 * gates + 1) (omega arith) (changes-renew (settingVisits k cells (gatesOf ss)) (gates-apiece cells ss (h .sound) k)) w))
 
     observe-fits : (k : Kind) {xs : List ℕ} → length xs ≡ Size.numbers → SettlesWithin lower (observingVisits k cells (gatesOf ss)) xs (gates + 1) (gates + 1)
-        → Lowering lower (observingVisits k cells (gatesOf ss)) xs → FreshFits 1 (kindNumber k) library netlist first next driver xs
+        → Lowering lower (observingVisits k cells (gatesOf ss)) xs → FreshFits 1 (kindNumber k) library netlist first next driver tied xs
     unfolding byRole pick
     observe-fits k n w low =
         fresh-fits 1 k (omega arith)
@@ -114,7 +115,7 @@ module _ {library netlist : List ℕ} {cells : List Cell} {ss : List Statement} 
       ends : AllWithin (stages cells (gatesOf ss)) x0
       ends = rw at-start (within cells ss (h .sound))
 
-      pub cc-fits : FreshFits 0 0 library netlist first next driver x0
+      pub cc-fits : FreshFits 0 0 library netlist first next driver tied x0
       cc-fits = set-fits combinational start-length (ends .0) (ends .2)
 
       module _ {x1 : List ℕ} {cc : ℕ} (rcc : Left 0 0 x0 cc x1) where
@@ -127,7 +128,7 @@ module _ {library netlist : List ℕ} {cells : List Cell} {ss : List Statement} 
         after-cc : AllWithin (drop 1 (stages cells (gatesOf ss))) x1
         after-cc = ends .1 x1 cc settled-cc
 
-        pub sc-fits : FreshFits 0 1 library netlist first next driver x1
+        pub sc-fits : FreshFits 0 1 library netlist first next driver tied x1
         sc-fits = set-fits sequential cc-length (after-cc .0) (after-cc .2)
 
         module _ {x2 : List ℕ} {sc : ℕ} (rsc : Left 0 1 x1 sc x2) where
@@ -140,7 +141,7 @@ module _ {library netlist : List ℕ} {cells : List Cell} {ss : List Statement} 
           after-sc : AllWithin (drop 2 (stages cells (gatesOf ss))) x2
           after-sc = after-cc .1 x2 sc settled-sc
 
-          pub co-fits : FreshFits 1 0 library netlist first next driver x2
+          pub co-fits : FreshFits 1 0 library netlist first next driver tied x2
           co-fits = observe-fits combinational sc-length (after-sc .0) (after-sc .2)
 
           module _ {x3 : List ℕ} {co : ℕ} (rco : Left 1 0 x2 co x3) where
@@ -150,7 +151,7 @@ module _ {library netlist : List ℕ} {cells : List Cell} {ss : List Statement} 
             after-co : AllWithin (drop 3 (stages cells (gatesOf ss))) x3
             after-co = after-sc .1 x3 co settled-co
 
-            pub so-fits : FreshFits 1 1 library netlist first next driver x3
+            pub so-fits : FreshFits 1 1 library netlist first next driver tied x3
             so-fits = observe-fits sequential (settles-length (ruleOf 1) (rule-stores 1) rco ∙ sc-length) (after-co .0) (after-co .2)
 
             pub calculated : {x4 : List ℕ} {so : ℕ} → Left 1 1 x3 so x4 → record { numbers = x4; counts = record { cc = cc; sc = sc; co = co; so = so } } ≡ analysed cells ss

@@ -23,11 +23,11 @@ use Rattle.netlist.proofs.Laws.{gate-sound, driven-once}
 use Rattle.netlist.proofs.Places.{netlist-count}
 use Rattle.calculation.specs.Acceptance.{BothSound}
 use Rattle.calculation.specs.Nodes.{Kind, kindNumber, set, observe, node}
-use Rattle.calculation.specs.Ways.{cellOf, pinLine, asked, needs, Role, setting, observing, groupOf, asks, wayOf, waysOf, visit, valueRoles, pinRoles}
+use Rattle.calculation.specs.Ways.{cellOf, pinLine, asked, needs, Role, setting, observing, groupOf, asks, usable, wayOf, waysOf, visit, valueRoles, pinRoles}
 use Rattle.calculation.specs.Ways as W
 use Rattle.calculation.proofs.Accepting.{row-observes, gate-cell, gate-pin, role-row}
 use Rattle.calculation.proofs.Needing.{setting-reads, observing-drives}
-use Rattle.calculation.proofs.Visiting.{getD-listed, Sets, value-from, pins-from, asks-observe}
+use Rattle.calculation.proofs.Visiting.{getD-listed, Sets, value-from, pins-from, asks-observe, usable-from}
 use Rattle.awake.specs.Lines.{gateLine, LinesStand, Chained, Driven}
 use Rattle.gates.specs.Tables.{byRole, gatePins, gateLines, visitCount, visitPlace, gateVisit}
 use Rattle.gates.proofs.Bridge.{noGate, netlist-room, pins-number, lines-are}
@@ -178,12 +178,12 @@ module _ (cells : List Cell) (ss : List Statement) (sound : BothSound cells ss) 
     row-needs w m =
         let c : Cell = cellOf cells (gate g) in
         let role = observing (1 + p) in
-        let r : (r : Row) × List·Memᴰ r (groupOf k c role) × (wayOf k (gate g) c role r ≡ w) =
-        Memᴰ·of-map (wayOf k (gate g) c role) (groupOf k c role) m in
-        let e : w .needs ≡ needs k (gate g) (asks c role (r .0)) = ap (λ (x : Way). x .needs) (sym (r .2)) in
+        let r : (r : Row) × List·Memᴰ r (usable (gate g) c role (groupOf k c role)) × (wayOf k (gate g) c role r ≡ w) =
+        Memᴰ·of-map (wayOf k (gate g) c role) (usable (gate g) c role (groupOf k c role)) m in
+        let e : w .needs ≡ needs k (gate g) (asks (gate g) c role (r .0)) = ap (λ (x : Way). x .needs) (sym (r .2)) in
         rw e (Memᴰ·map (λ (d : Column). node k (asked (gate g) d))
-        (asks-observe c (1 + p) (r .0) (row-observes k (1 + p) (c .pins) _ (r .0)
-        (role-row sound (gate g) (listed g a) k role (omega arith, omega arith) (r .0) (r .1)))))
+        (asks-observe (gate g) c (1 + p) (r .0) (row-observes k (1 + p) (c .pins) _ (r .0)
+        (role-row sound (gate g) (listed g a) k role (omega arith, omega arith) (r .0) (usable-from (gate g) c role (groupOf k c role) (r .0) (r .1) .0)))))
 
     output-needed : (w : Way) → List·Memᴰ w (gateVisit 1 (kindNumber k) library netlist g p .ways)
         → List·Memᴰ (observingPlace (kindNumber k) (getD (gateLines netlist g) 0 0)) (w .needs)

@@ -30,6 +30,13 @@ columns-few role {lines} {pins} f = go (ℕ-discrete role 0)
     go (yes e) = rw (role-set role (2 * pins) (2 * pins + 3) e) (omega (arith, f .count))
     go (no e) = rw (role-observed role (2 * pins) (2 * pins + 3) e) (omega (arith, f .count))
 
+columns-wide : (role pins : ℕ) → 2 * pins ≤ roleColumns role pins
+columns-wide role pins = go (ℕ-discrete role 0)
+  where
+    go : Dec (role ≡ 0) → 2 * pins ≤ roleColumns role pins
+    go (yes e) = rw (role-set role (2 * pins) (2 * pins + 3) e) (omega arith)
+    go (no e) = rw (role-observed role (2 * pins) (2 * pins + 3) e) (omega arith)
+
 -- The rows of a group that stands there.
 pub rows-same : (role : ℕ) {library : List ℕ} {group place pins count : ℕ} → group ≡ place → pins ≡ count
     → GroupFits library place (roleColumns role count) → GroupFits library group (roleColumns role pins)
@@ -72,7 +79,7 @@ module _ (role : ℕ) {kind : ℕ} {lines : List ℕ} {pins : ℕ} (kinds : kind
         }
 
     pub costs-of : CostsOf kind library group lines pins ys costs
-    costs-of = record { count = roleColumns role pins; few = columns-few role fit; gathered = g; groupFits = rows }
+    costs-of = record { count = roleColumns role pins; few = columns-few role fit; wide = columns-wide role pins; gathered = g; groupFits = rows }
 
     -- A visit that changes nothing leaves the costs as they are.
     pub gather-next : {v : Visit} {zs : List ℕ} {b : Bool} → Renewed (ruleOf role) v ys zs b → length zs ≡ Size.numbers → GatherFits b role kind lines pins zs costs

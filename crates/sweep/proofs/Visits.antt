@@ -18,7 +18,7 @@ use Rattle.plans.specs.Sweep.{at, sums, way, least, Rule, renew, lower, sweep}
 use Rattle.plans.proofs.Laws.{at-getD, sweep-append, sweep-length, Stores, renew-stores, lower-stores}
 use Rattle.calculation.specs.Changes.{alters, changes}
 use Rattle.calculation.proofs.Sweeping.{alters-lower, alters-renew, same-alters, changes-append}
-use Rattle.gates.specs.Tables.{groupVisit, gateCell, gatePins, gateLines, byRole, visitGroup, visitPlace, gateVisit}
+use Rattle.gates.specs.Tables.{groupVisit, gateCell, gatePins, gateLines, byRole, visitGroup, visitPlace, visitWired, gateVisit}
 use Rattle.gates.proofs.Roles.{role-set, role-observed}
 use Rattle.sweep.specs.Order.{ruleOf, gateOfTurn}
 use Rattle.plans.specs.Idle.{inTurn}
@@ -82,12 +82,12 @@ led-still role v xs {number} {observed} inside e led t =
     (record { numbers = sym same; flag = sym (same-alters lower v xs (ap (λ (zs : List ℕ). at zs (v .node)) same)) })
 
 -- A visit by the numbers that the tables give is the gate's.
-pub visit-is : (role kind : ℕ) (library netlist : List ℕ) (g i group place pins : ℕ) (lines : List ℕ)
-    → lines ≡ gateLines netlist g → pins ≡ gatePins library netlist g
+pub visit-is : (role kind : ℕ) (library netlist : List ℕ) (g i group place pins : ℕ) (lines : List ℕ) (wired : Bool)
+    → wired ≡ visitWired role library netlist g → lines ≡ gateLines netlist g → pins ≡ gatePins library netlist g
     → group ≡ groupPlace (gateCell netlist g) (visitGroup role kind i) → place ≡ visitPlace role kind lines i
-    → groupVisit kind lines pins library group place ≡ gateVisit role kind library netlist g i
+    → groupVisit wired kind lines pins library group place ≡ gateVisit role kind library netlist g i
 unfolding gateVisit
-visit-is role kind library netlist g i group place pins lines e n h p = rw (p, h, e, n)
+visit-is role kind library netlist g i group place pins lines wired w e n h p = rw (p, h, w, e, n)
 
 -- ---- one after the other
 

@@ -1,13 +1,14 @@
 -- What visits, sweeps and runs ask of the tables and the numbers (specs/Fits.antt of crate `gates`).
 -- Assumes nothing.
+use mathlib.Core.Bool.{Bool}
 use mathlib.Core.List.{List}
 use mathlib.Core.Path.{_≡_}
-use Prim.Native.Nat.{ℕ, _≤_, _<_}
+use Prim.Native.Nat.{ℕ, _*_, _≤_, _<_}
 use lib.ListN.{length, getD}
 use Rattle.sizes.specs.Sizes as Size
 use Rattle.plans.specs.Sweep.{Lowering}
 use Rattle.awake.specs.Lines.{Chained, Driven}
-use Rattle.gates.specs.Fits.{Gathered, GroupFits, SumFits, TablesFit}
+use Rattle.gates.specs.Fits.{Gathered, GroupFits, SumFits, TablesFit, Tied}
 use Rattle.sweep.specs.Order.{ruleOf, sweepVisits}
 use Rattle.sweep.specs.Runs.{Runs}
 use Rattle.sweep.specs.Waking.{Linked, Resting}
@@ -23,6 +24,7 @@ pub record VisitFits (kind : ℕ) (library : List ℕ) (group : ℕ) (costs numb
 pub record CostsOf (kind : ℕ) (library : List ℕ) (group : ℕ) (lines : List ℕ) (pins : ℕ) (numbers costs : List ℕ) : Type 0 where
   pub count : ℕ
   pub few : count ≤ Size.columns
+  pub wide : 2 * pins ≤ count
   pub gathered : Gathered count kind lines pins numbers costs
   pub groupFits : GroupFits library group count
 
@@ -36,33 +38,35 @@ pub record WakeFits (role line gates : ℕ) (first next driver awake : List ℕ)
   pub size : length awake ≡ Size.awakeWords
 
 -- The tables, and the arrays beside them, of a role and a kind.
-pub record LinksFit (role kind : ℕ) (library netlist first next driver : List ℕ) : Type 0 where
+pub record LinksFit (role kind : ℕ) (library netlist first next driver : List ℕ) (tied : List Bool) : Type 0 where
   pub roleFits : role ≤ 1
   pub kindFits : kind ≤ 1
   pub tablesFit : TablesFit library netlist
   pub linked : Linked role kind library netlist first next driver
+  pub few : getD netlist 0 0 ≤ Size.gates
+  pub noted : Tied library netlist (getD netlist 0 0) tied
 
 -- The visits of one gate.
-pub record GateVisitsFit (role kind : ℕ) (library netlist first next driver numbers awake : List ℕ) (gate : ℕ) : Type 0 where
-  pub linksFit : LinksFit role kind library netlist first next driver
+pub record GateVisitsFit (role kind : ℕ) (library netlist first next driver : List ℕ) (tied : List Bool) (numbers awake : List ℕ) (gate : ℕ) : Type 0 where
+  pub linksFit : LinksFit role kind library netlist first next driver tied
   pub inside : gate < getD netlist 0 0
   pub size : length numbers ≡ Size.numbers
   pub awakeSize : length awake ≡ Size.awakeWords
 
 -- A sweep.
-pub record SweepFits (role kind : ℕ) (library netlist first next driver numbers awake : List ℕ) : Type 0 where
-  pub linksFit : LinksFit role kind library netlist first next driver
+pub record SweepFits (role kind : ℕ) (library netlist first next driver : List ℕ) (tied : List Bool) (numbers awake : List ℕ) : Type 0 where
+  pub linksFit : LinksFit role kind library netlist first next driver tied
   pub size : length numbers ≡ Size.numbers
   pub resting : Resting role kind library netlist awake numbers
 
 -- Sweeps until nothing changes.
-pub record RunFits (role kind : ℕ) (library netlist first next driver numbers awake : List ℕ) : Type 0 where
-  pub sweepFits : SweepFits role kind library netlist first next driver numbers awake
+pub record RunFits (role kind : ℕ) (library netlist first next driver : List ℕ) (tied : List Bool) (numbers awake : List ℕ) : Type 0 where
+  pub sweepFits : SweepFits role kind library netlist first next driver tied numbers awake
   pub runs : Runs (ruleOf role) (sweepVisits role kind library netlist) numbers
 
 -- The same with all gates awake.
-pub record FreshFits (role kind : ℕ) (library netlist first next driver numbers : List ℕ) : Type 0 where
-  pub linksFit : LinksFit role kind library netlist first next driver
+pub record FreshFits (role kind : ℕ) (library netlist first next driver : List ℕ) (tied : List Bool) (numbers : List ℕ) : Type 0 where
+  pub linksFit : LinksFit role kind library netlist first next driver tied
   pub size : length numbers ≡ Size.numbers
   pub lowering : Lowering (ruleOf role) (sweepVisits role kind library netlist) numbers
   pub runs : Runs (ruleOf role) (sweepVisits role kind library netlist) numbers

@@ -28,9 +28,10 @@ use gates::gather::column_costs;
 use gates::kinds::COMBINATIONAL;
 use gates::kinds::SEQUENTIAL;
 use gates::kinds::wide;
-use gates::least_sum;
+use gates::least_of;
 use gates::lesser_of;
 use gates::lines_of;
+use gates::note_tied;
 use gates::number_of;
 use gates::visits::OBSERVING;
 use gates::visits::SETTING;
@@ -38,7 +39,7 @@ use gates::visits::visit_count;
 use gates::visits::visit_group;
 use gates::visits::visit_place;
 ghost use mathlib.Core.Path.{_≡_};
-ghost use mathlib.Core.Bool.{true, _||_};
+ghost use mathlib.Core.Bool.{true, false, _||_};
 ghost use mathlib.Core.List.{List, _++_};
 ghost use Prim.Native.Nat.{ℕ, _+_, _*_, _-_, _≤_, _<_};
 ghost use lib.ListN.{length, getD, drop};
@@ -113,6 +114,8 @@ fn visit(
     kind: usize,
     library: &[u32],
     group: usize,
+    wired: bool,
+    lines: &[u32; sizes::GATE_LINES],
     costs: &[u32; sizes::COLUMNS],
     numbers: &mut [u32; sizes::NUMBERS],
     place: usize,
@@ -120,17 +123,18 @@ fn visit(
 ) -> bool
     requires { ⌜ VisitFits kind (now library) group (now costs) (now numbers) place pins ⌝ }
     ensures { λ r.
-        ⌜ ((lines : List ℕ) → CostsOf kind (now (library .entry)) group lines pins
+        ⌜ (CostsOf kind (now (library .entry)) group (now (lines .entry)) pins
         (now (numbers .entry)) (now (costs .entry))
         → Led role (getD (now (costs .entry)) (2 * pins + 2) 0) (now (numbers .entry))
-        (groupVisit kind lines pins (now (library .entry)) group place)
-        → Renewed (ruleOf role) (groupVisit kind lines pins (now (library .entry)) group place)
+        (groupVisit wired kind (now (lines .entry)) pins (now (library .entry)) group place)
+        → Renewed (ruleOf role)
+        (groupVisit wired kind (now (lines .entry)) pins (now (library .entry)) group place)
         (now (numbers .entry)) (now (numbers .exit)) r) ⌝ }
 {
     if lowest_already(role, numbers[place], costs[2 * pins + 2]) {
         return false;
     }
-    let least = least_sum(kind, library, group, costs);
+    let least = least_of(wired, kind, library, group, lines, pins, costs);
     let sum = renewal(role, numbers[place], least);
     store(numbers, place, number_of(sum))
 }
@@ -175,6 +179,14 @@ fn wake_needing(
     }
 }
 
+// Whether the rows of a gate's visits are read as those of one wire, by what was noted of the gate.
+fn wired_of(role: usize, tied: &[bool; sizes::GATES], gate: usize) -> bool
+    requires { ⌜ gate < Size.gates ⌝ }
+    ensures { λ r. ⌜ r ≡ byRole role (getD (now (tied .entry)) gate false) false ⌝ }
+{
+    if role == SETTING { tied[gate] } else { false }
+}
+
 // A gate's visits, "the output's 0 before its 1" or "pins in order"; whether a number changed. The costs
 // of its columns are gathered once, and again after a visit that changed a number: the output's 1 sees
 // its 0, and a pin may read the gate's own line.
@@ -186,12 +198,13 @@ fn visit_gate(
     first: &[u16; sizes::LINE_PLACES],
     next: &[u16; sizes::PIN_PLACES],
     driver: &[u16; sizes::LINE_PLACES],
+    tied: &[bool; sizes::GATES],
     numbers: &mut [u32; sizes::NUMBERS],
     awake: &mut [u64; sizes::AWAKE_WORDS],
     gate: usize,
 ) -> bool
     requires { ⌜ GateVisitsFit role kind (now library) (now netlist) (now first) (now next) (now driver)
-        (now numbers) (now awake) gate ⌝ }
+        (now tied) (now numbers) (now awake) gate ⌝ }
     ensures swept { λ r.
         ⌜ Swept (ruleOf role)
         (gateVisits role kind (now (library .entry)) (now (netlist .entry)) gate)
@@ -205,6 +218,7 @@ fn visit_gate(
     let pins = wide(library[cell + sizes::PINS_AT]);
     let lines = lines_of(netlist, gate);
     let count = visit_count(role, pins);
+    let wired = wired_of(role, tied, gate);
     let mut costs = [0u32; sizes::COLUMNS];
     let mut stale = true;
     let mut changed = false;
@@ -213,7 +227,18 @@ fn visit_gate(
         column_costs(stale, role, kind, &lines, pins, numbers, &mut costs);
         let group = cell + sizes::GROUPS_AT + visit_group(role, kind, i) * sizes::GROUP_WORDS;
         let place = visit_place(role, kind, &lines, pins, i);
-        stale = visit(role, kind, library, group, &costs, numbers, place, pins);
+        stale = visit(
+            role,
+            kind,
+            library,
+            group,
+            wired,
+            &lines,
+            &costs,
+            numbers,
+            place,
+            pins,
+        );
         let line = visit_line(role, &lines, i);
         wake_needing(role, stale, line, gates, first, next, driver, awake);
         changed = either(changed, stale);
@@ -243,11 +268,12 @@ fn one_sweep(
     first: &[u16; sizes::LINE_PLACES],
     next: &[u16; sizes::PIN_PLACES],
     driver: &[u16; sizes::LINE_PLACES],
+    tied: &[bool; sizes::GATES],
     numbers: &mut [u32; sizes::NUMBERS],
     awake: &mut [u64; sizes::AWAKE_WORDS],
 ) -> bool
     requires { ⌜ SweepFits role kind (now library) (now netlist) (now first) (now next) (now driver)
-        (now numbers) (now awake) ⌝ }
+        (now tied) (now numbers) (now awake) ⌝ }
     ensures swept { λ r.
         ⌜ Swept (ruleOf role) (sweepVisits role kind (now (library .entry)) (now (netlist .entry)))
         (now (numbers .entry)) (now (numbers .exit)) r ⌝ }
@@ -269,6 +295,7 @@ fn one_sweep(
             first,
             next,
             driver,
+            tied,
             numbers,
             awake,
             gate,
@@ -289,11 +316,12 @@ fn run(
     first: &[u16; sizes::LINE_PLACES],
     next: &[u16; sizes::PIN_PLACES],
     driver: &[u16; sizes::LINE_PLACES],
+    tied: &[bool; sizes::GATES],
     numbers: &mut [u32; sizes::NUMBERS],
     awake: &mut [u64; sizes::AWAKE_WORDS],
 ) -> u32
     requires { ⌜ RunFits role kind (now library) (now netlist) (now first) (now next) (now driver)
-        (now numbers) (now awake) ⌝ }
+        (now tied) (now numbers) (now awake) ⌝ }
     ensures { λ r.
         ⌜ Settles (ruleOf role) (sweepVisits role kind (now (library .entry)) (now (netlist .entry)))
         (now (numbers .entry)) r (now (numbers .exit)) ⌝ }
@@ -307,6 +335,7 @@ fn run(
         first,
         next,
         driver,
+        tied,
         numbers,
         awake,
     ) {
@@ -324,10 +353,11 @@ fn run_all(
     first: &[u16; sizes::LINE_PLACES],
     next: &[u16; sizes::PIN_PLACES],
     driver: &[u16; sizes::LINE_PLACES],
+    tied: &[bool; sizes::GATES],
     numbers: &mut [u32; sizes::NUMBERS],
 ) -> u32
     requires { ⌜ FreshFits role kind (now library) (now netlist) (now first) (now next) (now driver)
-        (now numbers) ⌝ }
+        (now tied) (now numbers) ⌝ }
     ensures { λ r.
         ⌜ Settles (ruleOf role) (sweepVisits role kind (now (library .entry)) (now (netlist .entry)))
         (now (numbers .entry)) r (now (numbers .exit)) ⌝ }
@@ -341,6 +371,7 @@ fn run_all(
         first,
         next,
         driver,
+        tied,
         numbers,
         &mut awake,
     )
@@ -397,6 +428,8 @@ fn analyse(library: &[u32], netlist: &[u32], numbers: &mut [u32; sizes::NUMBERS]
     let mut driver = [0u16; sizes::LINE_PLACES];
     chain(netlist, gates, &mut first, &mut next);
     note_drivers(netlist, gates, &mut driver);
+    let mut tied = [false; sizes::GATES];
+    note_tied(library, netlist, gates, &mut tied);
     start(netlist, numbers);
     let cc = run_all(
         SETTING,
@@ -406,6 +439,7 @@ fn analyse(library: &[u32], netlist: &[u32], numbers: &mut [u32; sizes::NUMBERS]
         &first,
         &next,
         &driver,
+        &tied,
         numbers,
     );
     let sc = run_all(
@@ -416,6 +450,7 @@ fn analyse(library: &[u32], netlist: &[u32], numbers: &mut [u32; sizes::NUMBERS]
         &first,
         &next,
         &driver,
+        &tied,
         numbers,
     );
     let co = run_all(
@@ -426,6 +461,7 @@ fn analyse(library: &[u32], netlist: &[u32], numbers: &mut [u32; sizes::NUMBERS]
         &first,
         &next,
         &driver,
+        &tied,
         numbers,
     );
     let so = run_all(
@@ -436,6 +472,7 @@ fn analyse(library: &[u32], netlist: &[u32], numbers: &mut [u32; sizes::NUMBERS]
         &first,
         &next,
         &driver,
+        &tied,
         numbers,
     );
     Counts { cc, sc, co, so }

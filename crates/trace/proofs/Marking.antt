@@ -18,7 +18,7 @@ use Rattle.plans.specs.Sweep.{at, least, lower}
 use Rattle.plans.specs.Trace.{firstPlace, Mark, Trace, markAt, markOf, traceVisit}
 use Rattle.plans.proofs.Laws.{least-bound}
 use Rattle.gates.specs.Tables.{gateLines, byRole, groupVisit, gateVisit}
-use Rattle.trace.specs.Marks.{rowPlace, lastMark, Noted, Unnoted, NotedAs, AllNoted, Stands}
+use Rattle.trace.specs.Marks.{rowPlace, gateRow, lastPin, writtenRow, askingRow, Noted, Unnoted, NotedAs, AllNoted, Stands}
 use Rattle.trace.proofs.Tracing.{idle-visit}
 
 -- ---- four numbers of a table
@@ -91,7 +91,7 @@ module _ (kind : ℕ) (library netlist : List ℕ) where
         inside = n .inside;
         drives = n .drives;
         visit = rw z (same 0 (omega arith) ∙ rw z at (n .visit));
-        depth = same 1 (omega arith) ∙ n .depth;
+        row = same 1 (omega arith) ∙ n .row;
         columns = same 2 (omega arith) ∙ n .columns;
         last = same 3 (omega arith) ∙ n .last;
       }
@@ -108,13 +108,13 @@ module _ (kind : ℕ) (library netlist : List ℕ) where
 
     module _ (g l e : ℕ) (node : v .node ≡ settingPlace kind l e) (inside : g < getD netlist 0 0) (drives : getD (gateLines netlist g) 0 0 ≡ l)
         (kinds : kind ≤ 1) (least-line : 1 ≤ l) (most-line : l ≤ Size.lines) (value : e ≤ 1) (size : length table ≡ Size.marks)
-        (number row : ℕ) (least-is : number ≡ least numbers (v .ways)) (row-is : row ≡ firstPlace numbers (v .ways))
+        (number row : ℕ) (least-is : number ≡ least numbers (v .ways)) (row-is : row ≡ gateRow kind library netlist g e (firstPlace numbers (v .ways)))
         (falls : least numbers (v .ways) < at numbers (v .node)) where
       abbrev at-row : ℕ
       at-row = rowPlace kind netlist g e row
 
       abbrev noting : List ℕ
-      noting = sets table (markPlace l e) (suc (t .time) ∷ getD library at-row 0 ∷ getD library (at-row + 1) 0 ∷ lastMark library netlist g ∷ [])
+      noting = sets table (markPlace l e) (suc (t .time) ∷ writtenRow library netlist g at-row ∷ askingRow library netlist g at-row ∷ lastPin library netlist g ∷ [])
 
       abbrev new : Mark
       new = markOf (t .numbers) (t .time) v
@@ -122,9 +122,9 @@ module _ (kind : ℕ) (library netlist : List ℕ) where
       abbrev marked : List (Option Mark)
       marked = set (t .marks) (v .node) (some new)
 
-      place-is : new .place ≡ row
+      place-is : gateRow kind library netlist g e (new .place) ≡ row
       unfolding markOf
-      place-is = sym (row-is ∙ ap (λ (xs : List ℕ). firstPlace xs (v .ways)) (s .numbersAre))
+      place-is = sym (row-is ∙ ap (λ (xs : List ℕ). gateRow kind library netlist g e (firstPlace xs (v .ways))) (s .numbersAre))
 
       time-is : new .time ≡ t .time
       unfolding markOf
@@ -140,7 +140,7 @@ module _ (kind : ℕ) (library netlist : List ℕ) where
             inside = inside;
             drives = drives;
             visit = rw time-is (four-first table (markPlace l e) _ _ _ _ room);
-            depth = rw place-is (four-second table (markPlace l e) _ _ _ _ room);
+            row = rw place-is (four-second table (markPlace l e) _ _ _ _ room);
             columns = rw place-is (four-third table (markPlace l e) _ _ _ _ room);
             last = four-fourth table (markPlace l e) _ _ _ _ room;
           }

@@ -1,7 +1,9 @@
 -- The first of the rows that come to the least sum, the rows taken from the last to the first, and the same over the costs of
 -- the columns and over the numbers.
 -- Assumes nothing.
+use mathlib.Core.Bool.{true, false}
 use mathlib.Core.List.{List, []}
+use mathlib.Core.Option.{Option, none, some}
 use mathlib.Core.Path.{_≡_, refl, sym, ap, _∙_}
 use Prim.Native.Nat.{ℕ, zero, suc, _+_, _*_, _-_, _^_, _≤_, _<_}
 use native.Mathlib.Omega.{arith}
@@ -9,32 +11,69 @@ use borrow.Author.Tests.{le-leb, lt-leb}
 use lib.ListN.{length, getD}
 use Rattle.sizes.specs.Sizes as Size
 use Rattle.reading.specs.Choice.{pick}
-use Rattle.cost.specs.Cost.{capped, never, lesser, counted, _⊕_}
+use Rattle.cost.specs.Cost.{over, capped, never, lesser, counted, _⊕_}
 use Rattle.cost.proofs.Laws.{sum-bound}
+use Rattle.plans.specs.System.{Way}
 use Rattle.plans.specs.Sweep.{sums, way, least}
 use Rattle.plans.specs.Trace.{firstPlace}
 use Rattle.plans.proofs.Laws.{least-bound}
-use Rattle.gates.specs.Tables.{namedColumns, columnWays, rowWays, groupColumns, groupWays}
+use Rattle.gates.specs.Tables.{rowPlaces, namedColumns, hasWay, withWay, rowWays, groupColumns, groupWays}
 use Rattle.gates.specs.Fits.{Gathered, GroupFits}
-use Rattle.gates.specs.Sums.{rowSum}
+use Rattle.gates.specs.Sums.{rowSum, lesserRow}
 use Rattle.gates.proofs.Gathering.{row-same, rows-same}
 use Rattle.gates.proofs.Rows.{leastFrom, rows-more}
+use Rattle.trace.specs.Marks.{stepRow, wayRow}
 
-module _ (library costs : List ℕ) (group : ℕ) where
+-- ---- one row before others
+
+module _ (costs : List ℕ) (d : ℕ) (shallow : d ≤ over) where
+  here : (o : Option ℕ) (ws : List Way) (f : ℕ → ℕ) → hasWay o ≡ true → lesserRow costs d o never ≤ least costs ws
+      → stepRow o (firstPlace costs (withWay d namedColumns o ws)) f ≡ 0
+  unfolding hasWay lesserRow rowSum lesser counted stepRow withWay firstPlace way capped pick
+  here none ws f b h = let z : _≡_ {A = ℕ} 0 1 = cc in absurd (omega arith)
+  here (some x) ws f b h =
+      let c : capped d ≡ d = omega arith in
+      let s : d ⊕ sums costs (namedColumns x) ≤ least costs ws = omega (arith, sum-bound d (sums costs (namedColumns x)), least-bound costs ws) in
+      rw (c, le-leb (d ⊕ sums costs (namedColumns x)) (least costs ws) s)
+
+  later : (o : Option ℕ) (ws : List Way) (f : ℕ → ℕ) → least costs ws < lesserRow costs d o never
+      → stepRow o (firstPlace costs (withWay d namedColumns o ws)) f ≡ suc (f (firstPlace costs ws))
+  unfolding lesserRow rowSum lesser counted stepRow withWay firstPlace way capped pick
+  later none ws f h = refl
+  later (some x) ws f h =
+      let c : capped d ≡ d = omega arith in
+      let s : least costs ws < d ⊕ sums costs (namedColumns x) = omega (arith, sum-bound d (sums costs (namedColumns x))) in
+      rw (c, lt-leb (d ⊕ sums costs (namedColumns x)) (least costs ws) s)
+
+  past : (o : Option ℕ) (ws : List Way) (f : ℕ → ℕ) → hasWay o ≡ false → stepRow o (firstPlace costs (withWay d namedColumns o ws)) f ≡ suc (f (firstPlace costs ws))
+  unfolding hasWay stepRow withWay
+  past none ws f b = refl
+  past (some x) ws f b = let z : _≡_ {A = ℕ} 0 1 = cc in absurd (omega arith)
+
+  unread : (o : Option ℕ) (best : ℕ) → hasWay o ≡ false → lesserRow costs d o best ≡ best
+  unfolding hasWay lesserRow
+  unread none best b = refl
+  unread (some x) best b = let z : _≡_ {A = ℕ} 0 1 = cc in absurd (omega arith)
+
+  joined : (o : Option ℕ) (best : ℕ) → best ≤ never → lesserRow costs d o best ≡ lesser (lesserRow costs d o never) best
+  unfolding lesserRow rowSum lesser counted
+  joined none best b = omega arith
+  joined (some x) best b = omega (arith, sum-bound d (sums costs (namedColumns x)))
+
+module _ (read : ℕ → Option ℕ) (library costs : List ℕ) (group : ℕ) where
+  abbrev rowsFrom : ℕ → List Way
+  rowsFrom row = rowWays read namedColumns library (getD library group 0 - row) (group + 1 + Size.rowWords * row)
+
   -- The first of the rows from `row` on that come to the least of their sums.
   abbrev pub firstFrom : ℕ → ℕ
-  firstFrom row = row + firstPlace costs (columnWays library (getD library group 0 - row) (group + 1 + Size.rowWords * row))
-
-  pub first-none : (row : ℕ) → row ≡ getD library group 0 → row ≡ firstFrom row
-  unfolding columnWays firstPlace
-  first-none row h = let e : getD library group 0 - row ≡ 0 = omega arith in rw e (omega arith)
+  firstFrom row = row + wayRow read library (getD library group 0 - row) (group + 1 + Size.rowWords * row) (firstPlace costs (rowsFrom row))
 
   module _ (row : ℕ) (some : 0 < row) (within : row ≤ getD library group 0) (fit : GroupFits library group Size.columns) where
     abbrev place : ℕ
     place = group + 1 + Size.rowWords * (row - 1)
 
     abbrev sum : ℕ
-    sum = rowSum costs (getD library place 0) (getD library (place + 1) 0)
+    sum = lesserRow costs (getD library place 0) (read (getD library (place + 1) 0)) never
 
     more : getD library group 0 - (row - 1) ≡ suc (getD library group 0 - row)
     more = omega arith
@@ -42,32 +81,50 @@ module _ (library costs : List ℕ) (group : ℕ) where
     next : place + Size.rowWords ≡ group + 1 + Size.rowWords * row
     next = omega arith
 
-    deep : capped (getD library place 0) ≡ getD library place 0
-    unfolding capped
-    deep = omega (arith, fit .depth (row - 1) (omega arith))
+    deep : getD library place 0 ≤ over
+    deep = fit .depth (row - 1) (omega arith)
 
-    pub first-here : sum ≤ leastFrom library costs group row → row - 1 ≡ firstFrom (row - 1)
-    unfolding columnWays firstPlace way rowSum pick
-    first-here h = rw (more, next, deep, le-leb sum (leastFrom library costs group row) h) (omega arith)
+    pub first-here : sum ≤ leastFrom read library costs group row → hasWay (read (getD library (place + 1) 0)) ≡ true → row - 1 ≡ firstFrom (row - 1)
+    unfolding rowWays wayRow
+    first-here h b =
+        let e = here costs (getD library place 0) deep (read (getD library (place + 1) 0)) (rowsFrom row) (wayRow read library (getD library group 0 - row) (group + 1 + Size.rowWords * row)) b h in
+        rw (more, next) (omega (arith, e))
 
-    pub first-later : leastFrom library costs group row < sum → firstFrom row ≡ firstFrom (row - 1)
-    unfolding columnWays firstPlace way rowSum pick
-    first-later h = rw (more, next, deep, lt-leb sum (leastFrom library costs group row) h) (omega arith)
+    pub first-later : leastFrom read library costs group row < sum → firstFrom row ≡ firstFrom (row - 1)
+    unfolding rowWays wayRow
+    first-later h =
+        let e = later costs (getD library place 0) deep (read (getD library (place + 1) 0)) (rowsFrom row) (wayRow read library (getD library group 0 - row) (group + 1 + Size.rowWords * row)) h in
+        rw (more, next) (omega (arith, e))
 
-    pub least-here : sum ≤ leastFrom library costs group row → sum ≡ leastFrom library costs group (row - 1)
-    unfolding lesser counted rowSum
-    least-here h =
-        let e = rows-more library costs group row Size.columns some within fit in
-        omega (arith, e, sum-bound (getD library place 0) (sums costs (namedColumns (getD library (place + 1) 0))))
+    lesser-is : lesser sum (leastFrom read library costs group row) ≡ leastFrom read library costs group (row - 1)
+    lesser-is =
+        sym (joined costs (getD library place 0) deep (read (getD library (place + 1) 0)) (leastFrom read library costs group row) (least-bound costs (rowsFrom row)))
+        ∙ rows-more read library costs group row Size.columns some within fit
 
-    pub least-later : leastFrom library costs group row < sum → leastFrom library costs group row ≡ leastFrom library costs group (row - 1)
-    unfolding lesser counted rowSum
-    least-later h =
-        let e = rows-more library costs group row Size.columns some within fit in
-        omega (arith, e, sum-bound (getD library place 0) (sums costs (namedColumns (getD library (place + 1) 0))))
+    pub least-here : sum ≤ leastFrom read library costs group row → sum ≡ leastFrom read library costs group (row - 1)
+    unfolding lesser counted
+    least-here h = omega (arith, lesser-is, least-bound costs (rowsFrom row))
 
-  pub first-all : (row : ℕ) → row ≤ 0 → firstFrom row ≡ firstPlace costs (groupColumns library group)
-  unfolding groupColumns
+    pub least-later : leastFrom read library costs group row < sum → leastFrom read library costs group row ≡ leastFrom read library costs group (row - 1)
+    unfolding lesser counted
+    least-later h = omega (arith, lesser-is, least-bound costs (rowsFrom row))
+
+    -- A row that is no way is passed over.
+    pub first-past : hasWay (read (getD library (place + 1) 0)) ≡ false → firstFrom row ≡ firstFrom (row - 1)
+    unfolding rowWays wayRow
+    first-past b =
+        let e = past costs (getD library place 0) deep (read (getD library (place + 1) 0)) (rowsFrom row) (wayRow read library (getD library group 0 - row) (group + 1 + Size.rowWords * row)) b in
+        rw (more, next) (omega (arith, e))
+
+    pub least-past : hasWay (read (getD library (place + 1) 0)) ≡ false → leastFrom read library costs group row ≡ leastFrom read library costs group (row - 1)
+    least-past b = sym (unread costs (getD library place 0) deep (read (getD library (place + 1) 0)) (leastFrom read library costs group row) b) ∙ rows-more read library costs group row Size.columns some within fit
+
+  pub first-none : (row : ℕ) → row ≡ getD library group 0 → row ≡ firstFrom row
+  unfolding wayRow
+  first-none row h = let e : getD library group 0 - row ≡ 0 = omega arith in rw e (omega arith)
+
+  pub first-all : (row : ℕ) → row ≤ 0 → firstFrom row ≡ wayRow read library (getD library group 0) (group + 1) (firstPlace costs (groupColumns read library group))
+  unfolding groupWays
   first-all row h =
       let e : row ≡ 0 = omega arith in
       let n : getD library group 0 - 0 ≡ getD library group 0 = omega arith in
@@ -76,24 +133,29 @@ module _ (library costs : List ℕ) (group : ℕ) where
 
 -- ---- the same over the numbers
 
-module _ {count kind : ℕ} {lines : List ℕ} {pins : ℕ} {numbers costs : List ℕ} (g : Gathered count kind lines pins numbers costs) where
+module _ {count kind : ℕ} {lines : List ℕ} {pins : ℕ} {numbers costs : List ℕ} (g : Gathered count kind lines pins numbers costs)
+    (read : ℕ → Option ℕ) (narrow : (c x : ℕ) → c < 2 ^ count → read c ≡ some x → x < 2 ^ count) where
   firsts-same : (library : List ℕ) (n place : ℕ) → count ≤ 32 → ((i : ℕ) → i < n → getD library (place + Size.rowWords * i + 1) 0 < 2 ^ count)
-      → firstPlace costs (columnWays library n place) ≡ firstPlace numbers (rowWays kind lines pins library n place)
-  unfolding columnWays rowWays firstPlace way
+      → firstPlace costs (rowWays read namedColumns library n place) ≡ firstPlace numbers (rowWays read (rowPlaces kind lines pins) library n place)
+  unfolding rowWays withWay firstPlace way
   firsts-same library zero place few b = refl
   firsts-same library (suc n) place few b =
-      let z : place + Size.rowWords * 0 ≡ place = omega arith in
-      rw (
-        row-same g (getD library (place + 1) 0) few (rw z at (b 0 (omega arith))),
-        rows-same g library n (place + Size.rowWords) few (λ i h. rw (next i) (b (suc i) (omega arith))),
-        firsts-same library n (place + Size.rowWords) few (λ i h. rw (next i) (b (suc i) (omega arith))),
-      )
-      refl
+      side (read (getD library (place + 1) 0)) refl _ _
+      (rows-same g read narrow library n (place + Size.rowWords) few (λ i h. rw (next i) (b (suc i) (omega arith))))
+      (firsts-same library n (place + Size.rowWords) few (λ i h. rw (next i) (b (suc i) (omega arith))))
     where
       next : (i : ℕ) → place + Size.rowWords + Size.rowWords * i ≡ place + Size.rowWords * suc i
       next i = omega arith
 
+      first : getD library (place + 1) 0 < 2 ^ count
+      first = let z : place + Size.rowWords * 0 ≡ place = omega arith in rw z at (b 0 (omega arith))
+
+      side : (o : Option ℕ) → read (getD library (place + 1) 0) ≡ o → (us vs : List Way) → least costs us ≡ least numbers vs → firstPlace costs us ≡ firstPlace numbers vs
+          → firstPlace costs (withWay (getD library place 0) namedColumns o us) ≡ firstPlace numbers (withWay (getD library place 0) (rowPlaces kind lines pins) o vs)
+      side none e us vs l f = f
+      side (some x) e us vs l f = rw (row-same g x few (narrow (getD library (place + 1) 0) x first e), l, f)
+
   pub first-same : (library : List ℕ) (group : ℕ) → count ≤ Size.columns → GroupFits library group count
-      → firstPlace costs (groupColumns library group) ≡ firstPlace numbers (groupWays kind lines pins library group)
-  unfolding groupColumns groupWays
+      → firstPlace costs (groupColumns read library group) ≡ firstPlace numbers (groupWays read (rowPlaces kind lines pins) library group)
+  unfolding groupWays
   first-same library group few f = firsts-same library (getD library group 0) (group + 1) (omega arith) (f .columns)

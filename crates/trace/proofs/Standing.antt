@@ -136,7 +136,7 @@ module _ (cells : List Cell) (ss : List Statement) (sound : BothSound cells ss) 
           needed = λ w i n j.
               let o : Offer Sets k cells gs (v .node) w = offer (record { visit = v; listed = m; same = refl; among = i }) t in
               let f = offer-need o n j in
-              rw (← f .2) (own-asked (o .gate) (o .listed) (o .role) (o .allowed) (f .0) (asks-named (cellOf cells (o .gate)) (o .role) (o .row) (f .0) (f .1)));
+              rw (← f .2) (own-asked (o .gate) (o .listed) (o .role) (o .allowed) (f .0) (asks-named (o .gate) (cellOf cells (o .gate)) (o .role) (o .row) (f .0) (f .1)));
         }
 
     -- ---- what the other runs leave

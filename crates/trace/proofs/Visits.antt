@@ -1,9 +1,10 @@
 -- A visit out of the tables, from what the parts of `visit` read and store.
 -- Assumes nothing.
-use mathlib.Core.Bool.{true, false}
+use mathlib.Core.Bool.{Bool, true, false}
 use mathlib.Core.List.{List, [], _∷_}
+use mathlib.Core.Option.{Option, some}
 use mathlib.Core.Path.{_≡_, refl, sym, ap, subst, _∙_}
-use Prim.Native.Nat.{ℕ, suc, _+_, _*_, _≤_, _<_}
+use Prim.Native.Nat.{ℕ, suc, _+_, _*_, _^_, _≤_, _<_}
 use native.Mathlib.Omega.{arith}
 use lib.ListN.{length, getD, set, length-set}
 use lib.Seq.{sets, length-sets}
@@ -14,18 +15,18 @@ use Rattle.plans.specs.System.{Visit}
 use Rattle.plans.specs.Sweep.{at, least, lower}
 use Rattle.plans.specs.Trace.{firstPlace, Trace, traceVisit, traceSweep}
 use Rattle.plans.proofs.Laws.{at-getD}
-use Rattle.gates.specs.Tables.{gateCell, gatePins, gateLines, byRole, roleColumns, visitGroup, visitPlace, groupVisit, gateVisit}
+use Rattle.gates.specs.Tables.{readRow, gateCell, gatePins, gateLines, byRole, roleColumns, visitGroup, visitPlace, visitWired, groupVisit, gateVisit}
 use Rattle.gates.specs.Fits.{LinesFit, Gathered, GatherFits, GroupFits, GateFits, SumFits}
-use Rattle.gates.proofs.Gathering.{group-same, group-wider}
+use Rattle.gates.proofs.Gathering.{group-same, group-wider, read-narrow}
 use Rattle.sweep.proofs.Visits.{visit-is}
 use Rattle.sweep.proofs.Turning.{gather-first, rows-same}
 use Rattle.trace.specs.declared.Least.{Least}
-use Rattle.trace.specs.Marks.{rowPlace, lastMark, Stands}
+use Rattle.trace.specs.Marks.{rowPlace, wayRow, gateRow, lastPin, writtenRow, askingRow, Stands}
 use Rattle.trace.specs.Runs.{LeastOf, Fits, turnVisit, Traced}
 use Rattle.trace.proofs.Marking.{stands-still, stands-lowered}
 use Rattle.trace.proofs.Rows.{first-same}
 
-module _ (kind : ℕ) (library netlist numbers marks : List ℕ) (fits : Fits kind library netlist numbers marks) (g e : ℕ) (inside : g < getD netlist 0 0) (value : e ≤ 1)
+module _ (kind : ℕ) (library netlist : List ℕ) (tied : List Bool) (numbers marks : List ℕ) (fits : Fits kind library netlist tied numbers marks) (g e : ℕ) (inside : g < getD netlist 0 0) (value : e ≤ 1)
     (lines : List ℕ) (pins group : ℕ) (lines-are : lines ≡ gateLines netlist g) (pins-are : pins ≡ gatePins library netlist g)
     (group-is : group ≡ groupPlace (gateCell netlist g) (visitGroup 0 kind e)) where
   gate-fits : GateFits library netlist g
@@ -57,19 +58,33 @@ module _ (kind : ℕ) (library netlist numbers marks : List ℕ) (fits : Fits ki
     place-inside = rw place-is (omega (arith, fits .kindFits, lines-fit .least 0 (omega arith), lines-fit .most 0 (omega arith)))
 
     abbrev here : Visit
-    here = groupVisit kind lines pins library group place
+    here = groupVisit (getD tied g false) kind lines pins library group place
+
+    abbrev read : ℕ → Option ℕ
+    read = readRow (getD tied g false) lines pins
+
+    narrow : (c x : ℕ) → c < 2 ^ roleColumns 0 pins → read c ≡ some x → x < 2 ^ roleColumns 0 pins
+    unfolding byRole pick
+    narrow = read-narrow (getD tied g false) lines pins (2 * pins) (omega arith)
+
+    wired-is : getD tied g false ≡ visitWired 0 library netlist g
+    unfolding byRole pick
+    wired-is = fits .noted .each g inside
 
     same-visit : here ≡ turnVisit kind library netlist g e
-    same-visit = visit-is 0 kind library netlist g e group place pins lines lines-are pins-are group-is place-is
+    same-visit = visit-is 0 kind library netlist g e group place pins lines (getD tied g false) wired-is lines-are pins-are group-is place-is
 
-    module _ (costs : List ℕ) (gathered : Gathered (roleColumns 0 pins) kind lines pins numbers costs) (said : Least) (leastOf : LeastOf library group costs said) where
+    module _ (costs : List ℕ) (gathered : Gathered (roleColumns 0 pins) kind lines pins numbers costs) (said : Least) (leastOf : LeastOf read library group costs said) where
       least-is : said .number ≡ least numbers (here .ways)
       unfolding groupVisit
-      least-is = leastOf .number ∙ group-same gathered library group few-columns rows-fit
+      least-is = leastOf .number ∙ group-same gathered read narrow library group few-columns rows-fit
 
-      row-is : said .row ≡ firstPlace numbers (here .ways)
-      unfolding groupVisit
-      row-is = leastOf .row ∙ first-same gathered library group few-columns rows-fit
+      row-is : said .row ≡ gateRow kind library netlist g e (firstPlace numbers (here .ways))
+      unfolding groupVisit byRole pick
+      row-is =
+          leastOf .row
+          ∙ ap (wayRow read library (getD library group 0) (group + 1)) (first-same gathered read narrow library group few-columns rows-fit)
+          ∙ rw (group-is, fits .noted .each g inside, lines-are, pins-are)
 
       number-is : at numbers (here .node) ≡ getD numbers place 0
       unfolding groupVisit
@@ -91,29 +106,29 @@ module _ (kind : ℕ) (library netlist numbers marks : List ℕ) (fits : Fits ki
       unfolding groupVisit byRole pick
       node-is = place-is
 
-      noted : (t : Trace) (line clock depth columns last : ℕ) → t .time ≡ clock → line ≡ getD lines 0 0
-          → depth ≡ getD library (rowPlace kind netlist g e (said .row)) 0 → columns ≡ getD library (rowPlace kind netlist g e (said .row) + 1) 0
-          → last ≡ lastMark library netlist g → said .number < getD numbers place 0
+      noted : (t : Trace) (line clock row columns last : ℕ) → t .time ≡ clock → line ≡ getD lines 0 0
+          → row ≡ writtenRow library netlist g (rowPlace kind netlist g e (said .row)) → columns ≡ askingRow library netlist g (rowPlace kind netlist g e (said .row))
+          → last ≡ lastPin library netlist g → said .number < getD numbers place 0
           → Stands kind library netlist t numbers marks
-          → Stands kind library netlist (traceVisit lower t here) (set numbers (here .node) (said .number)) (sets marks (markPlace line e) ((clock + 1) ∷ depth ∷ columns ∷ last ∷ []))
-      noted t line clock depth columns last q l d c p h s =
+          → Stands kind library netlist (traceVisit lower t here) (set numbers (here .node) (said .number)) (sets marks (markPlace line e) ((clock + 1) ∷ row ∷ columns ∷ last ∷ []))
+      noted t line clock row columns last q l d c p h s =
           let time : clock + 1 ≡ suc (t .time) = omega arith in
           rw (time, l, d, c, p)
           (stands-lowered kind library netlist t numbers marks s here g (getD lines 0 0) e node-is inside
           (ap (λ (ls : List ℕ). getD ls 0 0) (sym lines-are)) (fits .kindFits) (lines-fit .least 0 (omega arith)) (lines-fit .most 0 (omega arith)) value (fits .marksSize)
           (said .number) (said .row) least-is row-is (omega (arith, number-is, least-is)))
 
-      pub traced-lowered : (line clock depth columns last : ℕ) → line ≡ getD lines 0 0
-          → depth ≡ getD library (rowPlace kind netlist g e (said .row)) 0 → columns ≡ getD library (rowPlace kind netlist g e (said .row) + 1) 0
-          → last ≡ lastMark library netlist g → said .number < getD numbers place 0
-          → (marks′ : List ℕ) → marks′ ≡ sets marks (markPlace line e) ((clock + 1) ∷ depth ∷ columns ∷ last ∷ [])
+      pub traced-lowered : (line clock row columns last : ℕ) → line ≡ getD lines 0 0
+          → row ≡ writtenRow library netlist g (rowPlace kind netlist g e (said .row)) → columns ≡ askingRow library netlist g (rowPlace kind netlist g e (said .row))
+          → last ≡ lastPin library netlist g → said .number < getD numbers place 0
+          → (marks′ : List ℕ) → marks′ ≡ sets marks (markPlace line e) ((clock + 1) ∷ row ∷ columns ∷ last ∷ [])
           → Traced kind library netlist (turnVisit kind library netlist g e ∷ []) clock numbers marks (set numbers place (said .number)) marks′ true
       unfolding traceSweep groupVisit
-      traced-lowered line clock depth columns last l d c p h marks′ m =
+      traced-lowered line clock row columns last l d c p h marks′ m =
           rw (← same-visit)
           (record {
-            stands = λ t q s. rw m (noted t line clock depth columns last q l d c p h s);
+            stands = λ t q s. rw m (noted t line clock row columns last q l d c p h s);
             still = λ q. let z : _≡_ {A = ℕ} 0 1 = cc in absurd (omega arith);
             long = length-set numbers place (said .number);
-            marksLong = ap length m ∙ length-sets marks (markPlace line e) ((clock + 1) ∷ depth ∷ columns ∷ last ∷ []);
+            marksLong = ap length m ∙ length-sets marks (markPlace line e) ((clock + 1) ∷ row ∷ columns ∷ last ∷ []);
           })

@@ -2,6 +2,7 @@
 -- Assumes nothing.
 use mathlib.Core.Bool.{Bool, false}
 use mathlib.Core.List.{List, _++_}
+use mathlib.Core.Option.{Option}
 use mathlib.Core.Path.{_≡_}
 use Prim.Native.Nat.{ℕ, _+_, _*_, _^_, _≤_, _<_}
 use lib.ListN.{length, getD, replicate}
@@ -13,23 +14,25 @@ use Rattle.cell_library.specs.Cells.{Cell}
 use Rattle.netlist.specs.Netlist.{Statement}
 use Rattle.calculation.specs.Nodes.{Kind, kindNumber}
 use Rattle.gates.specs.Tables.{groupColumns, gateVisit}
-use Rattle.gates.specs.Fits.{TablesFit}
+use Rattle.gates.specs.Fits.{TablesFit, Tied}
 use Rattle.sweep.specs.Ready.{Holds}
 use Rattle.trace.specs.declared.Least.{Least}
 use Rattle.trace.specs.Lowered.{settingTrace}
-use Rattle.trace.specs.Marks.{AllNoted, Stands}
+use Rattle.trace.specs.Marks.{wayRow, AllNoted, Stands}
 
--- The least row sum of a group over the costs of its columns, and the first row that comes to it.
-pub record LeastOf (library : List ℕ) (group : ℕ) (costs : List ℕ) (said : Least) : Type 0 where
-  pub number : said .number ≡ least costs (groupColumns library group)
-  pub row : said .row ≡ firstPlace costs (groupColumns library group)
+-- The least row sum of a group over the costs of its columns, and the first row that comes to it; the rows are read as those of
+-- the gate.
+pub record LeastOf (read : ℕ → Option ℕ) (library : List ℕ) (group : ℕ) (costs : List ℕ) (said : Least) : Type 0 where
+  pub number : said .number ≡ least costs (groupColumns read library group)
+  pub row : said .row ≡ wayRow read library (getD library group 0) (group + 1) (firstPlace costs (groupColumns read library group))
   pub few : said .row ≤ getD library group 0
 
 -- The tables and the arrays beside them.
-pub record Fits (kind : ℕ) (library netlist : List ℕ) (numbers marks : List ℕ) : Type 0 where
+pub record Fits (kind : ℕ) (library netlist : List ℕ) (tied : List Bool) (numbers marks : List ℕ) : Type 0 where
   pub kindFits : kind ≤ 1
   pub tablesFit : TablesFit library netlist
   pub few : getD netlist 0 0 ≤ Size.gates
+  pub noted : Tied library netlist (getD netlist 0 0) tied
   pub size : length numbers ≡ Size.numbers
   pub marksSize : length marks ≡ Size.marks
 

@@ -10,14 +10,17 @@
 use cost::NEVER;
 use gates::cell_place;
 use gates::gather::column_costs;
+use gates::is_way;
 use gates::kinds::wide;
 use gates::lines_of;
-use gates::row_number;
+use gates::note_tied;
+use gates::read_number;
 use gates::visits::SETTING;
 use gates::visits::visit_group;
 use gates::visits::visit_place;
 use sweep::start;
 use table::word;
+use wires::once;
 ghost use mathlib.Core.List.{List, [], _∷_};
 ghost use mathlib.Core.Path.{_≡_};
 ghost use Prim.Native.Nat.{_+_, _*_, _^_, _≤_, _<_};
@@ -29,10 +32,11 @@ ghost use Rattle.cell_library.specs.Cells.{Cell};
 ghost use Rattle.netlist.specs.Netlist.{Statement};
 ghost use Rattle.calculation.specs.Nodes.{Kind, kindNumber};
 ghost use Rattle.gates.specs.Fits.{SumFits};
+ghost use Rattle.gates.specs.Tables.{readRow};
 ghost use Rattle.sweep.specs.Order.{sweepVisits};
 ghost use Rattle.sweep.specs.Ready.{Holds};
 ghost use Rattle.trace.specs.Lowered.{settingTrace};
-ghost use Rattle.trace.specs.Marks.{deepMark, marked, AllNoted};
+ghost use Rattle.trace.specs.Marks.{asWritten, askingColumns, AllNoted};
 ghost use Rattle.trace.specs.Runs.{LeastOf, Fits, turnVisit, Traced, Traceable};
 
 // The least row sum of a group, and the first of its rows, from 0, that comes to it.
@@ -42,9 +46,19 @@ pub struct Least {
 }
 
 // From the last row to the first, so that the first among equals stays.
-fn least_row(kind: usize, library: &[u32], group: usize, costs: &[u32; sizes::COLUMNS]) -> Least
-    requires { ⌜ SumFits kind (now library) group (now costs) ⌝ }
-    ensures { λ r. ⌜ LeastOf (now (library .entry)) group (now (costs .entry)) r ⌝ }
+fn least_row(
+    wired: bool,
+    kind: usize,
+    library: &[u32],
+    group: usize,
+    lines: &[u32; sizes::GATE_LINES],
+    pins: usize,
+    costs: &[u32; sizes::COLUMNS],
+) -> Least
+    requires { ⌜ (pins ≤ Size.pins) × SumFits kind (now library) group (now costs) ⌝ }
+    ensures { λ r.
+        ⌜ LeastOf (readRow wired (now (lines .entry)) pins) (now (library .entry)) group
+        (now (costs .entry)) r ⌝ }
 {
     let mut number = NEVER;
     let mut first = wide(library[group]);
@@ -52,50 +66,62 @@ fn least_row(kind: usize, library: &[u32], group: usize, costs: &[u32; sizes::CO
     while 0 < row {
         row -= 1;
         let at = group + 1 + sizes::ROW_WORDS * row;
-        let sum = row_number(kind, costs, library[at], library[at + 1]);
-        if sum <= number {
-            number = sum;
-            first = row;
+        let depth = library[at];
+        let columns = library[at + 1];
+        if is_way(wired, lines, pins, columns) {
+            let sum = read_number(wired, kind, lines, pins, costs, depth, columns);
+            if sum <= number {
+                number = sum;
+                first = row;
+            }
         }
     }
     Least { number, row: first }
 }
 
-// Notes the visit of a line at a value, with the row that it took.
+// Notes the visit of a line at a value, with the row that it took as it is written, the columns by which
+// it asks, and where the line of the gate's last pin stands.
 fn note(
     marks: &mut [u32; sizes::MARKS],
     line: u32,
     value: usize,
     visit: u32,
-    depth: u32,
+    row: u32,
     columns: u32,
     last: u32,
 )
     requires { ⌜ (line ≤ Size.lines) × (value ≤ 1) × (length (now marks) ≡ Size.marks) ⌝ }
     ensures { λ _.
         ⌜ now (marks .exit) ≡ sets (now (marks .entry)) (markPlace line value)
-        (visit ∷ depth ∷ columns ∷ last ∷ []) ⌝ }
+        (visit ∷ row ∷ columns ∷ last ∷ []) ⌝ }
 {
     let at = (wide(line) * sizes::VALUES + value) * sizes::MARK_WORDS;
     marks[at] = visit;
-    marks[at + 1] = depth;
+    marks[at + 1] = row;
     marks[at + 2] = columns;
     marks[at + 3] = last;
 }
 
-// More by this is marked where a cell's entry begins with `Name3`.
-pub const DEEP_MARK: u32 = 65_536;
-
-// Where the line of a gate's last pin stands, with the heading of its cell.
-fn mark_of(last: usize, heading: u32) -> u32
-    requires { ⌜ last < deepMark ⌝ }
-    ensures { λ r. ⌜ r ≡ marked last heading ⌝ }
+// A row as its entry writes it, by its cell's heading.
+fn as_written(heading: u32, depth: u32, columns: u32) -> u32
+    ensures { λ r. ⌜ r ≡ asWritten heading depth columns ⌝ }
 {
     if heading == 0 {
-        last as u32
+        ((columns as u64 * 2 + depth as u64) % 4294967296) as u32
     } else {
-        last as u32 + DEEP_MARK
+        ((columns as u64 * 8 + depth as u64) % 4294967296) as u32
     }
+}
+
+// The columns by which a row asks that is a way.
+fn asking_columns(wired: bool, lines: &[u32; sizes::GATE_LINES], pins: usize, columns: u32) -> u32
+    requires { ⌜ pins ≤ Size.pins ⌝ }
+    ensures { λ r. ⌜ r ≡ askingColumns wired (now (lines .entry)) pins columns ⌝ }
+{
+    if wired {
+        return once(lines, pins, columns);
+    }
+    columns
 }
 
 // A visit to a gate's output at a value, at a time: lowers its number to the least row sum, and notes
@@ -104,13 +130,14 @@ fn visit(
     kind: usize,
     library: &[u32],
     netlist: &[u32],
+    tied: &[bool; sizes::GATES],
     gate: usize,
     value: usize,
     clock: u32,
     numbers: &mut [u32; sizes::NUMBERS],
     marks: &mut [u32; sizes::MARKS],
 ) -> bool
-    requires { ⌜ Fits kind (now library) (now netlist) (now numbers) (now marks)
+    requires { ⌜ Fits kind (now library) (now netlist) (now tied) (now numbers) (now marks)
         × (gate < getD (now netlist) 0 0) × (value ≤ 1) × (clock + 1 < 2 ^ 32) ⌝ }
     ensures { λ r.
         ⌜ Traced kind (now (library .entry)) (now (netlist .entry))
@@ -124,24 +151,27 @@ fn visit(
     column_costs(true, SETTING, kind, &lines, pins, numbers, &mut costs);
     let group = cell + sizes::GROUPS_AT + visit_group(SETTING, kind, value) * sizes::GROUP_WORDS;
     let place = visit_place(SETTING, kind, &lines, pins, value);
-    let least = least_row(kind, library, group, &costs);
+    let least = least_row(tied[gate], kind, library, group, &lines, pins, &costs);
     if numbers[place] <= least.number {
         return false;
     }
     numbers[place] = least.number;
     let row = group + 1 + sizes::ROW_WORDS * least.row;
-    let last = mark_of(
-        sizes::GATES_AT + gate * sizes::GATE_WORDS + 1 + pins,
+    let columns = word(library, row + 1);
+    let written = as_written(
         word(library, cell + sizes::HEADING_AT),
+        word(library, row),
+        columns,
     );
+    let asking = asking_columns(tied[gate], &lines, pins, columns);
     note(
         marks,
         lines[0],
         value,
         clock + 1,
-        word(library, row),
-        word(library, row + 1),
-        last,
+        written,
+        asking,
+        (sizes::GATES_AT + gate * sizes::GATE_WORDS + 1 + pins) as u32,
     );
     true
 }
@@ -151,11 +181,12 @@ fn one_sweep(
     kind: usize,
     library: &[u32],
     netlist: &[u32],
+    tied: &[bool; sizes::GATES],
     clock: u32,
     numbers: &mut [u32; sizes::NUMBERS],
     marks: &mut [u32; sizes::MARKS],
 ) -> bool
-    requires { ⌜ Fits kind (now library) (now netlist) (now numbers) (now marks)
+    requires { ⌜ Fits kind (now library) (now netlist) (now tied) (now numbers) (now marks)
         × (clock + 2 * Size.gates < 2 ^ 32) ⌝ }
     ensures { λ r.
         ⌜ Traced kind (now (library .entry)) (now (netlist .entry))
@@ -171,6 +202,7 @@ fn one_sweep(
             kind,
             library,
             netlist,
+            tied,
             turn / 2,
             turn % 2,
             time,
@@ -193,12 +225,14 @@ pub fn trace(kind: usize, library: &[u32], netlist: &[u32], marks: &mut [u32; si
         (now (marks .exit))) ⌝ }
 {
     let gates = wide(netlist[0]);
+    let mut tied = [false; sizes::GATES];
+    note_tied(library, netlist, gates, &mut tied);
     let mut numbers = [0u32; sizes::NUMBERS];
     start(netlist, &mut numbers);
     let mut clock: u32 = 0;
     let mut left = 2 * gates + 1;
     while 0 < left {
-        let changed = one_sweep(kind, library, netlist, clock, &mut numbers, marks);
+        let changed = one_sweep(kind, library, netlist, &tied, clock, &mut numbers, marks);
         if !changed {
             return;
         }

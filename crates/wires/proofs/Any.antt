@@ -10,7 +10,7 @@ use lib.ListN.{length, getD}
 use Rattle.table.specs.Blocks.{fitted}
 use Rattle.cell_library.specs.Cells.{bit, bitOf}
 use Rattle.cell_library.specs.Library.{anyOf}
-use Rattle.wires.specs.OneWire.{bothValues}
+use Rattle.calculation.specs.Ways.{bothValues}
 use Rattle.wires.specs.Wires.{anyBelow}
 
 module _ (p : ℕ → Bool) where

@@ -17,7 +17,7 @@ use Rattle.cell_library.specs.Library.{Word, CC, CO, SC, SO, groupCount, wordGr
 use Rattle.cell_library.specs.Layout.{libraryWords, cellGroups}
 use Rattle.cell_library.specs.Sound.{SoundGroup, SoundGroups, SoundCell}
 use Rattle.cell_library.proofs.Places.{length-cellGroups, group-count, row-columns}
-use Rattle.wires.specs.OneWire.{bothValues, oneWire}
+use Rattle.calculation.specs.Ways.{bothValues, oneWire}
 use Rattle.calculation.proofs.Visiting.{getD-listed}
 use Rattle.wires.specs.Wires.{anyBelow, groupBoth, cellBoth}
 use Rattle.wires.proofs.Any.{any-same, any-list, any-append, any-fitted}

@@ -1,4 +1,4 @@
--- Rows read by their bits are those of specs/OneWire.antt.
+-- Rows read by their bits are those of specs/Ways.antt of crate `calculation`.
 -- Assumes nothing.
 use mathlib.Core.Bool.{Bool, true, false, not, _&&_, _||_}
 use mathlib.Core.List.{List, [], _∷_}
@@ -15,8 +15,7 @@ use Rattle.cell_library.specs.Cells.{Column, pin, bitOf, bit, pinColumns, setti
 use Rattle.cell_library.specs.Library.{anyOf}
 use Rattle.netlist.specs.Netlist.{Gate}
 use Rattle.calculation.specs.Nodes.{Purpose, set}
-use Rattle.calculation.specs.Ways.{pinLine, asked}
-use Rattle.wires.specs.OneWire.{bothValues, sameValue, otherValue, anyAsks, once, needsBoth}
+use Rattle.calculation.specs.Ways.{pinLine, asked, bothValues, sameValue, otherValue, anyAsks, once, needsBoth}
 use Rattle.wires.specs.Wires.{anyBelow, columnLine, columnValue, asksAt, askedBelow, keeps, opposed, masked, onceColumns, bothColumns, readBefore, sharesLine}
 use Rattle.wires.proofs.Any.{any-none, any-found, any-first, pinBoth, pins-both}
 use Rattle.wires.proofs.Masks.{masked-few, masked-bit}

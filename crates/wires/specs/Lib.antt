@@ -1,2 +1,1 @@
-pub mod OneWire
 pub mod Wires

@@ -1,6 +1,6 @@
 -- Rows of a gate whose pins share a line, by the bits of their columns. Document 02, K7. Column j of a cell of n pins, from the
 -- lowest bit up, names a line of `lines`, the gate's line and those of its pins, at 1 where j is even and at 0 where it is odd.
--- `proofs/Reading.antt` shows that rows so read are those of specs/OneWire.antt.
+-- `proofs/Reading.antt` shows that rows so read are those of specs/Ways.antt of crate `calculation`.
 -- Assumes nothing.
 use mathlib.Core.Bool.{Bool, false, not, _&&_, _||_}
 use mathlib.Core.List.{List}
@@ -10,7 +10,7 @@ use lib.ListN.{getD}
 use Rattle.sizes.specs.Sizes as Size
 use Rattle.reading.specs.Choice.{pick}
 use Rattle.cell_library.specs.Cells.{bit}
-use Rattle.wires.specs.OneWire.{bothValues}
+use Rattle.calculation.specs.Ways.{bothValues}
 
 -- Whether one of the numbers below `count` passes.
 unfoldable pub anyBelow : (ℕ → Bool) → ℕ → Bool

@@ -10,7 +10,7 @@ ghost use lib.ListN.{length, getD};
 ghost use Rattle.sizes.specs.Sizes as Size;
 ghost use Rattle.reading.specs.Choice.{pick};
 ghost use Rattle.cell_library.specs.Cells.{bit};
-ghost use Rattle.wires.specs.OneWire.{bothValues};
+ghost use Rattle.calculation.specs.Ways.{bothValues};
 ghost use Rattle.wires.specs.Wires.{anyBelow, asksAt, keeps, opposed, onceColumns, bothColumns};
 ghost use Rattle.wires.specs.Wires.{readBefore, sharesLine, groupBoth, cellBoth, tiedAt};
 use table::word;

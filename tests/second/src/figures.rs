@@ -326,16 +326,17 @@ pub fn latches(count: usize) -> String {
 }
 
 /// D0 and D1 with both pins on one line double its cost at 1, and D1 adds 1. SEE shows its first pin
-/// for the 1 of its second. ALL is 0 for the 1 of all eight pins.
+/// for the 1 of its second. ALL is 0 for the 1 of all eight pins. D0, D1 and ALL have a row, never the
+/// cheapest, that names both values of a pin: so each pin is paid, though they share a line.
 pub const EXACT: &str = "\
 Name,D0,2
-CC,21,M,5,12
+CC,21,M,5,M,7,12
 CO,203,211
 SC,20,M,4,12
 SO,202,210
 End
 Name,D1,2
-CC,21,M,5,13
+CC,21,M,5,M,7,13
 CO,203,211
 SC,20,M,4,13
 SO,202,210
@@ -347,7 +348,7 @@ SC,20,12
 SO,202,210
 End
 Name,ALL,8
-CC,125252,2
+CC,125252,2,M,6
 CO,2000000,2000000,2000000,2000000,2000000,2000000,2000000,2000000
 SC,125252,2
 SO,2000000,2000000,2000000,2000000,2000000,2000000,2000000,2000000

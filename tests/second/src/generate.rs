@@ -144,6 +144,8 @@ pub enum Style {
     Common,
     /// Any row that the table of refusals lets pass.
     Any,
+    /// Such rows, none of which names both values of one pin: pins that share a line are one wire.
+    Wired,
     /// Groups of sixteen rows over eight pins.
     Largest,
     /// Any rows, with one in each group that asks for little: a change goes on from gate to gate.
@@ -213,6 +215,17 @@ fn tie(rng: &mut Random, groups: &mut [Vec<u32>]) {
     }
 }
 
+/// Leaves one value of each pin that a row names at both.
+fn part(rng: &mut Random, pins: usize, lines: &mut [Vec<Vec<u32>>; 4]) {
+    for row in lines.iter_mut().flatten().flatten() {
+        for pin in 0..pins {
+            if *row >> (2 * pin + 1) & 3 == 3 {
+                *row &= !(1 << (2 * pin + 1 + rng.below(2)));
+            }
+        }
+    }
+}
+
 /// A CC or SC line of a cell without pins.
 fn tied(rng: &mut Random) -> Vec<Vec<u32>> {
     let mut groups: Vec<Vec<u32>> = (0..2)
@@ -248,7 +261,7 @@ fn ways(rng: &mut Random, pins: usize, style: Style) -> [Vec<Vec<u32>>; 4] {
         if style == Style::Carrying {
             carry(rng, pins, &mut lines);
         }
-        if style == Style::Any {
+        if matches!(style, Style::Any | Style::Wired) {
             for (line, groups) in lines.iter_mut().enumerate() {
                 if line % 2 == 0 && rng.once_in(6) {
                     tie(rng, groups);
@@ -257,6 +270,9 @@ fn ways(rng: &mut Random, pins: usize, style: Style) -> [Vec<Vec<u32>>; 4] {
                     groups[rng.below(pins)].clear();
                 }
             }
+        }
+        if style == Style::Wired {
+            part(rng, pins, &mut lines);
         }
         return lines;
     }
@@ -472,11 +488,7 @@ pub fn pair(rng: &mut Random, gates: usize) -> Pair {
         _ => rng.within(1, 5),
     };
     for _ in 0..cells {
-        let style = if rng.once_in(2) {
-            Style::Common
-        } else {
-            Style::Any
-        };
+        let style = *rng.pick(&[Style::Common, Style::Common, Style::Any, Style::Wired]);
         add_cells(rng, &mut pair, 1, style);
     }
     let shape = Shape {

@@ -45,6 +45,8 @@ pub struct Cell {
     pub pins: usize,
     /// The lowest bits of each row, as the entry writes it, that are its depth.
     pub depth_bits: u32,
+    /// None of its rows names both values of one pin.
+    pub one_wire: bool,
     pub combinational: Ways,
     pub sequential: Ways,
 }
@@ -80,10 +82,12 @@ pub fn read(text: &[u8]) -> Result<Library, Refusal> {
     let mut groups = Vec::new();
     while let Some(line) = lines.next() {
         let (name, pins, form) = name_line(&line, &library).map_err(at(line.number))?;
+        let first = library.rows.len();
         let mut cell = Cell {
             name,
             pins,
             depth_bits: form.depth_bits,
+            one_wire: true,
             combinational: Ways::default(),
             sequential: Ways::default(),
         };
@@ -113,9 +117,17 @@ pub fn read(text: &[u8]) -> Result<Library, Refusal> {
                 line: line.number,
             });
         }
+        cell.one_wire = !library.rows[first..]
+            .iter()
+            .any(|row| both_values(row.columns, pins));
         library.cells.push(cell);
     }
     Ok(library)
+}
+
+/// Whether columns name a pin at 0 and at 1.
+fn both_values(columns: u32, pins: usize) -> bool {
+    (0..pins).any(|pin| columns >> (2 * pin) & 3 == 3)
 }
 
 fn at(line: u32) -> impl Fn(u32) -> Refusal {

@@ -4,7 +4,7 @@
 use crate::cost::{Cost, LARGEST, NEVER};
 use crate::library::{Library, Row};
 use crate::netlist::{Netlist, MOST_LINES};
-use crate::sweep::row_sum;
+use crate::sweep::{is_wired, row_sum, wired_sum};
 
 /// The gate and the row, by its place in the group, that last lowered a number.
 #[derive(Clone, Copy)]
@@ -44,12 +44,17 @@ pub fn write(
     loop {
         let mut changed = false;
         for (gate, reads) in netlist.gates.iter().enumerate() {
+            let wired = is_wired(library, reads);
             for value in [0, 1] {
                 let output = reads.output();
                 // The first of the rows of the least sum.
                 let mut best = None;
                 for (row, &each) in rows(gate, value).iter().enumerate() {
-                    let sum = row_sum(each, reads, &costs);
+                    let sum = if wired {
+                        wired_sum(each, reads, &costs)
+                    } else {
+                        row_sum(each, reads, &costs)
+                    };
                     if best.map_or(true, |(least, _)| sum < least) {
                         best = Some((sum, row));
                     }
@@ -80,12 +85,20 @@ pub fn write(
             Some(mark) => {
                 let gate = &netlist.gates[mark.gate];
                 let row = rows(mark.gate, value)[mark.row];
-                // The lowest column comes off the stack first.
-                for column in (0..2 * gate.pins).rev() {
+                // On one wire each line once, at its lowest column.
+                let wired = is_wired(library, gate);
+                let mut asked: Vec<(usize, usize)> = Vec::new();
+                for column in 0..2 * gate.pins {
                     if row.columns >> column & 1 == 1 {
-                        let read = usize::from(gate.lines[column / 2]);
-                        stack.push((depth + 1, read, 1 - column % 2));
+                        let ask = (usize::from(gate.lines[column / 2]), 1 - column % 2);
+                        if !(wired && asked.contains(&ask)) {
+                            asked.push(ask);
+                        }
                     }
+                }
+                // The lowest column comes off the stack first.
+                for (read, value) in asked.into_iter().rev() {
+                    stack.push((depth + 1, read, value));
                 }
                 let bits = library.cells[gate.cell].depth_bits;
                 format!("{:o}", row.columns << bits | row.depth)

@@ -62,16 +62,27 @@ fn set(
     ways: impl Fn(&Cell) -> &Ways,
     costs: &mut Setting,
 ) -> u32 {
+    // Gates with pins on one wire, where the cell lets that count.
+    let wired: Vec<bool> = netlist
+        .gates
+        .iter()
+        .map(|gate| is_wired(library, gate))
+        .collect();
     let mut sweeps = 0;
     loop {
         let mut changed = false;
-        for gate in &netlist.gates {
+        for (gate, &wired) in netlist.gates.iter().zip(&wired) {
             let groups = &ways(&library.cells[gate.cell]).set;
             // The 1 sees the 0 just renewed, where a gate reads its own output.
             for value in [0, 1] {
                 let mut least = NEVER;
                 for &row in library.rows(groups[value]) {
-                    least = least.min(row_sum(row, gate, costs));
+                    let sum = if wired {
+                        wired_sum(row, gate, costs)
+                    } else {
+                        row_sum(row, gate, costs)
+                    };
+                    least = least.min(sum);
                 }
                 let number = &mut costs[gate.output()][value];
                 changed |= *number != least;
@@ -132,6 +143,38 @@ pub fn row_sum(row: Row, gate: &Gate, costs: &Setting) -> Cost {
         let line = usize::from(gate.lines[column / 2]);
         sum = add(sum, costs[line][1 - column % 2]);
         columns &= columns - 1;
+    }
+    sum
+}
+
+/// Whether the rows that set a gate's output are read as those of one wire.
+pub fn is_wired(library: &Library, gate: &Gate) -> bool {
+    library.cells[gate.cell].one_wire && shares_line(gate)
+}
+
+/// Whether two pins read one line.
+fn shares_line(gate: &Gate) -> bool {
+    let pins = &gate.lines[..gate.pins];
+    (1..pins.len()).any(|pin| pins[..pin].contains(&pins[pin]))
+}
+
+/// The same of a row of a one-wire cell that sets the output: a line's value is paid once, and a row
+/// that needs both values of a line is no way.
+pub fn wired_sum(row: Row, gate: &Gate, costs: &Setting) -> Cost {
+    let mut sum = row.depth;
+    let mut asked: [Vec<usize>; 2] = Default::default();
+    for column in 0..2 * gate.pins {
+        if row.columns >> column & 1 == 1 {
+            let line = usize::from(gate.lines[column / 2]);
+            let value = 1 - column % 2;
+            if asked[1 - value].contains(&line) {
+                return NEVER;
+            }
+            if !asked[value].contains(&line) {
+                asked[value].push(line);
+                sum = add(sum, costs[line][value]);
+            }
+        }
     }
     sum
 }

@@ -5,7 +5,8 @@ use crate::generate::{fields, groups_of, ladder, pair, ENTRY};
 use crate::library::{self, Library, Row, Ways, MOST_ROWS};
 use crate::netlist::{self, Netlist, Rules};
 use crate::random::Random;
-use crate::{analyse, report_into, shapes, sweep, Answer, LARGEST, NEVER, OVER};
+use crate::{analyse, plan_into, report_into, shapes, sweep, Answer, LARGEST, NEVER, OVER};
+use std::collections::BTreeSet;
 
 const ROOM: usize = 65_536;
 
@@ -64,8 +65,14 @@ fn whole_reports() {
 #[test]
 fn doubled_and_gates() {
     let low = report(AND2, &doubling("AND2", 28));
-    assert_eq!(printed(&low, 29)[..2], ["29", "536870911"]);
+    assert_eq!(printed(&low, 29)[..2], ["29", "29"]);
     let high = report(AND2, &doubling("AND2", 29));
+    assert_eq!(printed(&high, 30)[..2], ["30", "30"]);
+    // A row that names both values of a pin, however dear, keeps its cell out.
+    let both = AND2.replace("CC,21,", "CC,21,M,7,");
+    let low = report(&both, &doubling("AND2", 28));
+    assert_eq!(printed(&low, 29)[..2], ["29", "536870911"]);
+    let high = report(&both, &doubling("AND2", 29));
     assert_eq!(printed(&high, 30)[..2], ["30", "over"]);
 }
 
@@ -157,10 +164,26 @@ sweeps,2,2,1,1
     assert_eq!(report, known);
 }
 
+/// A plan names a line of one wire once, unless the cell has a row of both values.
+#[test]
+fn plan_of_one_wire() {
+    let plan = |lib: &str| {
+        let mut text = vec![0; 1_000];
+        let net = doubling("AND2", 2);
+        let length = plan_into(lib.as_bytes(), net.as_bytes(), 3, 1, 0, &mut text);
+        String::from_utf8(text[..length as usize].to_vec()).unwrap()
+    };
+    assert_eq!(plan(AND2), "0,3,1,13\n1,2,1,13\n2,1,1,input\n");
+    let both = AND2.replace("CC,21,M,5,13", "CC,21,M,7,M,5,13");
+    let twice = "1,2,1,13\n2,1,1,input\n2,1,1,input\n";
+    assert_eq!(plan(&both), format!("0,3,1,13\n{twice}{twice}"));
+}
+
 #[test]
 fn over_and_never() {
     // Line 31 is over, line 32 open: a sum of both is never, the lesser of both over.
-    let lib = format!("{AND2}{NAND2}");
+    // A row of both values, so that each pin is paid.
+    let lib = format!("{AND2}{NAND2}").replace("CC,21,M,5,13", "CC,21,M,7,M,5,13");
     let mut net = doubling("AND2", 30);
     net.push_str("gate,AND2,40,31,32\ngate,NAND2,41,31,32\noutput,41\nopen,32\n");
     let report = report(&lib, &net);
@@ -526,6 +549,27 @@ fn plans(library: &Library, netlist: &Netlist, input: u64, sequential: bool) -> 
         }
         Some(sum)
     };
+    // The same of a row that sets the output of a one-wire cell: the values of lines as a set.
+    let wired =
+        |row: library::Row, gate: &netlist::Gate, set: &[[Option<u64>; 2]]| -> Option<u64> {
+            let n = gate.pins;
+            let mut asked = BTreeSet::new();
+            for i in 1..=n {
+                for (bit, value) in [(2 * (n - i) + 2, 0), (2 * (n - i) + 1, 1)] {
+                    if row.columns >> (bit - 1) & 1 == 1 {
+                        asked.insert((gate.pin(i - 1), value));
+                    }
+                }
+            }
+            let mut sum = u64::from(row.depth);
+            for &(line, value) in &asked {
+                if asked.contains(&(line, 1 - value)) {
+                    return None;
+                }
+                sum = FAR.min(sum + set[line][value]?);
+            }
+            Some(sum)
+        };
     loop {
         let mut next: Option<(u64, usize, usize)> = None;
         for gate in &netlist.gates {
@@ -534,7 +578,12 @@ fn plans(library: &Library, netlist: &Netlist, input: u64, sequential: bool) -> 
                     continue;
                 }
                 for &row in library.rows(ways(gate.cell).set[value]) {
-                    if let Some(cost) = sum(row, gate, &set) {
+                    let found = if library.cells[gate.cell].one_wire {
+                        wired(row, gate, &set)
+                    } else {
+                        sum(row, gate, &set)
+                    };
+                    if let Some(cost) = found {
                         let found = (cost, gate.output(), value);
                         next = Some(next.map_or(found, |best| best.min(found)));
                     }
@@ -585,7 +634,12 @@ fn cheapest_plans() {
     let mut rng = Random::from(7);
     let mut counts = [0; 3];
     for round in 0..400 {
-        let pair = pair(&mut rng, if round % 10 == 0 { 120 } else { 15 });
+        // Costs grow fast along a ladder.
+        let pair = match round % 10 {
+            0 => pair(&mut rng, 120),
+            5 => ladder(&mut rng, 120),
+            _ => pair(&mut rng, 15),
+        };
         let library = library::read(&pair.lib.bytes()).unwrap();
         let netlist = netlist::read(&pair.net.bytes(), &library, Rules::New).unwrap();
         let (numbers, _) = sweep::run(&library, &netlist);
@@ -679,7 +733,11 @@ fn each_shape_is_what_its_label_says() {
     for case in shapes {
         let mut buffer = vec![0; ROOM];
         let answer = report_into(&case.lib, &case.net, &mut buffer);
-        let length = if answer < 1_000_000 { answer as usize } else { 0 };
+        let length = if answer < 1_000_000 {
+            answer as usize
+        } else {
+            0
+        };
         let untrue = case.untrue(answer, &buffer[..length]);
         assert_eq!(untrue, None, "{}, {} gates", case.label, case.gates());
     }

@@ -19,7 +19,6 @@ use Rattle.cheapest.proofs.+write_line+write_row.Lts-write_line as line
 use Rattle.cheapest.proofs.write_row.Reads as write-row
 use Rattle.cheapest.proofs.write_row.Kinds as write-row-kinds
 use Rattle.cheapest.proofs.+write_line+write_row.Lts-write_row as row-lts
-use Rattle.cheapest.proofs.as_written.Reads as as-written-reads
 use Rattle.cheapest.proofs.goal_at.Reads as goal-at-reads
 use Rattle.cheapest.proofs.lowest.Reads as lowest-reads
 use Rattle.cheapest.proofs.put_node.Reads as put-node-reads
@@ -54,7 +53,7 @@ module _ (t : ℕ) where
   row-below = and 3 write-row-kinds.ps (falls 3 write-row-kinds.ps _<_ μ-write-row t) write-row.Pre
 
   abbrev line-claims : line-lts.Claims
-  line-claims = (word-reads.Asked, word-reads.Learnt, as-written-reads.Asked, as-written-reads.Learnt, put-node-reads.Asked, put-node-reads.Learnt, row-below, write-row.Post)
+  line-claims = (word-reads.Asked, word-reads.Learnt, put-node-reads.Asked, put-node-reads.Learnt, row-below, write-row.Post)
 
   abbrev row-claims : row-lts.Claims
   row-claims = (lowest-reads.Asked, lowest-reads.Learnt, goal-at-reads.Asked, goal-at-reads.Learnt, line-below, write-line.Post)
@@ -75,19 +74,18 @@ pub +write-line+write-row-spec : {M : Type 1} → statement M
     (λ c κs. tt)
     (λ c. omega (arith, c .before .before .before .before .before .before .before .before .before .before .before .pre .1 .1))
     (λ c κs. tt)
-    (λ c κs. tt)
-    (λ c κs. c .before .before .before .before .before .before .before .before .before .before .before .before .before .before .pre .1 .1)
-    (λ c. let s = c .before .before .before .before .before .before .before .before .before .before .before .before .before .before .before .before .before .before in omega (arith, s .pre .1 .0, c .before .before .before .before .before .before .before .before .before .before .before .before .before .if1 .left))
+    (λ c κs. c .before .before .before .before .before .before .before .before .before .before .before .before .before .pre .1 .1)
+    (λ c. let s = c .before .before .before .before .before .before .before .before .before .before .before .before .before .before .before .before .before in omega (arith, s .pre .1 .0, c .before .before .before .before .before .before .before .before .before .before .before .before .if1 .left))
     (λ c κs.
-    let s = c .before .before .before .before .before .before .before .before .before .before .before .before .before .before .before .before .before .before in
-    let below = c .before .before .before .before .before .before .before .before .before .before .before .before .before .if1 .left in
+    let s = c .before .before .before .before .before .before .before .before .before .before .before .before .before .before .before .before .before in
+    let below = c .before .before .before .before .before .before .before .before .before .before .before .before .if1 .left in
     (omega (arith, s .pre .0, below), omega (arith, s .pre .1 .0, below)))
     (λ c. c .before .before .write-row .kept .0 ∙ c .before .before .before .before .before .before .put-node .kept .0)
     (λ c.
-    let a = c .before .before .before .before .before .before .before .before .before .before .before .before .before .before .before .before .before .before .before .before .before .args in
+    let a = c .before .before .before .before .before .before .before .before .before .before .before .before .before .before .before .before .before .before .before .before .args in
     line-put (a .marks .now) (a .netlist .now) (a .before) (a .depth) (a .goal) _ _ _ _
-    (c .before .before .before .before .before .before .before .before .before .before .before .before .before .before .before .before .before .word .ensures) (c .before .before .before .before .before .before .before .before .before .word4 .ensures) (c .before .before .before .before .before .before .before .before .before .before .before .before .before .word2 .ensures) (c .before .before .before .before .before .before .before .before .before .before .before .word3 .ensures)
-    (omega (arith, c .before .before .before .before .before .before .before .before .before .before .before .before .before .before .before .before .if1 .left)) (rw (c .before .before .before .before .before .before .before .before .as-written .ensures) at (c .before .before .before .before .before .before .put-node .ensures)) (c .before .before .write-row .ensures)))
+    (c .before .before .before .before .before .before .before .before .before .before .before .before .before .before .before .before .word .ensures) (c .before .before .before .before .before .before .before .before .word4 .ensures) (c .before .before .before .before .before .before .before .before .before .before .before .before .word2 .ensures) (c .before .before .before .before .before .before .before .before .before .before .word3 .ensures)
+    (omega (arith, c .before .before .before .before .before .before .before .before .before .before .before .before .before .before .before .if1 .left)) (c .before .before .before .before .before .before .put-node .ensures) (c .before .before .write-row .ensures)))
     (λ t. row-lts.spec (row-claims t) (row-at t) write-row.Post Inv-loop μ-loop
     (λ c. (refl, omega arith, λ end after p. p))
     (λ c κs. omega arith)

@@ -1,18 +1,19 @@
 -- `least_sum`, from the last row to the first, keeps the least sum of the rows passed. Assumes nothing.
+use mathlib.Core.Option.{some}
 use mathlib.Core.Path.{_∙_}
 use Prim.Native.Nat.{_-_, _≤_}
 use native.Mathlib.Omega.{arith}
 use lib.ListN.{getD}
 use borrow.Author.Needs.{needs}
 use Rattle.sizes.specs.Sizes as Size
-use Rattle.gates.specs.Sums.{Summed}
+use Rattle.gates.specs.Sums.{Summed, lesserRow}
 use Rattle.gates.proofs.Rows.{leastFrom, rows-none, rows-more, rows-all}
 use Rattle.gates.proofs.least_sum.Statement.{statement}
 use Rattle.gates.proofs.least_sum.Tie as tie
 
 abbrev Inv-loop : tie.InvT-loop
 Inv-loop kind library group costs best₀ row₀ best row =
-    (row ≤ getD library group 0) × Summed kind (leastFrom library costs group row) best
+    (row ≤ getD library group 0) × Summed kind (leastFrom some library costs group row) best
 
 abbrev μ-loop : tie.MeasureT-loop
 μ-loop kind library group costs best₀ row₀ best row = row
@@ -27,7 +28,7 @@ loop-holds c =
       omega arith,
       record {
         ofKind = n .ofKind;
-        comesTo = n .comesTo ∙ rows-none (a .library .now) (a .costs .now) (a .group) (c .wide .result) (c .wide .ensures);
+        comesTo = n .comesTo ∙ rows-none some (a .library .now) (a .costs .now) (a .group) (c .wide .result) (c .wide .ensures);
       },
     )
 
@@ -43,7 +44,7 @@ loop-again c =
         ofKind = n .ofKind;
         comesTo =
             n .comesTo
-            ∙ rows-more (a .library .now) (a .costs .now) (a .group) (l .row) Size.columns (omega arith) (omega arith) (s .pre .groupFits);
+            ∙ unfold lesserRow in rows-more some (a .library .now) (a .costs .now) (a .group) (l .row) Size.columns (omega arith) (omega arith) (s .pre .groupFits);
       },
     )
 
@@ -51,7 +52,7 @@ returns : tie.Need-returns Inv-loop μ-loop
 returns c =
     let a = c .before .before .before .before .before .before .args in
     let l = c .before .loop in
-    l .inv .1 .comesTo ∙ rows-all (a .library .now) (a .costs .now) (a .group) (l .row) (omega arith)
+    l .inv .1 .comesTo ∙ rows-all some (a .library .now) (a .costs .now) (a .group) (l .row) (omega arith)
 
 lesser-row-requires : tie.Need-lesser-row-requires Inv-loop μ-loop
 lesser-row-requires c κs =

@@ -15,12 +15,12 @@ use Rattle.sweep.proofs.one_sweep.Statement.{statement}
 use Rattle.sweep.proofs.one_sweep.Tie as tie
 
 abbrev Inv-loop : tie.InvT-loop
-Inv-loop role kind library netlist first next driver numbers₀ awake₀ gates changed₀ turn₀ numbers awake changed turn =
+Inv-loop role kind library netlist first next driver tied numbers₀ awake₀ gates changed₀ turn₀ numbers awake changed turn =
     Swept (ruleOf role) (firstGates role kind library netlist (come role kind library netlist turn)) numbers₀ numbers changed
     × Resting role kind library netlist awake numbers
 
 abbrev μ-loop : tie.MeasureT-loop
-μ-loop role kind library netlist first next driver numbers₀ awake₀ gates changed₀ turn₀ numbers awake changed turn = gates - turn
+μ-loop role kind library netlist first next driver tied numbers₀ awake₀ gates changed₀ turn₀ numbers awake changed turn = gates - turn
 
 -- ---- places
 

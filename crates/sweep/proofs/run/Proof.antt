@@ -14,13 +14,13 @@ use Rattle.sweep.proofs.run.Statement.{statement}
 use Rattle.sweep.proofs.run.Tie as tie
 
 abbrev Inv-loop : tie.InvT-loop
-Inv-loop role kind library netlist first next driver numbers₀ awake₀ count₀ numbers awake count =
+Inv-loop role kind library netlist first next driver tied numbers₀ awake₀ count₀ numbers awake count =
     (length numbers ≡ Size.numbers)
     × Before (ruleOf role) (sweepVisits role kind library netlist) numbers₀ count numbers
     × Resting role kind library netlist awake numbers
 
 abbrev μ-loop : tie.MeasureT-loop
-μ-loop role kind library netlist first next driver numbers₀ awake₀ count₀ numbers awake count = 2 ^ 32 - count
+μ-loop role kind library netlist first next driver tied numbers₀ awake₀ count₀ numbers awake count = 2 ^ 32 - count
 
 abbrev began : tie.At-loop Inv-loop μ-loop → tie.Start Inv-loop μ-loop
 began c = c .before .before .before

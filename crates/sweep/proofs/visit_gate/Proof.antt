@@ -1,14 +1,15 @@
 -- `visit_gate` makes the gate's visits in order: with each turn one visit more is done. Assumes nothing.
+use mathlib.Core.Bool.{Bool, false}
 use mathlib.Core.List.{List, [], _∷_}
 use mathlib.Core.Path.{_≡_, refl, sym, _∙_, ap, ap₂, subst}
-use Prim.Native.Nat.{ℕ, _+_, _*_, _-_, _≤_, _<_}
+use Prim.Native.Nat.{ℕ, _+_, _*_, _-_, _^_, _≤_, _<_}
 use native.Mathlib.Omega.{arith}
 use lib.ListN.{length}
 use borrow.Author.Needs.{needs}
 use Rattle.sizes.specs.Sizes as Size
 use Rattle.sizes.specs.Places.{groupPlace}
 use Rattle.awake.specs.Lines.{Chained, Driven}
-use Rattle.gates.specs.Tables.{gateCell, gatePins, gateLines, roleColumns, visitCount, visitGroup, gateVisit}
+use Rattle.gates.specs.Tables.{gateCell, gatePins, gateLines, byRole, roleColumns, visitCount, visitGroup, visitWired, gateVisit}
 use Rattle.gates.specs.Fits.{LinesFit, GroupFits, GatherFits, GateFits}
 use Rattle.gates.proofs.Roles.{visit-low, group-low, place-inside}
 use Rattle.sweep.specs.Order.{ruleOf, firstVisits}
@@ -22,20 +23,23 @@ use Rattle.sweep.proofs.visit_gate.Statement.{statement}
 use Rattle.sweep.proofs.visit_gate.Tie as tie
 
 abbrev Inv-loop : tie.InvT-loop
-Inv-loop role kind library netlist first next driver numbers₀ awake₀ gate gates cell pins lines count costs₀ stale₀ changed₀ i₀ numbers awake costs stale changed i =
+Inv-loop role kind library netlist first next driver tied numbers₀ awake₀ gate gates cell pins lines count wired costs₀ stale₀ changed₀ i₀ numbers awake costs stale changed i =
     (i ≤ count)
     × Swept (ruleOf role) (firstVisits role kind library netlist gate i) numbers₀ numbers changed
     × ChangesWoken role kind library netlist awake₀ numbers₀ awake numbers
     × GatherFits stale role kind lines pins numbers costs
 
 abbrev μ-loop : tie.MeasureT-loop
-μ-loop role kind library netlist first next driver numbers₀ awake₀ gate gates cell pins lines count costs₀ stale₀ changed₀ i₀ numbers awake costs stale changed i =
+μ-loop role kind library netlist first next driver tied numbers₀ awake₀ gate gates cell pins lines count wired costs₀ stale₀ changed₀ i₀ numbers awake costs stale changed i =
     count - i
 
 -- ---- places
 
+abbrev decided : tie.In-loop Inv-loop μ-loop → tie.After-wired-of Inv-loop μ-loop
+decided c = c .before .before
+
 abbrev counted : tie.In-loop Inv-loop μ-loop → tie.After-visit-count Inv-loop μ-loop
-counted c = c .before .before
+counted c = decided c .before
 
 abbrev celled : tie.After-visit-count Inv-loop μ-loop → tie.After-cell-place Inv-loop μ-loop
 celled c = c .before .before .before .before
@@ -53,15 +57,22 @@ abbrev grouped : tie.After-visit-place Inv-loop μ-loop → tie.After-visit-grou
 grouped c = c .before .before
 
 abbrev placed : tie.After-visit Inv-loop μ-loop → tie.After-visit-place Inv-loop μ-loop
-placed c = c .before .before .before
+placed c = c .before .before .before .before
 
 abbrev visited : tie.After-visit-line Inv-loop μ-loop → tie.After-visit Inv-loop μ-loop
 visited c = c .before .before
+
+abbrev turned : tie.After-either Inv-loop μ-loop → tie.In-loop Inv-loop μ-loop
+turned c = looping (grouped (placed (visited (c .before .before .before))) .before)
 
 -- ---- what was read of the gate
 
 gate-fits : (c : tie.After-visit-count Inv-loop μ-loop) → let a = began c .args in GateFits (a .library .now) (a .netlist .now) (a .gate)
 gate-fits c = began c .pre .linksFit .tablesFit .gates (began c .args .gate) (began c .pre .inside)
+
+-- Places of its cell are numbers of the machine.
+cell-room : (c : tie.After-visit-count Inv-loop μ-loop) → celled c .cell-place .result + Size.cellWords < 2 ^ 64
+cell-room c = let f = gate-fits c in omega arith
 
 pins-are : (c : tie.After-visit-count Inv-loop μ-loop) → c .before .before .wide2 .result ≡ gatePins (began c .args .library .now) (began c .args .netlist .now) (began c .args .gate)
 pins-are c = rw (celled c .cell-place .ensures) at (c .before .before .wide2 .ensures)
@@ -69,8 +80,19 @@ pins-are c = rw (celled c .cell-place .ensures) at (c .before .before .wide2 .en
 lines-fit : (c : tie.After-visit-count Inv-loop μ-loop) → LinesFit (c .before .lines-of .result) (c .before .before .wide2 .result)
 lines-fit c = rw (c .before .lines-of .ensures, pins-are c) (gate-fits c .lines)
 
+wired-are : (c : tie.In-loop Inv-loop μ-loop)
+    → let a = began (counted c) .args in decided c .wired-of .result ≡ visitWired (a .role) (a .library .now) (a .netlist .now) (a .gate)
+wired-are c =
+    let s = began (counted c) in
+    decided c .wired-of .ensures ∙ ap (λ (b : Bool). byRole (s .args .role) b false) (s .pre .linksFit .noted .each (s .args .gate) (s .pre .inside))
+
 turn : (c : tie.In-loop Inv-loop μ-loop) → c .before .loop .i < visitCount (began (counted c) .args .role) (counted c .before .before .wide2 .result)
 turn c = rw (counted c .visit-count .ensures) at (c .loop-test .taken)
+
+turn-low : (c : tie.In-loop Inv-loop μ-loop) → c .before .loop .i ≤ Size.pins
+turn-low c =
+    let d = counted c in
+    visit-low (began d .args .role) (began d .args .kind) (d .before .lines-of .result) (d .before .before .wide2 .result) (c .before .loop .i) (began d .pre .linksFit .kindFits) (lines-fit d) (turn c)
 
 -- The number of the group that a turn visits, where the group stands, and its rows.
 group-few : (c : tie.After-visit-group Inv-loop μ-loop) → c .visit-group .result < Size.groups
@@ -106,7 +128,7 @@ numbers-length c = swept-length (began (counted c) .args .role) (c .before .loop
 
 visit-requires : tie.Need-visit-requires Inv-loop μ-loop
 visit-requires c κs =
-    let p = c .before .before in
+    let p = c .before .before .before in
     let g = grouped p in
     let l = looping (g .before) in
     let d = counted l in
@@ -120,7 +142,7 @@ visit-requires c κs =
 made : (v : tie.After-visit Inv-loop μ-loop)
     → let l = looping (grouped (placed v) .before) in
     let a = began (counted l) .args in
-    Renewed (ruleOf (a .role)) (gateVisit (a .role) (a .kind) (a .library .now) (a .netlist .now) (a .gate) (l .before .loop .i)) (l .before .loop .numbers) (v .visit .last .1 .1 .1 .1 .1 .0) (v .visit .result)
+    Renewed (ruleOf (a .role)) (gateVisit (a .role) (a .kind) (a .library .now) (a .netlist .now) (a .gate) (l .before .loop .i)) (l .before .loop .numbers) (v .visit .last .1 .1 .1 .1 .1 .1 .1 .0) (v .visit .result)
 made v =
     let p = placed v in
     let g = grouped p in
@@ -130,8 +152,8 @@ made v =
     let a = s .args in
     let this =
     visit-is (a .role) (a .kind) (a .library .now) (a .netlist .now) (a .gate) (l .before .loop .i) (groupAt g) (p .visit-place .result) (d .before .before .wide2 .result) (d .before .lines-of .result)
-    (d .before .lines-of .ensures) (pins-are d) (group-stands g) (p .visit-place .ensures) in
-    rw this at (v .visit .ensures (d .before .lines-of .result)
+    (decided l .wired-of .result) (wired-are l) (d .before .lines-of .ensures) (pins-are d) (group-stands g) (p .visit-place .ensures) in
+    rw this at (v .visit .ensures
     (costs-of (a .role) (s .pre .linksFit .kindFits) (lines-fit d) (rows-fit g) (numbers-length l) (g .before .column-costs .ensures))
     (led (a .role) (s .pre .linksFit .kindFits) (lines-fit d) this (g .before .column-costs .ensures)
     (λ h. rw (← d .before .lines-of .ensures) at (s .pre .linksFit .linked .leads (a .gate) (l .before .loop .i) (s .pre .inside) (subst (λ (n : ℕ). l .before .loop .i < visitCount (a .role) n) (pins-are d) (turn l)) h))))
@@ -189,7 +211,7 @@ loop-again c =
     let inv = l .before .loop .inv in
     let woken = w .wake-needing .ensures (a .netlist .now) (chained d) (driven d) (once d) in
     let done = next-turn (λ i. gateVisit (a .role) (a .kind) (a .library .now) (a .netlist .now) (a .gate) i ∷ []) (l .before .loop .i) (inv .1) (swept-one (made v)) in (
-      omega arith,
+      omega (arith, l .loop-test .taken),
       rw (c .either .ensures) done,
       changes-on (a .role) (a .kind) (a .library .now) (a .netlist .now) (s .pre .linksFit .linked) (a .gate) (l .before .loop .i) (s .pre .inside)
           (subst (λ (n : ℕ). l .before .loop .i < visitCount (a .role) n) (pins-are d) (turn l))
@@ -201,7 +223,7 @@ loop-again c =
 
 returns : tie.Need-returns Inv-loop μ-loop
 returns c =
-    let d = c .before .before in
+    let d = c .before .before .before in
     let a = began d .args in
     let e : c .before .loop .i ≡ visitCount (a .role) (gatePins (a .library .now) (a .netlist .now) (a .gate)) = rw (← pins-are d) (omega (arith, d .visit-count .ensures)) in
     (rw e at (c .before .loop .inv .1), c .before .loop .inv .2)
@@ -221,19 +243,16 @@ visit-gate-spec =
     (λ c κs. search needs)
     (λ c κs. let s = c .before .before .before .before .before .before .before in s .pre .linksFit .tablesFit .gates (s .args .gate) (s .pre .inside) .room)
     (λ c κs. search needs)
+    (λ c κs. let s = began c in omega (arith, s .pre .inside, s .pre .linksFit .few))
     (unfold inTurn in
     (λ c.
-    let s = began c in
-    (omega arith, swept-none (ruleOf (s .args .role)) (s .args .numbers .now), changes-none _ _ _ _ _ _, gather-first (s .args .role) (s .pre .linksFit .kindFits) (lines-fit c) (s .pre .size) refl)))
+    let s = began (c .before) in
+    (omega arith, swept-none (ruleOf (s .args .role)) (s .args .numbers .now), changes-none _ _ _ _ _ _, gather-first (s .args .role) (s .pre .linksFit .kindFits) (lines-fit (c .before)) (s .pre .size) refl)))
     (λ c κs. c .before .before .before .before .loop .inv .3)
     (λ c. let f = gate-fits (counted (looping c)) in omega arith)
-    (λ c κs.
-    let l = looping c in
-    let d = counted l in
-    let k = began d .pre .linksFit .kindFits in
-    (k, visit-low (began d .args .role) (began d .args .kind) (d .before .lines-of .result) (d .before .before .wide2 .result) (l .before .loop .i) k (lines-fit d) (turn l)))
+    (λ c κs. let l = looping c in (began (counted l) .pre .linksFit .kindFits, turn-low l))
     (λ c. omega (arith, group-few c))
-    (λ c. let f = gate-fits (counted (looping (c .before))) in omega (arith, group-few c))
+    (λ c. omega (arith, group-few c, cell-room (counted (looping (c .before)))))
     (λ c κs. let l = looping (c .before .before) in let d = counted l in (began d .pre .linksFit .kindFits, lines-fit d, turn l))
     visit-requires
     (λ c κs.
@@ -242,7 +261,7 @@ visit-gate-spec =
     visit-few (began d .args .role) (d .before .lines-of .result) (d .before .before .wide2 .result) (l .before .loop .i) (lines-fit d) (turn l))
     wake-needing-requires
     (λ c κs. search needs)
-    (λ c. omega arith)
-    (λ c. omega arith)
+    (λ c. omega (arith, turn-low (turned c)))
+    (λ c. omega (arith, turned c .loop-test .taken))
     loop-again
     returns)

@@ -12,14 +12,14 @@ use Rattle.trace.proofs.one_sweep.Statement.{statement}
 use Rattle.trace.proofs.one_sweep.Tie as tie
 
 abbrev Inv-loop : tie.InvT-loop
-Inv-loop kind library netlist clock numbers₀ marks₀ turns′ changed₀ turn₀ numbers marks changed turn =
+Inv-loop kind library netlist tied clock numbers₀ marks₀ turns′ changed₀ turn₀ numbers marks changed turn =
     (turn ≤ turns′)
     × Traced kind library netlist (turns kind library netlist turn) clock numbers₀ marks₀ numbers marks changed
     × (length numbers ≡ Size.numbers)
     × (length marks ≡ Size.marks)
 
 abbrev μ-loop : tie.MeasureT-loop
-μ-loop kind library netlist clock numbers₀ marks₀ turns′ changed₀ turn₀ numbers marks changed turn = turns′ - turn
+μ-loop kind library netlist tied clock numbers₀ marks₀ turns′ changed₀ turn₀ numbers marks changed turn = turns′ - turn
 
 -- ---- places
 
@@ -38,7 +38,7 @@ visit-requires c κs =
     let w = l .before .before in
     let s = began w in
     let f = s .pre .0 in (
-      record { kindFits = f .kindFits; tablesFit = f .tablesFit; few = f .few; size = l .before .loop .inv .2; marksSize = l .before .loop .inv .3 },
+      record { kindFits = f .kindFits; tablesFit = f .tablesFit; few = f .few; noted = f .noted; size = l .before .loop .inv .2; marksSize = l .before .loop .inv .3 },
       omega (arith, w .wide .ensures),
       omega arith,
       omega (arith, few w, s .pre .1),

@@ -8,13 +8,14 @@ use borrow.Author.Needs.{needs}
 use Rattle.sizes.specs.Sizes as Size
 use Rattle.sweep.proofs.Calculating.{room}
 use Rattle.sweep.proofs.Starting.{laid-length}
+use Rattle.gates.specs.Fits.{Tied}
 use Rattle.trace.specs.Marks.{Stands}
 use Rattle.trace.proofs.Running.{after, begins, one-more, tables, few-gates, ends-all, ends-early}
 use Rattle.trace.proofs.trace.Statement.{statement}
 use Rattle.trace.proofs.trace.Tie as tie
 
 abbrev Inv-loop : tie.InvT-loop
-Inv-loop kind library netlist marks₀ gates numbers₀ clock₀ left₀ marks numbers clock left =
+Inv-loop kind library netlist marks₀ gates tied numbers₀ clock₀ left₀ marks numbers clock left =
     (left ≤ 2 * gates + 1)
     × (clock + 2000 * left ≤ 2000 * (2 * gates + 1))
     × (after kind library netlist (2 * gates + 1 - left) .time ≡ clock)
@@ -23,35 +24,48 @@ Inv-loop kind library netlist marks₀ gates numbers₀ clock₀ left₀ marks n
     × (length marks ≡ Size.marks)
 
 abbrev μ-loop : tie.MeasureT-loop
-μ-loop kind library netlist marks₀ gates numbers₀ clock₀ left₀ marks numbers clock left = left
+μ-loop kind library netlist marks₀ gates tied numbers₀ clock₀ left₀ marks numbers clock left = left
 
 -- ---- places
 
+abbrev told : tie.After-start Inv-loop μ-loop → tie.After-note-tied Inv-loop μ-loop
+told c = c .before .before
+
+abbrev counted : tie.After-start Inv-loop μ-loop → tie.After-wide Inv-loop μ-loop
+counted c = told c .before .before
+
 abbrev began : tie.After-start Inv-loop μ-loop → tie.Start Inv-loop μ-loop
-began c = c .before .before .before .before .before .before
+began c = counted c .before .before .before .before
 
 abbrev started : tie.In-loop Inv-loop μ-loop → tie.After-start Inv-loop μ-loop
 started c = c .before .before
 
 abbrev looping : tie.After-one-sweep Inv-loop μ-loop → tie.In-loop Inv-loop μ-loop
-looping c = c .before .before .before
+looping c = c .before .before .before .before
 
-few : (c : tie.After-start Inv-loop μ-loop) → c .before .before .wide .result ≤ Size.gates
+few : (c : tie.After-start Inv-loop μ-loop) → counted c .wide .result ≤ Size.gates
 few c =
     let s = began c in
-    omega (arith, c .before .before .wide .ensures, few-gates (s .args .kind) (s .args .library .now) (s .args .netlist .now) (s .pre .cells) (s .pre .statements) (s .pre .holds))
+    omega (arith, counted c .wide .ensures, few-gates (s .args .kind) (s .args .library .now) (s .args .netlist .now) (s .pre .cells) (s .pre .statements) (s .pre .holds))
+
+wires : (c : tie.After-start Inv-loop μ-loop)
+    → let a = began c .args in
+    Tied (a .library .now) (a .netlist .now) (getD (a .netlist .now) 0 0) (told c .note-tied .last .1 .1 .1 .0)
+wires c =
+    let a = began c .args in
+    subst (λ (n : ℕ). Tied (a .library .now) (a .netlist .now) n (told c .note-tied .last .1 .1 .1 .0)) (counted c .wide .ensures) (told c .note-tied .ensures)
 
 loop-holds : tie.Need-loop-holds Inv-loop μ-loop
 loop-holds c =
     let s = began c in
     let a = s .args in
-    let none : 2 * c .before .before .wide .result + 1 - (2 * c .before .before .wide .result + 1) ≡ 0 = omega arith in
+    let none : 2 * counted c .wide .result + 1 - (2 * counted c .wide .result + 1) ≡ 0 = omega arith in
     let b = begins (a .kind) (a .library .now) (a .netlist .now) _ _ (c .start .ensures) (s .pre .unmarked) in
     (omega arith, omega arith, rw none (b .1), rw none (b .0), ap length (c .start .ensures) ∙ laid-length (a .netlist .now) Size.lines 1, ap length (s .pre .unmarked) ∙ length-replicate {A = ℕ} Size.marks 0)
 
 one-sweep-requires : tie.Need-one-sweep-requires Inv-loop μ-loop
 one-sweep-requires c κs =
-    let l = c .before .before in
+    let l = c .before .before .before in
     let s = began (started l) in
     let a = s .args in
     let i = l .before .loop .inv in (
@@ -59,6 +73,7 @@ one-sweep-requires c κs =
         kindFits = s .pre .kindFits;
         tablesFit = tables (a .kind) (a .library .now) (a .netlist .now) (s .pre .cells) (s .pre .statements) (s .pre .holds);
         few = few-gates (a .kind) (a .library .now) (a .netlist .now) (s .pre .cells) (s .pre .statements) (s .pre .holds);
+        noted = wires (started l);
         size = i .4;
         marksSize = i .5;
       },
@@ -70,8 +85,8 @@ more : (c : tie.After-one-sweep Inv-loop μ-loop)
     → let l = looping c in
     let b = started l in
     let a = began b .args in
-    let n = 2 * b .before .before .wide .result + 1 - l .before .loop .left in
-    Stands (a .kind) (a .library .now) (a .netlist .now) (after (a .kind) (a .library .now) (a .netlist .now) (suc n)) (c .one-sweep .last .1 .1 .1 .1 .0) (c .one-sweep .last .1 .1 .1 .1 .1 .0)
+    let n = 2 * counted b .wide .result + 1 - l .before .loop .left in
+    Stands (a .kind) (a .library .now) (a .netlist .now) (after (a .kind) (a .library .now) (a .netlist .now) (suc n)) (c .one-sweep .last .1 .1 .1 .1 .1 .0) (c .one-sweep .last .1 .1 .1 .1 .1 .1 .0)
     × (after (a .kind) (a .library .now) (a .netlist .now) (suc n) .time ≡ l .before .loop .clock + 2 * getD (a .netlist .now) 0 0)
 more c =
     let l = looping c in
@@ -87,8 +102,8 @@ loop-again c =
     let b = started l in
     let i = l .before .loop .inv in
     let m = more o in
-    let n : 2 * b .before .before .wide .result + 1 - (l .before .loop .left - 1) ≡ suc (2 * b .before .before .wide .result + 1 - l .before .loop .left) = omega arith in
-    (omega arith, omega (arith, few b), rw n (m .1 ∙ omega (arith, b .before .before .wide .ensures)), rw n (m .0), o .one-sweep .ensures .long ∙ i .4, o .one-sweep .ensures .marksLong ∙ i .5)
+    let n : 2 * counted b .wide .result + 1 - (l .before .loop .left - 1) ≡ suc (2 * counted b .wide .result + 1 - l .before .loop .left) = omega arith in
+    (omega arith, omega (arith, few b), rw n (m .1 ∙ omega (arith, counted b .wide .ensures)), rw n (m .0), o .one-sweep .ensures .long ∙ i .4, o .one-sweep .ensures .marksLong ∙ i .5)
 
 untrue : (b : Bool) → not b ≡ true → b ≡ false
 untrue true e = let z : _≡_ {A = ℕ} 0 1 = cc in absurd (omega arith)
@@ -101,15 +116,15 @@ returns c k cells ss e h =
     let b = started l in
     let a = began b .args in
     let i = l .before .loop .inv in
-    ends-early (a .kind) (a .library .now) (a .netlist .now) k cells ss e h (2 * b .before .before .wide .result + 1 - l .before .loop .left) (l .before .loop .left - 1)
-    (omega (arith, b .before .before .wide .ensures)) _ _ _ _ (o .one-sweep .ensures .long ∙ i .4) (o .one-sweep .ensures .still (untrue (o .one-sweep .result) (c .if1 .taken))) (i .3) (more o .0)
+    ends-early (a .kind) (a .library .now) (a .netlist .now) k cells ss e h (2 * counted b .wide .result + 1 - l .before .loop .left) (l .before .loop .left - 1)
+    (omega (arith, counted b .wide .ensures)) _ _ _ _ (o .one-sweep .ensures .long ∙ i .4) (o .one-sweep .ensures .still (untrue (o .one-sweep .result) (c .if1 .taken))) (i .3) (more o .0)
 
 returns-2 : tie.Need-returns-2 Inv-loop μ-loop
 returns-2 c k cells ss e h =
     let b = c .before .before in
     let a = began b .args in
     let l = c .before .loop in
-    let n : 2 * b .before .before .wide .result + 1 - l .left ≡ 2 * getD (a .netlist .now) 0 0 + 1 = omega (arith, b .before .before .wide .ensures) in
+    let n : 2 * counted b .wide .result + 1 - l .left ≡ 2 * getD (a .netlist .now) 0 0 + 1 = omega (arith, counted b .wide .ensures) in
     ends-all (a .kind) (a .library .now) (a .netlist .now) k cells ss e h _ _ (rw n at (l .inv .3))
 
 pub trace-spec : {M : Type 1} → statement M
@@ -120,7 +135,17 @@ trace-spec =
     μ-loop
     (λ c. omega (arith, room (c .before .before .before .pre .holds)))
     (λ c κs. search needs)
-    (λ c κs. (room (c .before .before .before .before .before .pre .holds), refl))
+    (λ c κs.
+    let w = c .before in
+    let s = w .before .before .before .before in
+    let f = few-gates (s .args .kind) (s .args .library .now) (s .args .netlist .now) (s .pre .cells) (s .pre .statements) (s .pre .holds) in
+    record {
+      count = w .wide .ensures;
+      few = rw (w .wide .ensures) f;
+      tablesFit = tables (s .args .kind) (s .args .library .now) (s .args .netlist .now) (s .pre .cells) (s .pre .statements) (s .pre .holds);
+      size = search needs;
+    })
+    (λ c κs. (room (c .before .before .before .before .before .before .before .pre .holds), refl))
     (λ c. omega (arith, few c))
     (λ c. omega (arith, few c))
     loop-holds

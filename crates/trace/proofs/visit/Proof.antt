@@ -1,4 +1,6 @@
 -- `visit` gathers the costs of the gate's columns, and lowers the number where the least row sum is below it. Assumes nothing.
+use mathlib.Core.Bool.{Bool}
+use mathlib.Core.List.{List}
 use mathlib.Core.Path.{_≡_, refl, ap, ap₂, _∙_}
 use Prim.Native.Nat.{ℕ, _+_, _*_, _^_, _≤_, _<_}
 use native.Mathlib.Omega.{arith}
@@ -9,7 +11,7 @@ use Rattle.sizes.specs.Places.{groupPlace}
 use Rattle.reading.specs.Choice.{pick}
 use Rattle.gates.specs.Tables.{gateCell, gatePins, byRole, visitGroup}
 use Rattle.gates.specs.Fits.{LinesFit, GateFits}
-use Rattle.trace.specs.Marks.{marked}
+use Rattle.trace.specs.Marks.{asWritten, askingColumns}
 use Rattle.trace.proofs.Visits.{lines-fit, rows-room, sum-fits, gather-fits, place-inside, traced-still, traced-lowered}
 use Rattle.trace.proofs.visit.Statement.{statement}
 use Rattle.trace.proofs.visit.Tie as tie
@@ -32,7 +34,7 @@ abbrev grouped : tie.After-visit-place → tie.After-visit-group
 grouped c = c .before .before
 
 abbrev placed : tie.After-least-row → tie.After-visit-place
-placed c = c .before .before
+placed c = c .before .before .before .before
 
 -- ---- what was read of the gate
 
@@ -46,7 +48,7 @@ fit : (c : tie.After-lines-of) → LinesFit (c .lines-of .result) (c .before .wi
 fit c =
     let s = began c in
     let a = s .args in
-    lines-fit (a .kind) (a .library .now) (a .netlist .now) (a .numbers .now) (a .marks .now) (s .pre .0) (a .gate) (a .value) (s .pre .1) (s .pre .2) (c .lines-of .result) (c .before .wide .result) _
+    lines-fit (a .kind) (a .library .now) (a .netlist .now) (a .tied .now) (a .numbers .now) (a .marks .now) (s .pre .0) (a .gate) (a .value) (s .pre .1) (s .pre .2) (c .lines-of .result) (c .before .wide .result) _
     (c .lines-of .ensures) (pins-are c) refl
 
 group-few : (c : tie.After-visit-group) → c .visit-group .result ≤ 3
@@ -70,7 +72,7 @@ low c =
     let x = lined (gathered g) in
     let s = began x in
     let a = s .args in
-    place-inside (a .kind) (a .library .now) (a .netlist .now) (a .numbers .now) (a .marks .now) (s .pre .0) (a .gate) (a .value) (s .pre .1) (s .pre .2) (x .lines-of .result) (x .before .wide .result) (groupAt g)
+    place-inside (a .kind) (a .library .now) (a .netlist .now) (a .tied .now) (a .numbers .now) (a .marks .now) (s .pre .0) (a .gate) (a .value) (s .pre .1) (s .pre .2) (x .lines-of .result) (x .before .wide .result) (groupAt g)
     (x .lines-of .ensures) (pins-are x) (group-stands g) (c .visit-place .result) (c .visit-place .ensures)
 
 -- The library table is as long as a slice may be.
@@ -90,7 +92,7 @@ room c =
       arith,
       long (x .before .before),
       c .least-row .ensures .few,
-      rows-room (a .kind) (a .library .now) (a .netlist .now) (a .numbers .now) (a .marks .now) (s .pre .0) (a .gate) (a .value) (s .pre .1) (s .pre .2) (x .lines-of .result) (x .before .wide .result) (groupAt g)
+      rows-room (a .kind) (a .library .now) (a .netlist .now) (a .tied .now) (a .numbers .now) (a .marks .now) (s .pre .0) (a .gate) (a .value) (s .pre .1) (s .pre .2) (x .lines-of .result) (x .before .wide .result) (groupAt g)
           (x .lines-of .ensures) (pins-are x) (group-stands g),
     )
 
@@ -110,26 +112,45 @@ returns c =
     let x = lined (gathered g) in
     let s = began x in
     let a = s .args in
-    traced-still (a .kind) (a .library .now) (a .netlist .now) (a .numbers .now) (a .marks .now) (s .pre .0) (a .gate) (a .value) (s .pre .1) (s .pre .2) (x .lines-of .result) (x .before .wide .result) (groupAt g)
+    traced-still (a .kind) (a .library .now) (a .netlist .now) (a .tied .now) (a .numbers .now) (a .marks .now) (s .pre .0) (a .gate) (a .value) (s .pre .1) (s .pre .2) (x .lines-of .result) (x .before .wide .result) (groupAt g)
     (x .lines-of .ensures) (pins-are x) (group-stands g) (p .visit-place .result) (p .visit-place .ensures) _ (gathered g .column-costs .ensures) (k .least-row .result) (k .least-row .ensures) (a .clock) (search needs)
 
+written-same : {h h′ d d′ c c′ : ℕ} → h ≡ h′ → d ≡ d′ → c ≡ c′ → asWritten h d c ≡ asWritten h′ d′ c′
+written-same p q r = rw (p, q, r) refl
+
+asking-same : {w w′ : Bool} {ls ls′ : List ℕ} {n n′ c c′ : ℕ} → w ≡ w′ → ls ≡ ls′ → n ≡ n′ → c ≡ c′ → askingColumns w ls n c ≡ askingColumns w′ ls′ n′ c′
+asking-same p q r s = rw (p, q, r, s) refl
+
+-- The columns of the row that was found.
+columns-are : (c : tie.After-word) → c .word .result
+    ≡ getD (began (lined (gathered (grouped (placed (c .before .before .before .before .before))))) .args .library .now)
+    (groupPlace (gateCell (began (lined (gathered (grouped (placed (c .before .before .before .before .before))))) .args .netlist .now) (began (lined (gathered (grouped (placed (c .before .before .before .before .before))))) .args .gate))
+    (visitGroup 0 (began (lined (gathered (grouped (placed (c .before .before .before .before .before))))) .args .kind) (began (lined (gathered (grouped (placed (c .before .before .before .before .before))))) .args .value)) + 1 + 2 * c .before .before .before .before .before .least-row .result .row + 1) 0
+columns-are c =
+    let k = c .before .before .before .before .before in
+    let g = grouped (placed k) in
+    c .word .ensures ∙ ap (λ (n : ℕ). getD (began (lined (gathered g)) .args .library .now) (n + 1 + 2 * k .least-row .result .row + 1) 0) (group-stands g)
+
 returns-2 : tie.Need-returns-2
+unfolding byRole pick
 returns-2 c =
-    let k = c .before .before .before .before .before .before .before .before .before .before in
+    let k = c .before .before .before .before .before .before .before .before .before .before .before .before .before in
+    let w = c .before .before .before .before .before .before .before .before in
     let p = placed k in
     let g = grouped p in
     let x = lined (gathered g) in
     let s = began x in
     let a = s .args in
-    traced-lowered (a .kind) (a .library .now) (a .netlist .now) (a .numbers .now) (a .marks .now) (s .pre .0) (a .gate) (a .value) (s .pre .1) (s .pre .2) (x .lines-of .result) (x .before .wide .result) (groupAt g)
+    let cols = columns-are w in
+    traced-lowered (a .kind) (a .library .now) (a .netlist .now) (a .tied .now) (a .numbers .now) (a .marks .now) (s .pre .0) (a .gate) (a .value) (s .pre .1) (s .pre .2) (x .lines-of .result) (x .before .wide .result) (groupAt g)
     (x .lines-of .ensures) (pins-are x) (group-stands g) (p .visit-place .result) (p .visit-place .ensures) _ (gathered g .column-costs .ensures) (k .least-row .result) (k .least-row .ensures)
     _ (a .clock) _ _ _ refl
-    (c .before .before .word2 .ensures ∙ ap (λ (n : ℕ). getD (a .library .now) (n + 1 + 2 * k .least-row .result .row) 0) (group-stands g))
-    (c .before .word3 .ensures ∙ ap (λ (n : ℕ). getD (a .library .now) (n + 1 + 2 * k .least-row .result .row + 1) 0) (group-stands g))
-    (c .before .before .before .before .mark-of .ensures
-    ∙ ap₂ marked (ap (λ (n : ℕ). Size.gatesAt + a .gate * Size.gateWords + 1 + n) (pins-are x))
-    (c .before .before .before .before .before .word .ensures ∙ ap (λ (n : ℕ). getD (a .library .now) (n + Size.headingAt) 0) (celled x .cell-place .ensures)))
-    (omega (arith, c .before .before .before .before .before .before .before .if1 .left))
+    (c .before .before .before .before .before .as-written .ensures
+    ∙ written-same (c .before .before .before .before .before .before .before .word2 .ensures ∙ ap (λ (n : ℕ). getD (a .library .now) (n + Size.headingAt) 0) (celled x .cell-place .ensures))
+    (c .before .before .before .before .before .before .word3 .ensures ∙ ap (λ (n : ℕ). getD (a .library .now) (n + 1 + 2 * k .least-row .result .row) 0) (group-stands g)) cols)
+    (c .before .before .asking-columns .ensures ∙ asking-same (s .pre .0 .noted .each (a .gate) (s .pre .1)) (x .lines-of .ensures) (pins-are x) cols)
+    (ap (λ (n : ℕ). Size.gatesAt + a .gate * Size.gateWords + 1 + n) (pins-are x))
+    (omega (arith, c .before .before .before .before .before .before .before .before .before .before .if1 .left))
     _ (c .note .ensures)
 
 pub visit-spec : {M : Type 1} → statement M
@@ -146,20 +167,25 @@ visit-spec =
     let x = c .before .before .before in
     let s = began x in
     let a = s .args in
-    gather-fits (a .kind) (a .library .now) (a .netlist .now) (a .numbers .now) (a .marks .now) (s .pre .0) (a .gate) (a .value) (s .pre .1) (s .pre .2) (x .lines-of .result) (x .before .wide .result) _
+    gather-fits (a .kind) (a .library .now) (a .netlist .now) (a .tied .now) (a .numbers .now) (a .marks .now) (s .pre .0) (a .gate) (a .value) (s .pre .1) (s .pre .2) (x .lines-of .result) (x .before .wide .result) _
     (x .lines-of .ensures) (pins-are x) refl _ refl)
     (λ c. search needs)
     (λ c κs. search needs)
     (λ c. omega (arith, group-few c))
     (λ c. let f = gate-fits (began (lined (gathered c))) in omega (arith, group-few c))
     (unfold byRole pick in (λ c κs. let x = lined (gathered (c .before)) in (began x .pre .0 .kindFits, fit x, omega (arith, began x .pre .2))))
+    (λ c.
+    let s = began (lined (gathered (grouped c))) in
+    omega (arith, s .pre .1, s .pre .0 .few))
     (λ c κs.
-    let g = c .before .before .before in
+    let g = grouped (c .before .before .before) in
     let x = lined (gathered g) in
     let s = began x in
-    let a = s .args in
-    sum-fits (a .kind) (a .library .now) (a .netlist .now) (a .numbers .now) (a .marks .now) (s .pre .0) (a .gate) (a .value) (s .pre .1) (s .pre .2) (x .lines-of .result) (x .before .wide .result) (groupAt g)
-    (x .lines-of .ensures) (pins-are x) (group-stands g) _ (gathered g .column-costs .ensures .size))
+    let a = s .args in (
+      fit x .count,
+      sum-fits (a .kind) (a .library .now) (a .netlist .now) (a .tied .now) (a .numbers .now) (a .marks .now) (s .pre .0) (a .gate) (a .value) (s .pre .1) (s .pre .2) (x .lines-of .result) (x .before .wide .result) (groupAt g)
+          (x .lines-of .ensures) (pins-are x) (group-stands g) _ (gathered g .column-costs .ensures .size),
+    ))
     (λ c. omega (arith, low (placed c)))
     (λ c. low (placed c))
     returns
@@ -168,17 +194,20 @@ visit-spec =
     (λ c. omega (arith, room (c .before .before .before)))
     (λ c. omega (arith, room (c .before .before .before .before)))
     (λ c. omega (arith, room (c .before .before .before .before)))
-    (λ c. omega (arith, small (c .before .before .before .before)))
-    (λ c. omega (arith, small (c .before .before .before .before)))
-    (λ c. omega (arith, small (c .before .before .before .before)))
-    (λ c. omega (arith, small (c .before .before .before .before)))
     (λ c. omega (arith, room (c .before .before .before .before)))
     (λ c κs. search needs)
-    (λ c κs. omega (arith, small (c .before .before .before .before .before)))
+    (λ c. omega (arith, room (c .before .before .before .before .before)))
+    (λ c κs. search needs)
+    (λ c κs. search needs)
+    (λ c κs. search needs)
+    (λ c. omega (arith, small (c .before .before .before .before .before .before .before .before)))
+    (λ c κs. small (c .before .before .before .before .before .before .before .before .before .before) .1)
     (λ c. search needs)
-    (λ c. omega (arith, began (lined (gathered (grouped (placed (c .before .before .before .before .before .before .before))))) .pre .3))
-    (λ c κs. search needs)
-    (λ c. omega (arith, room (c .before .before .before .before .before .before .before .before)))
-    (λ c κs. search needs)
-    (λ c κs. let x = lined (gathered (grouped (placed (c .before .before .before .before .before .before .before .before .before)))) in (fit x .most 0 (omega arith), began x .pre .2, began x .pre .0 .marksSize))
+    (λ c. omega (arith, began (lined (gathered (grouped (placed (c .before .before .before .before .before .before .before .before .before .before .before .before))))) .pre .3))
+    (λ c. omega (arith, small (c .before .before .before .before .before .before .before .before .before .before .before .before)))
+    (λ c. omega (arith, small (c .before .before .before .before .before .before .before .before .before .before .before .before)))
+    (λ c. omega (arith, small (c .before .before .before .before .before .before .before .before .before .before .before .before)))
+    (λ c. omega (arith, small (c .before .before .before .before .before .before .before .before .before .before .before .before)))
+    (λ c. omega (arith, small (c .before .before .before .before .before .before .before .before .before .before .before .before)))
+    (λ c κs. let x = lined (gathered (grouped (placed (c .before .before .before .before .before .before .before .before .before .before .before .before)))) in (fit x .most 0 (omega arith), began x .pre .2, began x .pre .0 .marksSize))
     returns-2)

@@ -7,7 +7,7 @@ use native.Mathlib.Omega.{arith}
 use borrow.Author.Needs.{needs}
 use lib.ListN.{getD}
 use Rattle.sizes.specs.Sizes as Size
-use Rattle.wires.specs.OneWire.{bothValues}
+use Rattle.calculation.specs.Ways.{bothValues}
 use Rattle.wires.specs.Wires.{anyBelow, groupBoth}
 use Rattle.wires.proofs.Any.{any-first, any-next, any-found, any-end}
 use Rattle.wires.proofs.group_both.Statement.{statement}

@@ -21,11 +21,11 @@ use std::process::ExitCode;
 
 const SEED: u64 = 0x5c0a_9197_9115_2026;
 /// Random pairs, besides the fixed ones.
-const PAIRS: usize = 40_000;
+const PAIRS: usize = 44_000;
 /// Random ladders whose plans are written out.
 const PLAN_PAIRS: usize = 300;
 /// Random ladders, besides those of chosen sizes.
-const LADDERS: usize = 2_000;
+const LADDERS: usize = 2_400;
 /// Every answer must come up at least so often among the random pairs.
 const AT_LEAST: u64 = 100;
 /// The buffer that the program itself lends.
@@ -387,10 +387,16 @@ fn figures(all: &mut Comparison) {
     all.costs("C17", NAND2, C17_NET, &c17);
 
     let text = |text: &str| text.to_string();
-    let known = [(29, 0, text("29")), (29, 1, text("536870911"))];
+    let known = [(29, 0, text("29")), (29, 1, text("29"))];
     all.costs("28 AND2", AND2, &doubling("AND2", 28), &known);
-    let known = [(30, 0, text("30")), (30, 1, text("over"))];
+    let known = [(30, 0, text("30")), (30, 1, text("30"))];
     all.costs("29 AND2", AND2, &doubling("AND2", 29), &known);
+    // A cell with a row that names both values of a pin pays for each pin.
+    let both = AND2.replace("CC,21,", "CC,21,M,7,");
+    let known = [(29, 0, text("29")), (29, 1, text("536870911"))];
+    all.costs("28 of both values", &both, &doubling("AND2", 28), &known);
+    let known = [(30, 0, text("30")), (30, 1, text("over"))];
+    all.costs("29 of both values", &both, &doubling("AND2", 29), &known);
     for gates in [1, 2, 3, 10, 27, 30, 31, 40, 999] {
         for (cell, lib) in [("AND2", AND2), ("NAND2", NAND2)] {
             all.costs(&format!("{gates} {cell}"), lib, &doubling(cell, gates), &[]);
@@ -547,7 +553,7 @@ fn largest(all: &mut Comparison, rng: &mut Random) {
         lib.push(b'\n');
         all.check("many rows", &lib, b"", ROOM, None);
     }
-    for style in [Style::Common, Style::Any, Style::Largest] {
+    for style in [Style::Common, Style::Any, Style::Wired, Style::Largest] {
         for order in [Order::Forward, Order::Backward, Order::Shuffled] {
             for wiring in [Wiring::Forward, Wiring::Deep, Wiring::Any] {
                 for inputs in [0, 1, 100] {
@@ -792,10 +798,20 @@ fn plans(all: &mut Comparison, rng: &mut Random) {
             most_line(net.as_bytes()),
         );
     }
-    for _ in 0..PLAN_PAIRS {
+    // Each line of one wire is written once.
+    let tied = doubling("AND2", 12);
+    all.check_plans("plan of tied pins", AND2.as_bytes(), tied.as_bytes(), 13);
+    let mut own = Random::from(SEED);
+    for turn in 0..PLAN_PAIRS {
         let made = ladder(rng, rng_gates(all.turn));
         let (lib, net) = (made.lib.bytes(), made.net.bytes());
         all.check_plans("plan of a ladder", &lib, &net, most_line(&net));
+        // Half as many of any cells, those of one wire among them.
+        if turn % 2 == 0 {
+            let made = pair(&mut own, rng_gates(all.turn));
+            let (lib, net) = (made.lib.bytes(), made.net.bytes());
+            all.check_plans("plan of a pair", &lib, &net, most_line(&net));
+        }
     }
 }
 

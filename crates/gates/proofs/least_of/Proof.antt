@@ -1,0 +1,22 @@
+-- `least_of` reads the rows as was decided for the gate. Assumes nothing.
+use mathlib.Core.Path.{_∙_}
+use borrow.Author.Needs.{needs}
+use Rattle.gates.specs.Tables.{readRow}
+use Rattle.gates.proofs.least_of.Statement.{statement}
+use Rattle.gates.proofs.least_of.Tie as tie
+
+returns : tie.Need-returns
+returns c = rw (c .before .if1 .taken) (c .least-wired .ensures)
+
+returns-2 : tie.Need-returns-2
+unfolding readRow
+returns-2 c = rw (c .before .if1 .left) (c .least-sum .ensures)
+
+pub least-of-spec : {M : Type 1} → statement M
+least-of-spec =
+    tie.close
+    (tie.spec
+    (λ c κs. search needs)
+    returns
+    (λ c κs. search needs)
+    returns-2)
