@@ -103,6 +103,8 @@ enum scoap_refusal {
  * Pins of a gate that share a line are one wire: a CC or SC row pays a value of it once, and a row that needs
  * both is no way. A cell with a row that names both values of one pin pays for each pin.
  *
+ * A cost 'never' says that there is no plan. What it says of the chip, and of which netlists, README tells.
+ *
  * The buffer afterwards:
  *   accepted       the report, without a byte 0 at its end; bytes past it keep their values
  *   refusal 2      untouched

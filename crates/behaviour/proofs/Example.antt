@@ -2,6 +2,7 @@
 -- Assumes nothing.
 use mathlib.Core.Bool.{Bool, true, false, _||_}
 use mathlib.Core.List.{List, [], _∷_, map, List·Memᴰ, List·Memᴰ·head, List·Memᴰ·tail, List·Memᴰ·not-nil, flatMap}
+use mathlib.Core.Logic.{_↔_}
 use mathlib.Core.Path.{_≡_, refl, sym, subst, ap, _∙_}
 use Prim.Native.Nat.{ℕ, _<_}
 use native.Mathlib.Omega.{arith}
@@ -9,6 +10,7 @@ use lib.Dec.{eqb}
 use borrow.Author.Tests.{eqb-true}
 use Rattle.reading.specs.Each.{Each}
 use Rattle.reading.proofs.Laws.{by-test, clash, each-member}
+use Rattle.cost.specs.Cost.{never}
 use Rattle.netlist.specs.Netlist.{Gate, Statement, gatesIn, gatesOf, linesOf, mentioned, mentionedLines, member, netlist-open}
 use Rattle.calculation.specs.Calculation.{analysed, calculation-open}
 use Rattle.calculation.specs.Ways as Ways
@@ -55,7 +57,13 @@ module _ (s : Setting) (v : Values) (d : Does statements (tablesOf bitsAt) s v) 
       by-value true h = unfold tables-open notBits andBits in clash false (sym h) refl
       by-value false h = unfold tables-open notBits andBits in clash false (sym h) refl
 
--- ---- though the first theorem speaks of this netlist
+-- ---- so that the second theorem does not hold without its condition
+
+pub condition-needed : ((l : ℕ) → mentioned l statements ≡ true → (x : Bool)
+    → (ccNumber (analysed cells statements .numbers) l x ≡ never) ↔ ((s : Setting) (v : Values) → Does statements (tablesOf bitsAt) s v → v l ≡ x → ⊥)) → ⊥
+condition-needed h = omega (arith, sym figure ∙ h 3 (unfold netlist-open statements in refl) true .1 unset)
+
+-- ---- though the first one speaks of this netlist
 
 feeds-up : (k l : ℕ) → Feeds statements k l → k < l
 feeds-up k l f = go (f .gate) (subst (λ (gs : List Gate). List·Memᴰ (f .gate) gs) gates-are (f .listed)) (f .drives) (f .reads)

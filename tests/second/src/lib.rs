@@ -4,6 +4,7 @@
 //! held against. Texts go in; a report or a refusal comes out.
 
 pub mod cell;
+pub mod chip;
 mod cost;
 pub mod damage;
 pub mod figures;

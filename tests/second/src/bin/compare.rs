@@ -1,6 +1,7 @@
 //! The proved archive and the second implementation side by side, through the C entry: the figures
-//! of the scope paper, the largest sizes, every one-byte change of a small pair, random pairs, and
-//! ladders, in which a sweep changes few of the numbers.
+//! of the scope paper, the largest sizes, every one-byte change of a small pair, random pairs,
+//! ladders, in which a sweep changes few of the numbers, plans, truth tables, and netlists of truth
+//! tables at every setting of their inputs.
 //!
 //! Every byte of the report buffer is compared, canaries stand before and past it and around the
 //! texts. The seed is fixed. The last line counts: 'N passed, M failed'.
@@ -9,6 +10,7 @@
 mod archive;
 
 use second::cell::cell_into;
+use second::chip::Chip;
 use second::damage::{any_damage, babble, one_line, overlong, scramble};
 use second::figures::*;
 use second::generate::{
@@ -26,6 +28,8 @@ const PAIRS: usize = 44_000;
 const PLAN_PAIRS: usize = 300;
 /// Random ladders, besides those of chosen sizes.
 const LADDERS: usize = 2_400;
+/// Random netlists of truth tables, tried at every setting of their inputs.
+const CHIPS: usize = 4_000;
 /// Every answer must come up at least so often among the random pairs.
 const AT_LEAST: u64 = 100;
 /// The buffer that the program itself lends.
@@ -815,6 +819,60 @@ fn plans(all: &mut Comparison, rng: &mut Random) {
     }
 }
 
+/// What never says of the chip, on netlists of truth tables: no setting of the inputs gives a line a value
+/// whose CC number is never; where each line is read by at most one pin, never stands exactly so.
+fn chips(all: &mut Comparison, rng: &mut Random) {
+    let (mut once, mut nevers, mut figures) = (0, 0, 0);
+    for turn in 0..CHIPS {
+        let chip = Chip::random(rng, turn % 2 == 0);
+        let (lib, net) = (chip.library(), chip.netlist());
+        all.check("chip", &lib, &net, ROOM, None);
+        let mut buffer = vec![0; ROOM];
+        let answer = archive::scoap_report(&lib, &net, &mut buffer);
+        let length = if answer < 1_000_000 { answer } else { 0 };
+        let report = String::from_utf8_lossy(&buffer[..length as usize]).into_owned();
+        let read_once = chip.read_once();
+        once += u64::from(read_once);
+        let given = chip.given();
+        let mut rows = 0;
+        for row in report.lines().skip(1) {
+            let parts: Vec<&str> = row.split(',').collect();
+            let Ok(line) = parts[0].parse::<usize>() else {
+                continue;
+            };
+            rows += 1;
+            for value in [0, 1] {
+                let never = parts[1 + value] == "never";
+                let given = given[line - 1][value];
+                nevers += u64::from(never);
+                figures += u64::from(!never && !given);
+                let holds = if read_once {
+                    never != given
+                } else {
+                    !(never && given)
+                };
+                let problem = (!holds).then(|| {
+                    let net = String::from_utf8_lossy(&net);
+                    format!("line {line}, value {value}: never {never}, given {given}: {net:?}")
+                });
+                all.verdict("what never says", problem);
+            }
+        }
+        let problem = (rows != given.len()).then(|| format!("{rows} lines of {}", given.len()));
+        all.verdict("each line of a chip", problem);
+    }
+    println!("{CHIPS} netlists of truth tables at every setting");
+    for (title, count) in [
+        ("each line read by at most one pin", once),
+        ("a value that is never", nevers),
+        ("a figure that no setting gives", figures),
+    ] {
+        println!("  {title:<34} {count:>6}");
+        let problem = (count < AT_LEAST).then(|| format!("came up {count} times only"));
+        all.verdict(title, problem);
+    }
+}
+
 /// A few gates, by turn.
 fn rng_gates(turn: usize) -> usize {
     1 + turn % 12
@@ -884,6 +942,7 @@ fn main() -> ExitCode {
         "{} truth tables and damaged lines",
         all.passed + all.failed - before
     );
+    chips(&mut all, &mut Random::from(SEED));
     println!("{} passed, {} failed", all.passed, all.failed);
     if all.failed == 0 {
         ExitCode::SUCCESS
