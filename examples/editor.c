@@ -60,7 +60,7 @@ static const char *reason(unsigned number)
     case SCOAP_NAME_USED:
         return "the cell's name was used before";
     case SCOAP_PINS:
-        return "a cell has 1 to 8 pins";
+        return "a cell has at most 8 pins";
     case SCOAP_GROUPS:
         return "the count of groups is wrong, or a group has more than 16 rows";
     case SCOAP_ROW_BITS:

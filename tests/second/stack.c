@@ -26,7 +26,9 @@ static uint8_t report[2 * SCOAP_REPORT];
 static size_t lib_length;
 static size_t net_length;
 static uint64_t answer;
-/* The line whose plan is written out, at 1; 0 where the report is. */
+/* Which entry is called. The library's text is the line of a truth table for CELL. */
+static enum { REPORT, PLAN, CELL, BUILT_IN } entry;
+/* The line whose plan is written out, at 1. */
 static unsigned plan;
 
 static volatile int entered;
@@ -63,12 +65,21 @@ void *__wrap_realloc(void *memory, size_t size)
 static void *run(void *unused)
 {
     entered = 1;
-    if (plan == 0) {
+    switch (entry) {
+    case REPORT:
         answer = scoap_report((const uint8_t *)lib, lib_length, (const uint8_t *)net, net_length,
                               report, sizeof report);
-    } else {
+        break;
+    case PLAN:
         answer = scoap_plan((const uint8_t *)lib, lib_length, (const uint8_t *)net, net_length,
                             plan, 1, 0, report, sizeof report);
+        break;
+    case CELL:
+        answer = scoap_cell((const uint8_t *)lib, lib_length, report, SCOAP_MOST_ENTRY);
+        break;
+    case BUILT_IN:
+        answer = scoap_built_in(report, SCOAP_BUILT_IN);
+        break;
     }
     entered = 0;
     return unused;
@@ -140,8 +151,8 @@ static void measure(const char *label, unsigned number)
         printf("FAILED: %s: %u calls for memory\n", label, taken);
         taken = 0;
         failed++;
-    } else if (own > (plan == 0 ? LIMIT : PLAN_LIMIT)) {
-        printf("FAILED: %s: above %u\n", label, plan == 0 ? LIMIT : PLAN_LIMIT);
+    } else if (own > (entry == PLAN ? PLAN_LIMIT : LIMIT)) {
+        printf("FAILED: %s: above %u\n", label, entry == PLAN ? PLAN_LIMIT : LIMIT);
         failed++;
     } else {
         passed++;
@@ -260,6 +271,7 @@ int main(void)
         snprintf(text, sizeof text, "gate,DEEP,%u,%u,%u\n", line, line - 1, line);
         add_net(text);
     }
+    entry = PLAN;
     plan = 1000;
     measure("a plan of 1,999 nodes in a chain", 0);
     /* A tree of more nodes than any buffer has bytes ends with the buffer. */
@@ -272,6 +284,24 @@ int main(void)
     }
     plan = 40;
     measure("a plan longer than its buffer", 19);
+
+    /* The most rows: each pin of an exclusive or changes the output. */
+    start();
+    entry = CELL;
+    add_lib("XOR4,4,0110100110010110\n");
+    measure("the entry of a truth table", 0);
+    start();
+    memset(lib, '1', lib_length = SCOAP_MOST_TEXT);
+    measure("a truth table of one field", 3);
+
+    /* The built-in text fits its published length, and is accepted as a library. */
+    start();
+    entry = BUILT_IN;
+    measure("the built-in library", 0);
+    memcpy(lib, report, lib_length = SCOAP_BUILT_IN);
+    add_net("input,1\ngate,NOT,2,1\noutput,2\n");
+    entry = REPORT;
+    measure("a netlist over it", 0);
 
     printf("%u passed, %u failed\n", passed, failed);
     return failed == 0 ? 0 : 1;
