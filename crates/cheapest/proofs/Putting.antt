@@ -16,8 +16,7 @@ use Rattle.reading.specs.Choice.{pick}
 use Rattle.reading.proofs.Laws.{by-test}
 use Rattle.writer.specs.Put.{Put}
 use Rattle.writer.proofs.Steps.{put-none, put-then}
-use Rattle.gates.specs.Tables.{columnPlaces}
-use Rattle.gates.proofs.Columns.{no-places, lowest-first}
+use Rattle.row_sums.proofs.Columns.{no-places, lowest-first}
 use Rattle.cheapest.specs.Text.{nodeLine, joined}
 use Rattle.cheapest.specs.Writing.{visitAt, rowAt, lastAt, columnsAt, goalAt, goals, goalRow, goalLine, levels, lineBytes, rowBytes}
 

@@ -36,7 +36,7 @@ use Rattle.plans.proofs.Laws.{at-getD}
 use Rattle.cost.specs.Cost.{most}
 use Rattle.trace.proofs.Standing.{reported}
 use Rattle.calculation.proofs.Visiting.{getD-listed, MayName, asks-named}
-use Rattle.gates.specs.Tables.{readRow, hasWay, gateCell, gatePins, gateLines, byRole, columnPlaces, visitGroup, gateTied}
+use Rattle.gates.specs.Tables.{readRow, hasWay, gateCell, gatePins, gateLines, byRole, visitGroup, gateTied}
 use Rattle.wires.specs.Wires.{onceColumns, sharesLine}
 use Rattle.gates.proofs.Wiring.{way-told, asking-few, asking-named}
 use Rattle.gates.proofs.Naming.{set-node, linesOf, setting-named}

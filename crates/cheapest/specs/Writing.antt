@@ -8,7 +8,7 @@ use lib.ListN.{getD}
 use Rattle.sizes.specs.Sizes as Size
 use Rattle.reading.specs.Choice.{pick}
 use Rattle.writer.specs.Octal.{octalBytes}
-use Rattle.gates.specs.Tables.{columnPlaces}
+use Rattle.row_sums.specs.Columns.{columnPlaces}
 use Rattle.cheapest.specs.Text.{nodeLine, inputText, joined}
 
 module _ (marks : List ℕ) where

@@ -2,7 +2,7 @@
 -- them.
 -- Assumes nothing.
 use mathlib.Core.Bool.{Bool, true, false}
-use mathlib.Core.List.{List, [], _∷_}
+use mathlib.Core.List.{List}
 use mathlib.Core.Option.{Option, none, some}
 use mathlib.Core.Path.{_≡_, refl, sym, ap, ap₂, _∙_}
 use Prim.Native.Nat.{ℕ, zero, suc, _+_, _*_, _-_, _/_, _%_, _^_, _≤_, _<_}
@@ -20,9 +20,10 @@ use Rattle.cost.specs.Cost.{_⊕_, capped, lesser}
 use Rattle.plans.specs.System.{Way}
 use Rattle.plans.specs.Sweep.{at, sums, way, least}
 use Rattle.plans.proofs.Laws.{at-getD}
-use Rattle.gates.specs.Tables.{columnPlace, withNamed, columnPlaces, rowPlaces, namedColumns, readRow, withWay, rowWays, groupWays, groupColumns}
+use Rattle.row_sums.specs.Columns.{withNamed, columnPlaces, namedColumns}
+use Rattle.row_sums.proofs.Columns.{fewer-places}
+use Rattle.gates.specs.Tables.{columnPlace, rowPlaces, readRow, withWay, rowWays, groupWays, groupColumns}
 use Rattle.gates.specs.Fits.{LinesFit, Gathered, GroupFits}
-use Rattle.gates.proofs.Columns.{fewer-places}
 use Rattle.gates.proofs.Rows.{line-column, observe-column, column-inside}
 
 stands : (kind : ℕ) (lines : List ℕ) (pins : ℕ) (numbers : List ℕ) → kind ≤ 1 → LinesFit lines pins → length numbers ≡ Size.numbers → (j : ℕ)

@@ -1,6 +1,5 @@
 pub mod Copying
 pub mod Roles
-pub mod Columns
 pub mod Rows
 pub mod Gathering
 pub mod Naming

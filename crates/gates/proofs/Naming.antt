@@ -20,8 +20,9 @@ use Rattle.netlist.specs.Netlist.{Gate}
 use Rattle.calculation.specs.Nodes.{Kind, combinational, sequential, kindNumber, node}
 use Rattle.calculation.specs.Nodes as N
 use Rattle.calculation.specs.Ways.{pinLine, asked, needs, Role, setting, observing, wordOf, columnsOf, namedBy}
-use Rattle.gates.specs.Tables.{columnPlace, withNamed, columnPlaces, rowPlaces}
-use Rattle.gates.proofs.Columns.{fewer-places}
+use Rattle.row_sums.specs.Columns.{withNamed, columnPlaces}
+use Rattle.row_sums.proofs.Columns.{fewer-places}
+use Rattle.gates.specs.Tables.{columnPlace, rowPlaces}
 use Rattle.gates.proofs.Rows.{line-column, observe-column}
 
 pub set-node : (k : Kind) (l v : ℕ) → settingPlace (kindNumber k) l v ≡ node k (N.set l v)
@@ -137,7 +138,9 @@ module _ (k : Kind) (g : Gate) (n : ℕ) (few : n ≤ Size.pins) where
       let q : 1 - j % 2 ≡ v = omega arith in
       let z : suc i - 1 ≡ i = omega arith in
       line-column (kindNumber k) (linesOf g) n j l
-      ∙ rw (m, q, z) (ap (λ (x : ℕ). settingPlace (kindNumber k) x v) (getD-fitted 0 Size.pins (g .pins) i (omega arith)) ∙ set-node k (getD (g .pins) i 0) v)
+      ∙ rw (m, q, z)
+      (ap (λ (x : ℕ). settingPlace (kindNumber k) x v) {y = getD (g .pins) i 0} (getD-fitted 0 Size.pins (g .pins) i (omega arith))
+      ∙ set-node k (getD (g .pins) i 0) v)
 
   output-place : (v : ℕ) → v ≤ 1 → (j : ℕ) → j ≡ 2 * n + (1 - v) → place j ≡ node k (asked g (output v))
   unfolding asked

@@ -2,25 +2,24 @@
 -- Assumes nothing.
 use mathlib.Core.List.{List}
 use mathlib.Core.Option.{Option, none, some}
-use mathlib.Core.Path.{_≡_, refl, sym, ap, _∙_}
+use mathlib.Core.Path.{_≡_, refl, ap, _∙_}
 use Prim.Native.Nat.{ℕ, suc, _+_, _*_, _-_, _/_, _%_, _≤_, _<_}
 use native.Mathlib.Decide.{decLe}
 use native.Mathlib.Omega.{arith}
-use lib.Bits.{bitAnd, and-le-l}
-use lib.Count.{trailingZeros}
-use lib.ListN.{length, getD}
+use lib.ListN.{getD}
 use borrow.Author.Tests.{le-leb, lt-leb}
 use Rattle.sizes.specs.Sizes as Size
 use Rattle.sizes.specs.Places.{settingPlace, observingPlace}
-use Rattle.cost.specs.Cost.{over, never, capped, _⊕_}
+use Rattle.cost.specs.Cost.{over, never, capped}
 use Rattle.reading.specs.Choice.{pick}
 use Rattle.plans.specs.System.{Way}
-use Rattle.plans.specs.Sweep.{at, sums, way, least}
-use Rattle.plans.proofs.Laws.{at-getD}
-use Rattle.gates.specs.Tables.{columnPlace, namedColumns, withWay, rowWays, groupWays, groupColumns}
-use Rattle.gates.specs.Fits.{LinesFit, ColumnsFit, GroupFits}
-use Rattle.gates.specs.Sums.{rowSum, lesserRow}
-use Rattle.gates.proofs.Columns.{no-places, lowest-below, lowest-first}
+use Rattle.plans.specs.Sweep.{at, way, least}
+use Rattle.row_sums.specs.Columns.{namedColumns}
+use Rattle.row_sums.specs.declared.Sum.{Sum}
+use Rattle.row_sums.specs.Sums.{sumNumber, sumKind, Summed, rowSum}
+use Rattle.gates.specs.Tables.{columnPlace, withWay, rowWays, groupWays, groupColumns}
+use Rattle.gates.specs.Fits.{LinesFit, GroupFits}
+use Rattle.gates.specs.Sums.{lesserRow}
 
 -- ---- the place of a column
 module _ (kind : ℕ) (lines : List ℕ) (pins : ℕ) where
@@ -45,32 +44,12 @@ module _ (kind : ℕ) (lines : List ℕ) (pins : ℕ) where
           let b : 0 ≤ pins = omega arith in
           rw (observe-column j (omega arith)) (omega (arith, f .least 0 b, f .most 0 b))
 
--- ---- the sum of a row's columns, over their costs
+-- ---- the sum of one row, or never
 
-pub no-sum : (costs : List ℕ) → 0 ≡ sums costs (namedColumns 0)
-unfolding namedColumns sums
-no-sum costs = rw (no-places (λ j. j) 32 0)
-
-module _ (columns : ℕ) (costs : List ℕ) (fit : ColumnsFit columns costs) (some : 0 < columns) where
-  pub lowest-inside : trailingZeros 32 columns < length costs
-  lowest-inside = rw (fit .size) (lowest-below 32 Size.columns columns some (fit .few))
-
-  pub rest-fits : ColumnsFit (bitAnd columns (columns - 1)) costs
-  rest-fits = record { size = fit .size; few = omega (arith, fit .few, and-le-l columns (columns - 1)) }
-
-  pub lowest-sum : getD costs (trailingZeros 32 columns) 0 ⊕ sums costs (namedColumns (bitAnd columns (columns - 1))) ≡ sums costs (namedColumns columns)
-  unfolding namedColumns sums
-  lowest-sum =
-      let j = trailingZeros 32 columns in
-      let z : 0 + j ≡ j = omega arith in
-      let e : at costs j ≡ getD costs j 0 = at-getD costs j 0 lowest-inside in
-      sym (ap (sums costs) (lowest-first (λ i. i) 32 0 columns some (omega (arith, fit .few))) ∙ rw (z, e))
-
-  -- Where the lowest column is the last, the sum of the rest is 0.
-  pub last-sum : bitAnd columns (columns - 1) ≡ 0 → getD costs (trailingZeros 32 columns) 0 ⊕ 0 ≡ sums costs (namedColumns columns)
-  last-sum e =
-      ap (λ (z : ℕ). getD costs (trailingZeros 32 columns) 0 ⊕ z) (no-sum costs ∙ ap (λ (c : ℕ). sums costs (namedColumns c)) (sym e))
-      ∙ lowest-sum
+pub row-told : (costs : List ℕ) (depth : ℕ) (row : Option ℕ) {kind number : ℕ} {best sum : Sum}
+    → Summed kind never best → Summed (sumKind best) (lesserRow costs depth row (sumNumber best)) sum → number ≡ sumNumber sum
+    → number ≡ lesserRow costs depth row never
+row-told costs depth row n s e = e ∙ s .comesTo ∙ ap (lesserRow costs depth row) (n .comesTo)
 
 -- ---- the least row sum, the rows taken from the last to the first
 
@@ -104,3 +83,31 @@ module _ (read : ℕ → Option ℕ) (library costs : List ℕ) (group : ℕ) wh
       let n : getD library group 0 - 0 ≡ getD library group 0 = omega arith in
       let m : group + 1 + Size.rowWords * 0 ≡ group + 1 = omega arith in
       rw (e, n, m)
+
+  -- The same of a sum in its kind.
+  abbrev pub SummedFrom : ℕ → ℕ → Sum → Type 0
+  SummedFrom kind row best = (row ≤ getD library group 0) × Summed kind (leastFrom row) best
+
+  pub summed-none : {kind row : ℕ} {best : Sum} → row ≡ getD library group 0 → Summed kind never best → SummedFrom kind row best
+  summed-none {row = row} h s = (omega arith, record { ofKind = s .ofKind; comesTo = s .comesTo ∙ rows-none row h })
+
+  pub summed-more : {kind row : ℕ} {best next : Sum} → 0 < row → GroupFits library group Size.columns
+      → SummedFrom kind row best
+      → let at = group + 1 + Size.rowWords * (row - 1) in
+      Summed (sumKind best) (lesserRow costs (getD library at 0) (read (getD library (at + 1) 0)) (sumNumber best)) next
+      → SummedFrom kind (row - 1) next
+  summed-more {row = row} p f b n =
+      let at = group + 1 + Size.rowWords * (row - 1) in (
+        omega (arith, b .0),
+        record {
+          ofKind = n .ofKind ∙ b .1 .ofKind;
+          comesTo =
+              n .comesTo
+              ∙ ap (lesserRow costs (getD library at 0) (read (getD library (at + 1) 0))) (b .1 .comesTo)
+              ∙ rows-more row Size.columns p (b .0) f;
+        },
+      )
+
+  pub summed-all : {kind row : ℕ} {best : Sum} → row ≤ 0 → SummedFrom kind row best
+      → sumNumber best ≡ least costs (groupColumns read library group)
+  summed-all {row = row} h s = s .1 .comesTo ∙ rows-all row h

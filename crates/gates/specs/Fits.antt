@@ -10,7 +10,7 @@ use Rattle.sizes.specs.Sizes as Size
 use Rattle.sizes.specs.Places.{cellPlace, groupPlace, gatePlace}
 use Rattle.cost.specs.Cost.{over}
 use Rattle.plans.specs.Sweep.{at}
-use Rattle.gates.specs.Tables.{columnPlace, gateCell, gatePins, gateLines, byRole, roleColumns, visitCount, visitGroup, gateTied}
+use Rattle.gates.specs.Tables.{columnPlace, gateCell, gatePins, gateLines, roleColumns, visitCount, visitGroup, gateTied}
 
 -- The line of a gate and those of its pins, each with its numbers in the numbers table.
 pub record LinesFit (lines : List ℕ) (pins : ℕ) : Type 0 where
@@ -42,11 +42,6 @@ pub record LineCostsFit (kind : ℕ) (lines : List ℕ) (pins : ℕ) (numbers : 
   pub rowFits : RowFits lines pins numbers
   pub few : count ≤ pins + 1
   pub size : length costs ≡ Size.columns
-
--- The columns that a row names have costs.
-pub record ColumnsFit (columns : ℕ) (costs : List ℕ) : Type 0 where
-  pub size : length costs ≡ Size.columns
-  pub few : columns < 2 ^ Size.columns
 
 -- A group and its rows, in the library table; its rows name none but the first `count` columns ("7 a row with a bit above its
 -- columns").

@@ -1,4 +1,3 @@
 pub mod Tables
 pub mod Fits
 pub mod Sums
-pub mod Gone

@@ -13,6 +13,7 @@ use Rattle.sizes.specs.Sizes as Size
 use Rattle.sizes.specs.Places.{cellPlace, pinsPlace, groupPlace, gatePlace, settingPlace, observingPlace}
 use Rattle.reading.specs.Choice.{pick}
 use Rattle.plans.specs.System.{Way, Visit}
+use Rattle.row_sums.specs.Columns.{columnPlaces, namedColumns}
 use Rattle.wires.specs.Wires.{onceColumns, bothColumns, tiedAt}
 
 -- ---- rows
@@ -26,17 +27,7 @@ columnPlace kind lines pins j =
     (settingPlace kind (getD lines (pins - j / 2) 0) (1 - j % 2))
     (observingPlace kind (getD lines 0 0))
 
--- One place more where the column is named.
-unfoldable pub withNamed : ℕ → ℕ → List ℕ → List ℕ
-withNamed zero n ns = ns
-withNamed (suc d) n ns = n ∷ ns
-
--- The places of the columns that a row names, of `count` columns from column `first` on, lowest first.
-unfoldable pub columnPlaces : (ℕ → ℕ) → ℕ → ℕ → ℕ → List ℕ
-columnPlaces place zero first columns = []
-columnPlaces place (suc count) first columns =
-    withNamed (columns % 2) (place first) (columnPlaces place count (suc first) (columns / 2))
-
+-- The places of the columns that a row names.
 unfoldable pub rowPlaces : ℕ → List ℕ → ℕ → ℕ → List ℕ
 rowPlaces kind lines pins columns = columnPlaces (columnPlace kind lines pins) 32 0 columns
 
@@ -66,10 +57,6 @@ unfoldable pub groupWays : (ℕ → Option ℕ) → (ℕ → List ℕ) → List 
 groupWays read places library group = rowWays read places library (getD library group 0) (group + 1)
 
 -- ---- the same rows over the costs of the columns, which stand in a list of their own, each by its bit
-
--- The columns that a row names, lowest first.
-unfoldable pub namedColumns : ℕ → List ℕ
-namedColumns columns = columnPlaces (λ j. j) 32 0 columns
 
 abbrev pub groupColumns : (ℕ → Option ℕ) → List ℕ → ℕ → List Way
 groupColumns read library group = groupWays read namedColumns library group

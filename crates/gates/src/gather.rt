@@ -3,7 +3,7 @@
 use super::places::observing_place;
 use super::places::setting_place;
 use super::visits::SETTING;
-ghost use Prim.Native.Nat.{_+_, _*_, _≤_};
+ghost use Prim.Native.Nat.{_+_, _*_};
 ghost use Rattle.gates.specs.Tables.{roleColumns};
 ghost use Rattle.gates.specs.Fits.{Gathered, GatherFits, LineCostsFit};
 

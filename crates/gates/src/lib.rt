@@ -1,96 +1,38 @@
 // A gate of an accepted netlist, out of the tables: its lines, where its cell's groups stand, what its
-// columns cost, and the row sums.
+// columns cost, and the least row sum of a group.
 //
 // For the crates above, each with what it asks of the tables (specs/Fits.antt), since the loop of the
-// sweeps tests no bounds: `least_of`, `lesser_of` and `number_of` with the type `Sum`, `is_way`, `read_number`,
-// `cell_place`, `lines_of`, `note_tied`, and modules `gather`, `kinds` and `visits`.
+// sweeps tests no bounds: `least_of`, `is_way`, `read_number`, `cell_place`, `lines_of`, `note_tied`, and
+// modules `gather` and `visits`.
 //
-// Modules `spatial` and `temporal` add up rows, each in costs of its own kind. All that does not add
-// goes by the kind's number, 0 combinational and 1 sequential.
+// Rows are added up in crate `row_sums`. Here all goes by the kind's number, 0 combinational and 1
+// sequential.
 pub mod gather;
-pub mod kinds;
 mod places;
-mod spatial;
-mod temporal;
 pub mod visits;
 
-use cost::NEVER;
-use cost::Spatial;
-use cost::Temporal;
-use kinds::COMBINATIONAL;
-use kinds::wide;
+use row_sums::Sum;
+use row_sums::kinds::wide;
+use row_sums::lesser_row;
+use row_sums::no_sum;
+use row_sums::number_of;
 use wires::needs_both;
 use wires::once;
 use wires::tied;
-ghost use mathlib.Core.Bool.{true, false};
+ghost use mathlib.Core.Bool.{true};
 ghost use mathlib.Core.Option.{some};
 ghost use mathlib.Core.Path.{_≡_};
 ghost use Prim.Native.Nat.{_+_, _*_, _≤_, _<_};
 ghost use lib.ListN.{length};
 ghost use Rattle.sizes.specs.Sizes as Size;
 ghost use Rattle.sizes.specs.Places.{cellPlace, gatePlace};
-ghost use Rattle.cost.specs.Cost.{never, lesser};
+ghost use Rattle.cost.specs.Cost.{never};
 ghost use Rattle.plans.specs.Sweep.{least};
+ghost use Rattle.row_sums.specs.Columns.{ColumnsFit};
+ghost use Rattle.row_sums.specs.Sums.{sumNumber, sumKind, Summed};
 ghost use Rattle.gates.specs.Tables.{readRow, hasWay, groupColumns, gateCell, gateLines};
-ghost use Rattle.gates.specs.Sums.{sumNumber, sumKind, Summed, rowSum, lesserRow};
-ghost use Rattle.gates.specs.Fits.{ColumnsFit, SumFits, NoteFits, Tied};
-
-// A row sum, or the least of some, in the costs of its kind.
-pub enum Sum {
-    Combinational(Spatial),
-    Sequential(Temporal),
-}
-
-// What the least of no sums is.
-fn no_sum(kind: usize) -> Sum
-    requires { ⌜ kind ≤ 1 ⌝ }
-    ensures { λ r. ⌜ Summed kind never r ⌝ }
-{
-    if kind == COMBINATIONAL {
-        Sum::Combinational(Spatial(NEVER))
-    } else {
-        Sum::Sequential(Temporal(NEVER))
-    }
-}
-
-// The lesser of a number of the table and a sum of the number's kind.
-pub fn lesser_of(number: u32, sum: Sum) -> Sum
-    ensures { λ r. ⌜ sumNumber r ≡ lesser number (sumNumber sum) ⌝ }
-{
-    match sum {
-        Sum::Combinational(s) => Sum::Combinational(Spatial(number).lesser(s)),
-        Sum::Sequential(s) => Sum::Sequential(Temporal(number).lesser(s)),
-    }
-}
-
-// The number that a sum is stored as.
-pub fn number_of(sum: Sum) -> u32
-    ensures { λ r. ⌜ r ≡ sumNumber sum ⌝ }
-{
-    match sum {
-        Sum::Combinational(s) => s.0,
-        Sum::Sequential(s) => s.0,
-    }
-}
-
-// The lesser of a row's sum, its columns and its depth, and of the best so far, in whose kind it is
-// taken.
-fn lesser_row(costs: &[u32; sizes::COLUMNS], depth: u32, columns: u32, best: Sum) -> Sum
-    requires { ⌜ ColumnsFit columns (now costs) ⌝ }
-    ensures { λ r.
-        ⌜ Summed (sumKind best) (lesser (rowSum (now (costs .entry)) depth columns) (sumNumber best)) r ⌝ }
-{
-    match best {
-        Sum::Combinational(b) => {
-            let sum = spatial::columns_sum(costs, columns);
-            Sum::Combinational(Spatial(depth).plus(sum).lesser(b))
-        }
-        Sum::Sequential(b) => {
-            let sum = temporal::columns_sum(costs, columns);
-            Sum::Sequential(Temporal(depth).plus(sum).lesser(b))
-        }
-    }
-}
+ghost use Rattle.gates.specs.Sums.{lesserRow};
+ghost use Rattle.gates.specs.Fits.{SumFits, NoteFits, Tied};
 
 // "the least row sum of its group", over the costs of the columns.
 fn least_sum(kind: usize, library: &[u32], group: usize, costs: &[u32; sizes::COLUMNS]) -> Sum

@@ -1,18 +1,8 @@
 // Places of the numbers table, by kind, line and value.
-use super::kinds::wide;
+use row_sums::kinds::wide;
 ghost use mathlib.Core.Path.{_≡_};
-ghost use Prim.Native.Nat.{_≤_, _<_};
-ghost use lib.Count.{trailingZeros};
+ghost use Prim.Native.Nat.{_≤_};
 ghost use Rattle.sizes.specs.Places.{settingPlace, observingPlace};
-
-// The lowest named column of a row that names one: as many columns below it are not named as the row
-// has trailing zeros.
-pub fn lowest(columns: u32) -> u32
-    requires { ⌜ 0 < columns ⌝ }
-    ensures { λ r. ⌜ r ≡ trailingZeros 32 columns ⌝ }
-{
-    u32::trailing_zeros(columns)
-}
 
 // The place of a line at a value, in the numbers table.
 pub fn setting_place(kind: usize, line: u32, value: usize) -> usize

@@ -17,9 +17,11 @@ use Rattle.plans.specs.System.{Way}
 use Rattle.plans.specs.Sweep.{sums, way, least}
 use Rattle.plans.specs.Trace.{firstPlace}
 use Rattle.plans.proofs.Laws.{least-bound}
-use Rattle.gates.specs.Tables.{rowPlaces, namedColumns, hasWay, withWay, rowWays, groupColumns, groupWays}
+use Rattle.row_sums.specs.Columns.{namedColumns}
+use Rattle.row_sums.specs.Sums.{rowSum}
+use Rattle.gates.specs.Tables.{rowPlaces, hasWay, withWay, rowWays, groupColumns, groupWays}
 use Rattle.gates.specs.Fits.{Gathered, GroupFits}
-use Rattle.gates.specs.Sums.{rowSum, lesserRow}
+use Rattle.gates.specs.Sums.{lesserRow}
 use Rattle.gates.proofs.Gathering.{row-same, rows-same}
 use Rattle.gates.proofs.Rows.{leastFrom, rows-more}
 use Rattle.trace.specs.Marks.{stepRow, wayRow}

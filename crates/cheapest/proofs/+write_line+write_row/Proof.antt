@@ -10,7 +10,7 @@ use borrow.Author.Needs.{needs}
 use borrow.Fn.Kinds.{In}
 use borrow.Fn.PlainCycle.{Measures, is, falls, and}
 use Rattle.writer.proofs.Steps.{put-none}
-use Rattle.gates.proofs.Columns.{rest-fewer}
+use Rattle.row_sums.proofs.Columns.{rest-fewer}
 use Rattle.cheapest.specs.Writing.{goalAt}
 use Rattle.cheapest.proofs.Putting.{put-past, line-none, line-put, Puts, puts-more, puts-all}
 use Rattle.cheapest.proofs.write_line.Reads as write-line

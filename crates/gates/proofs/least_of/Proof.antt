@@ -1,5 +1,4 @@
 -- `least_of` reads the rows as was decided for the gate. Assumes nothing.
-use mathlib.Core.Path.{_∙_}
 use borrow.Author.Needs.{needs}
 use Rattle.gates.specs.Tables.{readRow}
 use Rattle.gates.proofs.least_of.Statement.{statement}

@@ -1,19 +1,15 @@
 -- `least_sum`, from the last row to the first, keeps the least sum of the rows passed. Assumes nothing.
 use mathlib.Core.Option.{some}
-use mathlib.Core.Path.{_∙_}
-use Prim.Native.Nat.{_-_, _≤_}
+use Prim.Native.Nat.{_-_}
 use native.Mathlib.Omega.{arith}
-use lib.ListN.{getD}
 use borrow.Author.Needs.{needs}
-use Rattle.sizes.specs.Sizes as Size
-use Rattle.gates.specs.Sums.{Summed, lesserRow}
-use Rattle.gates.proofs.Rows.{leastFrom, rows-none, rows-more, rows-all}
+use Rattle.gates.specs.Sums.{lesserRow}
+use Rattle.gates.proofs.Rows.{SummedFrom, summed-none, summed-more, summed-all}
 use Rattle.gates.proofs.least_sum.Statement.{statement}
 use Rattle.gates.proofs.least_sum.Tie as tie
 
 abbrev Inv-loop : tie.InvT-loop
-Inv-loop kind library group costs best₀ row₀ best row =
-    (row ≤ getD library group 0) × Summed kind (leastFrom some library costs group row) best
+Inv-loop kind library group costs best₀ row₀ best row = SummedFrom some library costs group kind row best
 
 abbrev μ-loop : tie.MeasureT-loop
 μ-loop kind library group costs best₀ row₀ best row = row
@@ -24,35 +20,21 @@ began c = c .before .before .before .before .before .before
 loop-holds : tie.Need-loop-holds Inv-loop μ-loop
 loop-holds c =
     let a = c .before .before .before .before .args in
-    let n = c .before .before .no-sum .ensures in (
-      omega arith,
-      record {
-        ofKind = n .ofKind;
-        comesTo = n .comesTo ∙ rows-none some (a .library .now) (a .costs .now) (a .group) (c .wide .result) (c .wide .ensures);
-      },
-    )
+    summed-none some (a .library .now) (a .costs .now) (a .group) (c .wide .ensures) (c .before .before .no-sum .ensures)
 
 loop-again : tie.Need-loop-again Inv-loop μ-loop
+unfolding lesserRow
 loop-again c =
     let s = began (c .before .before .before) in
     let a = s .args in
     let l = c .before .before .before .before .loop in
-    let best = l .inv .1 in
-    let n = rw (best .ofKind, best .comesTo) at (c .lesser-row .ensures) in (
-      omega arith,
-      record {
-        ofKind = n .ofKind;
-        comesTo =
-            n .comesTo
-            ∙ unfold lesserRow in rows-more some (a .library .now) (a .costs .now) (a .group) (l .row) Size.columns (omega arith) (omega arith) (s .pre .groupFits);
-      },
-    )
+    summed-more some (a .library .now) (a .costs .now) (a .group)
+    (omega arith) (s .pre .groupFits) (l .inv) (c .lesser-row .ensures)
 
 returns : tie.Need-returns Inv-loop μ-loop
 returns c =
     let a = c .before .before .before .before .before .before .args in
-    let l = c .before .loop in
-    l .inv .1 .comesTo ∙ rows-all some (a .library .now) (a .costs .now) (a .group) (l .row) (omega arith)
+    summed-all some (a .library .now) (a .costs .now) (a .group) (omega arith) (c .before .loop .inv)
 
 lesser-row-requires : tie.Need-lesser-row-requires Inv-loop μ-loop
 lesser-row-requires c κs =

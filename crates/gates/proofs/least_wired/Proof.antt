@@ -1,20 +1,16 @@
 -- `least_wired`, from the last row to the first, keeps the least sum of the rows passed that are ways. Assumes nothing.
 use mathlib.Core.Bool.{true}
-use mathlib.Core.Path.{_∙_}
-use Prim.Native.Nat.{_-_, _≤_}
+use Prim.Native.Nat.{_-_}
 use native.Mathlib.Omega.{arith}
-use lib.ListN.{getD}
 use borrow.Author.Needs.{needs}
-use Rattle.sizes.specs.Sizes as Size
 use Rattle.gates.specs.Tables.{readRow}
-use Rattle.gates.specs.Sums.{Summed}
-use Rattle.gates.proofs.Rows.{leastFrom, rows-none, rows-more, rows-all}
+use Rattle.gates.proofs.Rows.{SummedFrom, summed-none, summed-more, summed-all}
 use Rattle.gates.proofs.least_wired.Statement.{statement}
 use Rattle.gates.proofs.least_wired.Tie as tie
 
 abbrev Inv-loop : tie.InvT-loop
 Inv-loop kind library group lines pins costs best₀ row₀ best row =
-    (row ≤ getD library group 0) × Summed kind (leastFrom (readRow true lines pins) library costs group row) best
+    SummedFrom (readRow true lines pins) library costs group kind row best
 
 abbrev μ-loop : tie.MeasureT-loop
 μ-loop kind library group lines pins costs best₀ row₀ best row = row
@@ -25,35 +21,23 @@ began c = c .before .before .before .before .before .before
 loop-holds : tie.Need-loop-holds Inv-loop μ-loop
 loop-holds c =
     let a = c .before .before .before .before .args in
-    let n = c .before .before .no-sum .ensures in (
-      omega arith,
-      record {
-        ofKind = n .ofKind;
-        comesTo = n .comesTo ∙ rows-none (readRow true (a .lines .now) (a .pins)) (a .library .now) (a .costs .now) (a .group) (c .wide .result) (c .wide .ensures);
-      },
-    )
+    let read = readRow true (a .lines .now) (a .pins) in
+    summed-none read (a .library .now) (a .costs .now) (a .group) (c .wide .ensures) (c .before .before .no-sum .ensures)
 
 loop-again : tie.Need-loop-again Inv-loop μ-loop
 loop-again c =
     let s = began (c .before .before .before) in
     let a = s .args in
     let l = c .before .before .before .before .loop in
-    let best = l .inv .1 in
-    let n = rw (best .ofKind, best .comesTo) at (c .lesser-wired .ensures) in (
-      omega arith,
-      record {
-        ofKind = n .ofKind;
-        comesTo =
-            n .comesTo
-            ∙ rows-more (readRow true (a .lines .now) (a .pins)) (a .library .now) (a .costs .now) (a .group) (l .row) Size.columns (omega arith) (omega arith) (s .pre .1 .groupFits);
-      },
-    )
+    let read = readRow true (a .lines .now) (a .pins) in
+    summed-more read (a .library .now) (a .costs .now) (a .group)
+    (omega arith) (s .pre .1 .groupFits) (l .inv) (c .lesser-wired .ensures)
 
 returns : tie.Need-returns Inv-loop μ-loop
 returns c =
     let a = c .before .before .before .before .before .before .args in
-    let l = c .before .loop in
-    l .inv .1 .comesTo ∙ rows-all (readRow true (a .lines .now) (a .pins)) (a .library .now) (a .costs .now) (a .group) (l .row) (omega arith)
+    let read = readRow true (a .lines .now) (a .pins) in
+    summed-all read (a .library .now) (a .costs .now) (a .group) (omega arith) (c .before .loop .inv)
 
 pub least-wired-spec : {M : Type 1} → statement M
 least-wired-spec =

@@ -1,5 +1,4 @@
 -- `column_costs` gathers the columns of the role, unless they are gathered already. Assumes nothing.
-use mathlib.Core.Path.{sym}
 use Prim.Native.Nat.{_<_}
 use native.Mathlib.Omega.{arith}
 use borrow.Author.Needs.{needs}

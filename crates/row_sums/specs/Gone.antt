@@ -14,6 +14,6 @@ goneFrom zero columns = []
 goneFrom (suc more) columns = pick (eqb columns 0) [] (trailingZeros 32 columns ∷ goneFrom more (bitAnd columns (columns - 1)))
 
 -- The columns gone to, each by its bit. A row has at most 32. "For every row the columns gone to are exactly the named ones, each
--- once, lowest first": `gone-named` of proofs/Going.antt.
+-- once, lowest first": `gone-named` of gates/proofs/Going.antt.
 unfoldable pub columnsGone : ℕ → List ℕ
 columnsGone columns = goneFrom 32 columns

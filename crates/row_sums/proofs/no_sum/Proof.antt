@@ -1,8 +1,8 @@
 -- `no_sum` is never, in the kind that is asked for. Assumes nothing.
 use borrow.Author.Needs.{needs}
-use Rattle.gates.specs.Sums.{sumKind, sumNumber}
-use Rattle.gates.proofs.no_sum.Statement.{statement}
-use Rattle.gates.proofs.no_sum.Tie as tie
+use Rattle.row_sums.specs.Sums.{sumKind, sumNumber}
+use Rattle.row_sums.proofs.no_sum.Statement.{statement}
+use Rattle.row_sums.proofs.no_sum.Tie as tie
 
 returns : tie.Need-returns
 unfolding sumKind sumNumber

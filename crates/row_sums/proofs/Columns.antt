@@ -9,7 +9,7 @@ use native.Mathlib.Omega.{arith}
 use lib.Bits.{bitAnd, and-step, and-self, and-le-l}
 use lib.Count.{trailingZeros, ones, ones-step}
 use lib.ListN.{length}
-use Rattle.gates.specs.Tables.{withNamed, columnPlaces}
+use Rattle.row_sums.specs.Columns.{withNamed, columnPlaces}
 
 -- ---- the lowest
 even-trailing : (k n : ℕ) → n % 2 ≡ 0 → trailingZeros (suc k) n ≡ suc (trailingZeros k (n / 2))

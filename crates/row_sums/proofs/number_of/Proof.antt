@@ -1,8 +1,8 @@
 -- `number_of` is the sum's number. Assumes nothing.
 use borrow.Author.Needs.{needs}
-use Rattle.gates.specs.Sums.{sumNumber}
-use Rattle.gates.proofs.number_of.Statement.{statement}
-use Rattle.gates.proofs.number_of.Tie as tie
+use Rattle.row_sums.specs.Sums.{sumNumber}
+use Rattle.row_sums.proofs.number_of.Statement.{statement}
+use Rattle.row_sums.proofs.number_of.Tie as tie
 
 returns : tie.Need-returns
 unfolding sumNumber

@@ -1,12 +1,11 @@
 // Row sums in sequential costs (SC, SO), which are added to no combinational one.
+use super::bits::lowest;
 use super::kinds::wide;
-use super::places::lowest;
 use cost::Temporal;
 ghost use mathlib.Core.Path.{_≡_};
 ghost use Prim.Native.Nat.{_<_};
 ghost use Rattle.plans.specs.Sweep.{sums};
-ghost use Rattle.gates.specs.Tables.{namedColumns};
-ghost use Rattle.gates.specs.Fits.{ColumnsFit};
+ghost use Rattle.row_sums.specs.Columns.{namedColumns, ColumnsFit};
 
 // "A row's sum is taken as its lowest named column plus the sum of the rest, the routine calling
 // itself." Where the rest is empty its sum is 0, without a call. The answer is the cost's number, which a
