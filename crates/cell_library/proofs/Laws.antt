@@ -3,28 +3,26 @@
 use mathlib.Core.Bool.{Bool, true, false, not, _&&_, _||_}
 use mathlib.Core.List.{List, [], _∷_, _++_}
 use mathlib.Core.Option.{Option, none, some}
-use mathlib.Core.Path.{_≡_, refl}
+use mathlib.Core.Path.{_≡_, refl, sym, ap, _∙_}
 use Prim.Native.Nat.{ℕ, suc, _+_, _*_, _^_, _≤_, _<_}
 use native.Mathlib.Nat.{mod-lt}
 use native.Mathlib.Omega.{arith}
 use lib.Dec.{leb, eqb}
 use lib.ListN.{length, length-append}
-use borrow.Author.Tests.{lt-ltb, le-ltb, ltb-false, leb-false, eqb-true, not-false}
+use borrow.Author.Tests.{ltb-false, leb-false, eqb-true, not-false}
 use Rattle.sizes.specs.Sizes as Size
 use Rattle.reading.specs.Choice.{pick}
 use Rattle.reading.specs.Each.{Each}
 use Rattle.reading.specs.Numbers as No
-use Rattle.reading.specs.Refusal.{refused, read, weigh, form}
+use Rattle.reading.specs.Refusal.{read, weigh, form}
 use Rattle.reading.proofs.Laws.{or-left, or-right, each-append, each-map, refused-read, bind-read, then-read, form-read, weigh-one}
 use Rattle.text.specs.Lines.{sameBytes, lines}
-use Rattle.text.specs.Numeral.{value}
+use Rattle.text.specs.Numeral.{value, decimal, nameForm}
 use Rattle.text.proofs.Laws.{nameForm-length}
 use Rattle.cell_library.specs.Cells.{Heading, plain, deep, depthBits, deepest, Row, rowOf, Group, Cell, bit}
-use Rattle.cell_library.specs.Entry.{libraryEntry}
-use Rattle.cell_library.specs.Library.{Fields, isJoin, isZ, word, rowsForm, joinFirst, withRow, groupsOf, anyOf, aboveRows, above, observesNot, Word, CC, CO, SC, SO, wordBytes, groupCount, columnCount, idle, excepted, rowIdle, rowsAfter, rowLine, Header, nameAfter, endAfter, nameUsed, pinsBad, nameLine, wordLine, endLine, lineAfter, Place, outside, inside, Reading, begun, wordGroups, withGroups, libraryLine, libraryEnd, libraryFrom, library}
+use Rattle.cell_library.specs.Library.{Fields, isJoin, isZ, word, rowsForm, joinFirst, withRow, groupsOf, anyOf, aboveRows, above, observesNot, Word, CC, CO, SC, SO, wordBytes, groupCount, columnCount, idle, excepted, rowIdle, rowsAfter, rowLine, Header, headingOf, headerOf, nameAfter, endAfter, nameUsed, pinsBad, nameLine, wordLine, endLine, lineAfter, Place, outside, inside, Reading, begun, wordGroups, withGroups, libraryLine, libraryEnd, libraryFrom, library}
 use Rattle.cell_library.specs.Layout.{ShortName, FewPins, Fits}
 use Rattle.cell_library.specs.Sound.{SoundRow, SoundGroup, SoundGroups, SoundHeader, SoundCell, Sound, SoundEntry, SoundPlace, SoundReading}
-use Rattle.cell_library.proofs.Passes.{nameAfter-form}
 
 weigh-three : (line i j k : ℕ) (x y z : Bool) (u : Unit {0}) → weigh line ((i, x) ∷ (j, y) ∷ (k, z) ∷ []) ≡ read u → (x ≡ false) × (y ≡ false) × (z ≡ false)
 weigh-three line i j k x y z u e =
@@ -63,14 +61,17 @@ groups-written h (f ∷ fs) = step (groups-written h fs) (isJoin f) (isZ f)
     step e false true = (tt, e)
     step e false false = withRow-written (joinFirst fs) (rowOf h (value 8 0 f)) (groupsOf h fs) (row-shallow h (value 8 0 f)) e
 
+none-some : {A : Type 0} {a : A} → _≡_ {A = Option A} none (some a) → ⊥
+none-some e = let z : _≡_ {A = ℕ} 0 1 = cc in omega arith
+
 pick-some : {A : Type 0} (t : Bool) (a b : A) → pick t (some a) none ≡ some b → (t ≡ true) × (a ≡ b)
 unfolding pick
 pick-some true a b e = (refl, cc)
-pick-some false a b e = let z : _≡_ {A = ℕ} 0 1 = cc in absurd (omega arith)
+pick-some false a b e = absurd (none-some e)
 
 rows-written : (h : Heading) (w : Word) (fs : Fields) (gs : List Group) → rowsAfter h w fs ≡ some gs → Each Written gs
 unfolding rowsAfter
-rows-written h w [] gs e = let z : _≡_ {A = ℕ} 0 1 = cc in absurd (omega arith)
+rows-written h w [] gs e = absurd (none-some e)
 rows-written h w (f ∷ fs) gs e =
     let same : groupsOf h fs ≡ gs = pick-some (sameBytes f (wordBytes w) && rowsForm h word fs) (groupsOf h fs) gs e .1 in
     rw same at (groups-written h fs)
@@ -127,6 +128,23 @@ module _ (w : Word) (n : ℕ) where
 
 -- ---- the name line
 
+-- A name line of good form has a name of good form.
+header-form : (o : Option Heading) (name : List ℕ) (n : Option ℕ) (h : Header) → headerOf o name n ≡ some h → nameForm (h .name) ≡ true
+unfolding headerOf
+header-form none name n h e = absurd (none-some e)
+header-form (some k) name none h e = absurd (none-some e)
+header-form (some k) name (some n) h e =
+    let good = pick-some (nameForm name) (record { name = name; pins = n; heading = k }) h e in
+    ap (λ (x : Header). nameForm (x .name)) (sym (good .1)) ∙ good .0
+
+name-form : (fs : Fields) (h : Header) → nameAfter fs ≡ some h → nameForm (h .name) ≡ true
+unfolding nameAfter
+name-form [] h e = absurd (none-some e)
+name-form (f ∷ []) h e = absurd (none-some e)
+name-form (f ∷ (name ∷ [])) h e = absurd (none-some e)
+name-form (f ∷ (name ∷ (n ∷ []))) h e = header-form (headingOf f) name (decimal n) h e
+name-form (f ∷ (name ∷ (n ∷ (x ∷ xs)))) h e = absurd (none-some e)
+
 -- What a name line that is read shows: a good header, and space for one cell more.
 nameLine-sound : (line : ℕ) (cells : List Cell) (fs : Fields) (h : Header) → nameLine line cells fs ≡ read h → SoundHeader (h .name) (h .pins) × (length cells < Size.cells)
 unfolding nameLine pinsBad
@@ -138,7 +156,7 @@ nameLine-sound line cells fs h =
     let none = weigh-three line No.nameUsed No.pinsBad No.cellsMany (nameUsed (g .name) cells) (pinsBad (g .pins)) (leb Size.cells (length cells)) u weighed in
     let header : SoundHeader (g .name) (g .pins) =
     record {
-      form = nameAfter-form fs g (form-read No.libraryForm line (nameAfter fs) g formed);
+      form = name-form fs g (form-read No.libraryForm line (nameAfter fs) g formed);
       most-pins = ltb-false Size.pins (g .pins) (none .1);
     } in
     (rw same at header, leb-false Size.cells (length cells) (none .2))))
@@ -197,22 +215,6 @@ start-sound = record { cells = record { few = omega arith; each = tt }; entry = 
 pub library-sound : (t : List ℕ) (cells : List Cell) → library t ≡ read cells → Sound cells
 unfolding library
 library-sound t cells e = libraryFrom-sound 1 (record { cells = []; place = outside }) (lines t) cells start-sound e
-
--- ---- the entry
-
-module _ (text table : ℕ) where
-  pub entry-short : table < Size.library → libraryEntry text table ≡ refused No.tableShort 0
-  unfolding libraryEntry weigh pick
-  entry-short h = rw (lt-ltb table Size.library h)
-
-  pub entry-long : Size.library ≤ table → Size.textBytes < text → libraryEntry text table ≡ refused No.textLong 0
-  unfolding libraryEntry weigh pick
-  entry-long h q = rw (le-ltb table Size.library h, lt-ltb Size.textBytes text q)
-
-  -- A table of the published size and a text that is not too long pass the entry.
-  pub entry-passed : Size.library ≤ table → text ≤ Size.textBytes → libraryEntry text table ≡ read tt
-  unfolding libraryEntry weigh pick
-  entry-passed h q = rw (le-ltb table Size.library h, le-ltb Size.textBytes text q)
 
 -- ---- the table
 

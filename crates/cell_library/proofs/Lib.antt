@@ -1,9 +1,4 @@
 pub mod Bounds
-pub mod Cursors
-pub mod Entries
 pub mod Laws
 pub mod Names
-pub mod Passes
 pub mod Places
-pub mod Stores
-pub mod Walks

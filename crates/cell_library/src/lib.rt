@@ -1,63 +1,7 @@
-// The cell library: the library text read into the library table, and what a library table tells of its cells.
+// The cell library: what a cell is, the library text (specs/Library.antt), the library table (specs/Layout.antt), and what a
+// library table tells of its cells. The text is read by `library_text`.
 //
-// Open to others, each for every input: `read_library`, `cells::count`, `cells::find`, `cells::pins_of` and `cells::heading_of`.
-// What the last four say of a table that holds cells: `holds-count`, `holds-find`, `holds-pins` and `holds-heading` of
-// proofs/Names.antt.
-// For the crate's own modules: `cells::cell_place`.
-ghost use mathlib.Core.Path.{_≡_};
-ghost use Prim.Native.Nat.{_≤_};
-ghost use lib.ListN.{length};
-ghost use Rattle.sizes.specs.Sizes as Size;
-ghost use Rattle.reading.specs.Verdict.{verdictRead, doneRead};
-ghost use Rattle.cell_library.specs.Entry.{readLibrary, libraryLeft};
-ghost use Rattle.cell_library.specs.Library.{library};
-ghost use Rattle.cell_library.specs.Layout.{libraryAfter};
-
+// Open to others, each for every input: `cells::count`, `cells::find`, `cells::pins_of` and `cells::heading_of`. What they say
+// of a table that holds cells: `holds-count`, `holds-find`, `holds-pins` and `holds-heading` of proofs/Names.antt.
+// For the crates above: `cells::cell_place`.
 pub mod cells;
-mod lines;
-mod rows;
-mod store;
-
-use crate::lines::read_lines;
-use reading::Refusal;
-use reading::Verdict;
-use table::clear;
-
-// Reads a library text into a table of the published size. Where the text is refused, the whole table is 0.
-fn fill(text: &[u8], table: &mut [u32]) -> Verdict
-    requires { ⌜ (length (now text) ≤ Size.textBytes) × (Size.library ≤ length (now table)) ⌝ }
-    ensures answered { λ r. ⌜ verdictRead r ≡ doneRead (library (now (text .entry))) ⌝ }
-    ensures leaves { λ _. ⌜ now (table .exit) ≡ libraryAfter (library (now (text .entry))) (now (table .entry)) ⌝ }
-{
-    clear(table, sizes::LIBRARY);
-    let answer = read_lines(text, table);
-    match answer {
-        Verdict::Accepted => answer,
-        Verdict::Refused(_) => {
-            let n = table.len();
-            clear(table, n);
-            answer
-        }
-    }
-}
-
-// Reads a library text into a table. Refusals 1 and 2, at line 0, leave the table as it was; any other leaves it all 0.
-pub fn read_library(text: &[u8], table: &mut [u32]) -> Verdict
-    ensures answered { λ r.
-        ⌜ verdictRead r ≡ doneRead (readLibrary (now (text .entry)) (length (now (table .entry)))) ⌝ }
-    ensures leaves { λ _. ⌜ now (table .exit) ≡ libraryLeft (now (text .entry)) (now (table .entry)) ⌝ }
-{
-    if table.len() < sizes::LIBRARY {
-        return Verdict::Refused(Refusal {
-            number: reading::TABLE_SHORT,
-            line: 0,
-        });
-    }
-    if sizes::TEXT_BYTES < text.len() {
-        return Verdict::Refused(Refusal {
-            number: reading::TEXT_LONG,
-            line: 0,
-        });
-    }
-    fill(text, table)
-}

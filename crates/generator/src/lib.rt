@@ -13,13 +13,13 @@ use text::Numeral;
 use text::after;
 use text::decimal;
 use text::field;
+use text::is_last;
 use text::is_name;
 use text::line;
 ghost use mathlib.Core.Bool.{_&&_, true};
 ghost use mathlib.Core.Path.{_≡_};
 ghost use mathlib.Core.Option.{none};
-ghost use Prim.Native.Nat.{_≤_, _<_};
-ghost use lib.Dec.{leb, ltb};
+ghost use Prim.Native.Nat.{_<_};
 ghost use lib.ListN.{length};
 ghost use Rattle.reading.specs.Choice.{pick};
 ghost use Rattle.reading.specs.Refusal.{refused};
@@ -48,14 +48,6 @@ fn refuse(entry: &mut [u8], number: u32, line: usize) -> Generated
 {
     table::clear_bytes(entry);
     Generated::Refused(Refusal { number, line })
-}
-
-// Whether the field at a cursor is the last of its line; `next` is the cursor behind it.
-fn is_last(line: &[u8], at: usize, next: usize) -> bool
-    ensures { λ r. ⌜ r ≡ (leb at (length (now (line .entry))) && ltb (length (now (line .entry))) next) ⌝ }
-{
-    let n = line.len();
-    (at <= n) & (n < next)
 }
 
 fn all_bits(bits: &[u8]) -> bool

@@ -23,7 +23,7 @@ use Rattle.writer.proofs.Decimal.{decimal-below, decimal-length}
 use Rattle.writer.proofs.Steps.{put-front}
 use Rattle.cell_library.specs.Cells.{Cell}
 use Rattle.cell_library.specs.Library.{library}
-use Rattle.cell_library.specs.Entry.{leftBehind}
+use Rattle.library_text.specs.Entry.{leftBehind}
 use Rattle.cell_library.specs.Layout.{libraryWords, libraryAfter}
 use Rattle.cell_library.proofs.Laws.{library-sound}
 use Rattle.netlist.specs.declared.Rules.the-variants.{Old, New}

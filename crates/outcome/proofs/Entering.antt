@@ -15,10 +15,10 @@ use Rattle.reading.specs.declared.Refusal.{Refusal}
 use Rattle.reading.specs.declared.Verdict.{Verdict}
 use Rattle.reading.specs.declared.Verdict.the-variants.{Accepted, Refused}
 use Rattle.reading.proofs.Laws.{or-left, or-right, weigh-one, done-read, done-refused}
-use Rattle.cell_library.specs.Entry.{libraryEntry, readLibrary, leftBehind, libraryLeft}
+use Rattle.library_text.specs.Entry.{libraryEntry, readLibrary, leftBehind, libraryLeft}
 use Rattle.cell_library.specs.Library.{library}
 use Rattle.cell_library.specs.Layout.{libraryAfter}
-use Rattle.cell_library.proofs.Laws.{entry-passed}
+use Rattle.library_text.proofs.Laws.{entry-passed}
 use Rattle.netlist.specs.declared.Rules.{Rules}
 use Rattle.outcome.specs.declared.Progress.the-variants.{Unrefused, AtEntry, Later}
 use Rattle.outcome.specs.Outcome.{Lent, entry, givenBy, tableShort, textLong}

@@ -10,7 +10,7 @@ use Rattle.reading.specs.Refusal.{Read, refused, read, _>>=_, _>>_}
 use Rattle.reading.specs.declared.Refusal.{Refusal}
 use Rattle.cell_library.specs.Cells.{Cell}
 use Rattle.cell_library.specs.Library.{library}
-use Rattle.cell_library.specs.Entry.{leftBehind}
+use Rattle.library_text.specs.Entry.{leftBehind}
 use Rattle.cell_library.specs.Layout.{libraryWords, libraryAfter}
 use Rattle.cell_library.specs.Sound as C
 use Rattle.cell_library.proofs.Laws.{library-sound}

@@ -11,7 +11,7 @@ use Rattle.reading.specs.Numbers as No
 use Rattle.reading.specs.Refusal.{Read, refused, read, weigh}
 use Rattle.cell_library.specs.Cells.{Cell}
 use Rattle.cell_library.specs.Library.{library}
-use Rattle.cell_library.specs.Entry.{leftBehind}
+use Rattle.library_text.specs.Entry.{leftBehind}
 use Rattle.netlist.specs.Netlist.{Statement}
 use Rattle.calculation.specs.Calculation.{analysed}
 use Rattle.report.specs.Report.{reportAfter}

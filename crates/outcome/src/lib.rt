@@ -6,7 +6,7 @@
 // Open to others: the types `Answer` and `Summary`. For the crates above: `Progress`, `begin` and
 // `finish`, between which a caller reads the netlist.
 use calculation::Counts;
-use cell_library::read_library;
+use library_text::read_library;
 use reading::REPORT_LONG;
 use reading::Refusal;
 use reading::TABLE_SHORT;

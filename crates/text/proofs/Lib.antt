@@ -1,2 +1,3 @@
+pub mod Cursors
 pub mod Laws
 pub mod Steps

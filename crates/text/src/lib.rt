@@ -1,10 +1,12 @@
 // The text layer: classes of bytes, lines and fields of a lent text, words, names and numbers.
 //
-// Open to other crates, each for every input: `line`, `field`, `after`, `same`, `is_name`, `decimal`, `octal`, and
+// Open to other crates, each for every input: `line`, `field`, `after`, `is_last`, `same`, `is_name`, `decimal`, `octal`, and
 // the type `Numeral`. The type `Class` is `pub` for the figures.
 ghost use mathlib.Core.Path.{_≡_};
+ghost use mathlib.Core.Bool.{_&&_};
 ghost use mathlib.Core.Option.{some, none};
 ghost use Prim.Native.Nat.{_+_, _-_, _^_, _≤_, _<_, min};
+ghost use lib.Dec.{leb, ltb};
 ghost use lib.ListN.{length};
 ghost use Rattle.text.specs.Class.{classOf, ends, endOf};
 ghost use Rattle.text.specs.Lines.{part, nextAfter, sameBytes};
@@ -100,6 +102,14 @@ pub fn after(text: &[u8], from: usize, part: &[u8]) -> usize
     } else {
         from
     }
+}
+
+// Whether the field at a cursor is the last of its line; `next` is the cursor behind it.
+pub fn is_last(line: &[u8], at: usize, next: usize) -> bool
+    ensures { λ r. ⌜ r ≡ (leb at (length (now (line .entry))) && ltb (length (now (line .entry))) next) ⌝ }
+{
+    let n = line.len();
+    (at <= n) & (n < next)
 }
 
 // Whether two strings of bytes are the same, byte for byte.

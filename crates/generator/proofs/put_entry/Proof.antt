@@ -1,7 +1,7 @@
 -- `put_entry` cuts the line into its fields, each once. Assumes nothing.
 use mathlib.Core.Bool.{Bool, _&&_}
 use mathlib.Core.Path.{_≡_, refl, ap, _∙_}
-use Prim.Native.Nat.{ℕ, _+_, _≤_, _<_}
+use Prim.Native.Nat.{_+_, _<_}
 use native.Mathlib.Omega.{arith}
 use lib.Dec.{eqb}
 use lib.ListN.{length, drop}
@@ -12,7 +12,7 @@ use Rattle.reading.specs.Choice.{pick}
 use Rattle.reading.specs.Refusal.{_>>=_, _>>_, weigh}
 use Rattle.text.specs.Lines.{fields, fieldsFrom}
 use Rattle.text.proofs.Laws.{fieldsFrom-start}
-use Rattle.cell_library.proofs.Cursors.{field-nth, field-next, field-last}
+use Rattle.text.proofs.Cursors.{field-nth, field-next, field-last}
 use Rattle.generator.specs.Generated.{generated, generatedInto, leftBy, answerRead, lengthRead}
 use Rattle.generator.proofs.Tables.{table-from, text-short}
 use Rattle.generator.proofs.put_entry.Statement.{statement}

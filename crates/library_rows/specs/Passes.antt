@@ -1,0 +1,225 @@
+-- The walk over a row line, field by field from the left, as the code makes it, and the refusal number of the line.
+-- `proofs/Passes.antt` ties them to the definitions of `cell_library/specs/Library.antt`, which are the ones to read against
+-- document 01, and `proofs/Stores.antt` to the layout of the table.
+-- Assumes nothing.
+use mathlib.Core.Bool.{Bool, true, false, not, _&&_, _||_}
+use mathlib.Core.List.{List, [], _∷_}
+use mathlib.Core.Option.{Option, none, some}
+use mathlib.Core.Path.{_≡_}
+use Prim.Native.Nat.{ℕ, zero, suc, _+_, _*_, _^_, _≤_, max, min}
+use lib.Dec.{leb, ltb, eqb}
+use lib.ListN.{length, set, drop}
+use Rattle.sizes.specs.Places.{groupPlace}
+use Rattle.sizes.specs.Sizes as Size
+use Rattle.table.specs.Blocks.{fitted, blocks}
+use Rattle.reading.specs.Numbers as No
+use Rattle.reading.specs.Choice.{pick}
+use Rattle.text.specs.Numeral.{numeral}
+use Rattle.cell_library.specs.Cells.{Heading, plain, deep, Row, rowOf, Cell}
+use Rattle.cell_library.specs.Library.{Fields, holds, rowDigits, isRow, isJoin, isZ, above, Word, CC, CO, SC, SO, groupCount, columnCount, rowIdle, rowsAfter, groupsOf, anyOf, aboveRows}
+use Rattle.cell_library.specs.Layout.{firstGroup, cellWords}
+use Rattle.library_rows.specs.declared.Asked.{Asked}
+use Rattle.library_rows.specs.declared.Passed.{Passed}
+
+-- ---- a field
+
+unfoldable pub orZero : Option ℕ → ℕ
+orZero none = 0
+orZero (some v) = v
+
+-- The number that a row is written as, 0 where the field is no row; and the row.
+unfoldable pub fieldValue : Heading → List ℕ → ℕ
+fieldValue h f = orZero (numeral 8 (rowDigits h) f)
+
+unfoldable pub fieldRow : Heading → List ℕ → Row
+fieldRow h f = rowOf h (fieldValue h f)
+
+-- The heading of a number, as `headingNumber` gives it.
+unfoldable pub numberHeading : ℕ → Heading
+numberHeading zero = plain
+numberHeading (suc k) = deep
+
+-- ---- what a row line is asked for
+
+-- The lowest columns of a row that names a pin, or observes the output, where no bit is above its columns: 8 is judged after 7.
+unfoldable pub leastColumns : Word → ℕ → ℕ
+leastColumns CC n = 1
+leastColumns CO n = 2 ^ (2 * n + 2)
+leastColumns SC n = 1
+leastColumns SO n = 2 ^ (2 * n + 2)
+
+-- CC and SC rows set the output, CO and SO rows observe a pin.
+unfoldable pub setting : Word → Bool
+setting CC = true
+setting CO = false
+setting SC = true
+setting SO = false
+
+-- Of a cell, a heading by its number, a word and so many pins.
+unfoldable pub askedOf : ℕ → ℕ → Word → ℕ → Asked
+askedOf cell k w n =
+    record {
+      place = groupPlace cell (firstGroup w);
+      groups = groupCount w n;
+      excepts = setting w;
+      heading = k;
+      least = leastColumns w n;
+      limit = 2 ^ columnCount w n;
+    }
+
+-- ---- stores
+
+-- A table that counts so many cells and holds these: a cell is not counted before its End line.
+unfoldable pub countedWords : ℕ → List Cell → List ℕ
+countedWords n cells = n ∷ fitted 0 (Size.cells * Size.cellWords) (blocks cellWords cells)
+
+-- A row put behind so many others of the group at a place of the table.
+unfoldable pub rowPut : ℕ → ℕ → Row → List ℕ → List ℕ
+rowPut place rows r table =
+    set (set (set table place (rows + 1)) (place + 1 + 2 * rows) (r .depth)) (place + 2 + 2 * rows) (r .columns)
+
+-- A group of no row at a place of the table.
+unfoldable pub rowlessPut : ℕ → List ℕ → List ℕ
+rowlessPut place table = set table place 0
+
+-- The farthest place that a group can have: a line has no more fields than a text has bytes, and one.
+abbrev pub farthest : ℕ
+farthest = Size.library + Size.cellWords + Size.groupWords * Size.textBytes
+
+-- ---- the walk
+
+-- The least columns where no row is passed: above those of every row.
+abbrev pub noColumns : ℕ
+noColumns = 4294967295
+
+-- Before the first field behind the line's word.
+abbrev pub nonePassed : Passed
+nonePassed =
+    record { before = 0; groups = 0; rows = 0; place = 0; bad = false; rowless = false; longest = 0; most = 0; least = noColumns }
+
+-- A field that is no row: what stands before the next one, and whether a field so far is out of place.
+unfoldable pub marked : Passed → ℕ → Bool → Passed
+marked p before bad =
+    record {
+      before = before;
+      groups = p .groups;
+      rows = p .rows;
+      place = p .place;
+      bad = bad;
+      rowless = p .rowless;
+      longest = p .longest;
+      most = p .most;
+      least = p .least;
+    }
+
+-- One group more, of no row yet.
+unfoldable pub opened : Asked → Passed → Passed
+opened a p =
+    record {
+      before = p .before;
+      groups = p .groups + 1;
+      rows = 0;
+      place = a .place + p .groups * Size.groupWords;
+      bad = p .bad;
+      rowless = p .rowless;
+      longest = p .longest;
+      most = p .most;
+      least = p .least;
+    }
+
+-- The group that a row goes into: the open one where an M, which is 2, stands before the row, else a new one.
+unfoldable pub groupFor : Asked → Passed → Passed
+groupFor a p = pick (eqb (p .before) 2) p (opened a p)
+
+-- A row more in the open group, by its columns.
+unfoldable pub rowAdded : Passed → ℕ → Passed
+rowAdded p columns =
+    record {
+      before = 1;
+      groups = p .groups;
+      rows = p .rows + 1;
+      place = p .place;
+      bad = p .bad;
+      rowless = p .rowless;
+      longest = max (p .longest) (p .rows + 1);
+      most = max (p .most) columns;
+      least = min (p .least) columns;
+    }
+
+-- A new group that stays without a row; behind it as behind the line's word, which is 0.
+unfoldable pub rowlessAdded : Asked → Passed → Passed
+rowlessAdded a p =
+    record {
+      before = 0;
+      groups = p .groups + 1;
+      rows = 0;
+      place = a .place + p .groups * Size.groupWords;
+      bad = p .bad || eqb (p .before) 2;
+      rowless = true;
+      longest = p .longest;
+      most = p .most;
+      least = p .least;
+    }
+
+-- The heading that a line is read by.
+abbrev pub headed : Asked → Heading
+headed a = numberHeading (a .heading)
+
+-- An M is out of place unless a row, which is 1, stands before it, a Z where an M does; what is none of the three always is.
+unfoldable pub fieldPassed : Asked → Passed → List ℕ → Passed
+fieldPassed a p f =
+    pick (isJoin f) (marked p 2 (p .bad || not (eqb (p .before) 1)))
+    (pick (isZ f) (rowlessAdded a p)
+    (pick (isRow (headed a) f) (rowAdded (groupFor a p) ((fieldRow (headed a) f) .columns)) (marked p (p .before) true)))
+
+unfoldable pub passed : Asked → Passed → Fields → Passed
+passed a p [] = p
+passed a p (f ∷ fs) = passed a (fieldPassed a p f) fs
+
+-- The table behind it.
+unfoldable pub fieldStored : Asked → Passed → List ℕ → List ℕ → List ℕ
+fieldStored a p f table =
+    pick (isJoin f) table
+    (pick (isZ f) (rowlessPut ((rowlessAdded a p) .place) table)
+    (pick (isRow (headed a) f) (rowPut ((groupFor a p) .place) ((groupFor a p) .rows) (fieldRow (headed a) f) table) table))
+
+unfoldable pub stored : Asked → Passed → Fields → List ℕ → List ℕ
+stored a p [] table = table
+stored a p (f ∷ fs) table = stored a (fieldPassed a p f) fs (fieldStored a p f table)
+
+-- The lowest number that holds, 0 where none does.
+unfoldable pub numberOf : Asked → Passed → ℕ
+numberOf a p =
+    pick (p .bad || eqb (p .before) 2) No.libraryForm
+    (pick (not (eqb (p .groups) (a .groups)) || ltb Size.rows (p .longest)) No.groupsBad
+    (pick (leb (a .limit) (p .most)) No.bitAbove
+    (pick (not (a .excepts && p .rowless) && ltb (p .least) (a .least)) No.rowIdle 0)))
+
+-- Counts and places that are small behind so many bytes.
+pub record Small (a : Asked) (p : Passed) (m : ℕ) : Type 0 where
+  pub groups : p .groups ≤ m
+  pub rows : p .rows ≤ m
+  pub place : p .place ≤ a .place + Size.groupWords * m
+
+-- ---- the lines, by the numbers that the code gives to places: 1 wants CC, 2 CO, 3 SC, 4 SO
+
+unfoldable pub wordAt : ℕ → Word
+wordAt zero = CC
+wordAt (suc zero) = CC
+wordAt (suc (suc zero)) = CO
+wordAt (suc (suc (suc zero))) = SC
+wordAt (suc (suc (suc (suc n)))) = SO
+
+-- The refusal number of a line, 0 where it has none.
+unfoldable pub rowNumber : Heading → Word → ℕ → Fields → ℕ
+rowNumber h w n fs =
+    pick (holds (rowsAfter h w fs))
+    (pick (not (eqb (length (groupsOf h (drop 1 fs))) (groupCount w n)) || anyOf aboveRows (groupsOf h (drop 1 fs))) No.groupsBad
+    (pick (anyOf (anyOf (above (columnCount w n))) (groupsOf h (drop 1 fs))) No.bitAbove
+    (pick (rowIdle w n (groupsOf h (drop 1 fs))) No.rowIdle 0)))
+    No.libraryForm
+
+-- A row line that was read: its number, and where it has none, the table with its rows.
+pub record RowsRead (cell k : ℕ) (w : Word) (n : ℕ) (fs : Fields) (before after : List ℕ) (said : ℕ) : Type 0 where
+  pub number : said ≡ rowNumber (numberHeading k) w n fs
+  pub table : said ≡ 0 → after ≡ stored (askedOf cell k w n) nonePassed (drop 1 fs) before

@@ -1,0 +1,51 @@
+// Stores into the library table: where the groups of a word start, and a row.
+ghost use mathlib.Core.Path.{_≡_};
+ghost use Prim.Native.Nat.{_+_, _≤_};
+ghost use Rattle.sizes.specs.Places.{groupPlace};
+ghost use Rattle.sizes.specs.Sizes as Size;
+ghost use Rattle.cell_library.specs.Layout.{firstGroup};
+ghost use Rattle.library_rows.specs.Passes.{wordAt, farthest, rowPut, rowlessPut};
+use cell_library::cells::cell_place;
+use table::put;
+
+// The first group of a word among the groups of a cell.
+fn first_group(place: u32) -> usize
+    ensures { λ r. ⌜ r ≡ firstGroup (wordAt place) ⌝ }
+{
+    if place < 2 {
+        return sizes::CC_GROUP;
+    }
+    if place == 2 {
+        return sizes::CO_GROUP;
+    }
+    if place == 3 {
+        return sizes::SC_GROUP;
+    }
+    sizes::SO_GROUP
+}
+
+// Where the groups of a word start in the table.
+pub fn word_place(cell: u32, place: u32) -> usize
+    ensures { λ r. ⌜ r ≡ groupPlace cell (firstGroup (wordAt place)) ⌝ }
+{
+    cell_place(cell) + sizes::GROUPS_AT + first_group(place) * sizes::GROUP_WORDS
+}
+
+// A group of no row.
+pub fn put_rowless(table: &mut [u32], place: usize)
+    ensures { λ _. ⌜ now (table .exit) ≡ rowlessPut place (now (table .entry)) ⌝ }
+{
+    put(table, place, 0);
+}
+
+// A row behind so many others of its group.
+pub fn put_row(table: &mut [u32], place: usize, rows: u32, depth: u32, columns: u32)
+    requires { ⌜ (place ≤ farthest) × (rows ≤ Size.textBytes) ⌝ }
+    ensures { λ _. ⌜ now (table .exit)
+        ≡ rowPut place rows (record { depth = depth; columns = columns }) (now (table .entry)) ⌝ }
+{
+    put(table, place, rows + 1);
+    let at = place + 1 + 2 * (rows as usize);
+    put(table, at, depth);
+    put(table, at + 1, columns);
+}
