@@ -1,4 +1,4 @@
--- Reading the netlist text, from what the reader of crate `netlist` says of it.
+-- Reading the netlist text, from what the reader of crate `netlist_text` says of it.
 -- Assumes nothing.
 use mathlib.Core.List.{List}
 use mathlib.Core.Path.{_≡_, refl, _∙_}
@@ -19,8 +19,8 @@ use Rattle.cell_library.proofs.Places.{length-libraryWords}
 use Rattle.netlist.specs.declared.Rules.{Rules}
 use Rattle.netlist.specs.Layout.{netlistAfter}
 use Rattle.netlist.specs.Netlist.{netlist}
-use Rattle.netlist.specs.Admitting.{netlistEntry, ReadsAs, ReadsFrom, ReadsNetlist}
-use Rattle.netlist.proofs.Entering.{passes}
+use Rattle.netlist_text.specs.Reading.{netlistEntry, ReadsAs, ReadsFrom, ReadsNetlist}
+use Rattle.netlist_text.proofs.Entering.{passes}
 use Rattle.outcome.specs.declared.Progress.{Progress}
 use Rattle.outcome.specs.declared.Progress.the-variants.{Unrefused, Later}
 use Rattle.outcome.specs.Outcome.{Lent, givenBy}

@@ -8,7 +8,7 @@ use Rattle.reading.specs.Refusal.{read}
 use Rattle.cell_library.specs.Cells.{Cell}
 use Rattle.cell_library.specs.Layout.{LibraryHolds}
 use Rattle.netlist.specs.declared.Rules.{Rules}
-use Rattle.netlist.specs.Admitting.{netlistEntry}
+use Rattle.netlist_text.specs.Reading.{netlistEntry}
 use Rattle.netlist.specs.Layout.{netlistAfter}
 use Rattle.netlist.specs.Netlist.{netlist}
 use Rattle.outcome.specs.declared.Progress.{Progress}

@@ -32,7 +32,7 @@ pub fn read_netlist(
         Progress::AtEntry(_) => begun,
         Progress::Later(_) => begun,
         Progress::Unrefused => {
-            let statements = netlist::read_netlist(rules, net, library, netlist);
+            let statements = netlist_text::read_netlist(rules, net, library, netlist);
             match statements {
                 Verdict::Refused(r) => Progress::Later(r),
                 Verdict::Accepted => Progress::Unrefused,

@@ -35,7 +35,7 @@ use Rattle.netlist.specs.Lowest.{lowest}
 use Rattle.netlist.specs.Sound.{Apart}
 use Rattle.netlist.proofs.Causes.{lineBad-good, member-append, member-more, mark-cause, taken}
 use Rattle.netlist.proofs.Opening.{declared-read, needed-mentioned, where-same}
-use Rattle.netlist.proofs.Reading.{admitted-more, admitted-refused}
+use Rattle.netlist.proofs.Admitting.{admitted-more, admitted-refused}
 use Rattle.calculation.specs.Calculation.{startLine, startLines, start, analysed}
 use Rattle.copying.specs.Copy.{openLine, openLines, copyOf, opens, declaredToo}
 use Rattle.copying.specs.Kept.{Kept, CopyKeeps}

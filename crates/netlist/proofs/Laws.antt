@@ -3,7 +3,7 @@
 use mathlib.Core.Bool.{true, false, or-true}
 use mathlib.Core.List.{List, [], _∷_, _++_, List·Memᴰ, List·Memᴰ·head, List·Memᴰ·tail, List·Memᴰ·not-nil, flatMap}
 use mathlib.Core.Logic.{⊎-elim}
-use mathlib.Core.Option.{Option, none}
+use mathlib.Core.Option.{Option}
 use mathlib.Core.Path.{_≡_, refl, sym, ap, _∙_}
 use Prim.Native.Nat.{ℕ, suc, _+_}
 use lib.Dec.{eqb}
@@ -12,17 +12,17 @@ use borrow.Author.Tests.{eq-eqb, eqb-true, eqb-false}
 use Rattle.text.specs.Lines.{lines}
 use Rattle.reading.specs.Choice.{pick}
 use Rattle.reading.specs.Each.{Each}
-use Rattle.reading.specs.Refusal.{refused, read}
+use Rattle.reading.specs.Refusal.{read}
 use Rattle.reading.proofs.Laws.{by-test, clash, each-member, refused-read, bind-read}
 use Rattle.cell_library.specs.Cells.{Cell}
 use Rattle.netlist.specs.declared.Rules.{Rules}
-use Rattle.netlist.specs.Netlist.{Gate, Mark, input, output, Statement, mark, gate, kindOf, member, linesOf, linesMarked, linesClaimed, gatesIn, mentionedLines, markedLines, claimedLines, gatesOf, mentioned, isMarked, isInput, pinsAt, admitted, lineForms, textStatements, declared, netlist}
+use Rattle.netlist.specs.Netlist.{Gate, Mark, input, Statement, mark, gate, kindOf, member, linesOf, linesMarked, linesClaimed, gatesIn, mentionedLines, markedLines, claimedLines, gatesOf, mentioned, isMarked, isInput, admitted, lineForms, textStatements, declared, netlist}
 use Rattle.netlist.specs.Admitting.{refusalOf, extended}
 use Rattle.netlist.specs.Sound.{InRange, LinesInRange, GateSound, Apart, Sound, DrivenOnce}
 use Rattle.netlist.proofs.Causes.{member-left, member-right, member-cases, member-among, mark-claims, pinsAt-cell}
 use Rattle.netlist.proofs.Opening.{declared-read}
 use Rattle.netlist.proofs.Sounding.{sound-none, sound-next}
-use Rattle.netlist.proofs.Reading.{admitted-more, admitted-refused}
+use Rattle.netlist.proofs.Admitting.{admitted-more, admitted-refused}
 
 -- ---- lists of lines
 

@@ -1,13 +1,11 @@
+pub mod Admitting
 pub mod Bounds
 pub mod Causes
 pub mod Counting
-pub mod Entering
-pub mod Forms
 pub mod Laws
 pub mod Opening
 pub mod Outcomes
 pub mod Places
-pub mod Reading
 pub mod Sounding
 pub mod Storing
 pub mod Weighing

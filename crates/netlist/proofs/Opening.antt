@@ -1,32 +1,25 @@
--- Refusal 20: what the table says of lines that nothing declares, and what comes behind the lines of a text.
+-- Refusal 20: what the table says of lines that nothing declares.
 -- Assumes nothing.
-use mathlib.Core.Bool.{Bool, true, false, not, _&&_, _||_, or-false, and-false}
-use mathlib.Core.List.{List, [], _∷_, _++_, flatMap}
+use mathlib.Core.Bool.{Bool, true, false, not, _&&_, and-false}
+use mathlib.Core.List.{List, [], _∷_, flatMap}
 use mathlib.Core.Logic.{_⊎_, inl, inr, ⊎-elim}
-use mathlib.Core.Path.{_≡_, refl, sym, ap, _∙_}
+use mathlib.Core.Path.{_≡_, refl, ap}
 use Prim.Native.Nat.{ℕ, zero, suc, _+_, _-_, _≤_, _<_}
 use native.Mathlib.Omega.{arith}
 use lib.Dec.{eqb}
-use lib.ListN.{length, getD, drop, replicate}
-use lib.Seq.{drop-at}
 use Rattle.sizes.specs.Sizes as Size
 use Rattle.reading.specs.Choice.{pick}
 use Rattle.reading.specs.Numbers as No
-use Rattle.reading.specs.Refusal.{Read, refused, read, _>>=_, _>>_, weigh}
-use Rattle.reading.specs.Verdict.{verdictRead, doneRead}
-use Rattle.reading.specs.declared.Verdict.{Verdict}
-use Rattle.reading.specs.declared.Verdict.the-variants.{Accepted, Refused}
-use Rattle.reading.specs.declared.Refusal.{Refusal}
-use Rattle.reading.proofs.Laws.{by-test, clash, or-cases, bind-read, then-read, done-read, done-refused}
-use Rattle.cell_library.specs.Cells.{Cell}
+use Rattle.reading.specs.Refusal.{read, weigh}
+use Rattle.reading.proofs.Laws.{by-test, clash, or-cases, then-read}
 use Rattle.netlist.specs.declared.Rules.{Rules}
-use Rattle.netlist.specs.Netlist.{Gate, input, output, opened, Statement, mark, gate, declaring, member, linesOf}
+use Rattle.netlist.specs.Netlist.{input, output, opened, Statement, mark, gate, declaring, member, linesOf}
 use Rattle.netlist.specs.Netlist.{linesClaimed, linesNeeded, mentionedLines, claimedLines, neededLines, mentioned, claimed}
-use Rattle.netlist.specs.Netlist.{textStatements, undeclared, linesWhere, undeclaredLines, someLine, declared, netlist}
-use Rattle.netlist.specs.Layout.{mentionWord, netlistWords, NetlistHolds, netlistAfter}
-use Rattle.netlist.specs.Admitting.{wordsUndeclared, someUndeclared, ReadsAs}
+use Rattle.netlist.specs.Netlist.{undeclared, linesWhere, undeclaredLines, someLine, declared}
+use Rattle.netlist.specs.Layout.{mentionWord, NetlistHolds}
+use Rattle.netlist.specs.Admitting.{wordsUndeclared, someUndeclared}
 use Rattle.netlist.proofs.Causes.{member-left, member-right, member-cases, member-among, driver-taken}
-use Rattle.netlist.proofs.Places.{length-netlistWords, driver-word, mention-word}
+use Rattle.netlist.proofs.Places.{driver-word, mention-word}
 
 -- ---- a line that is mentioned is claimed, or needed
 
@@ -146,7 +139,7 @@ pub where-end : (p : ℕ → Bool) (l : ℕ) → Size.lines < l → someLine (li
 unfolding linesWhere someLine
 where-end p l h = let n : Size.lines + 1 - l ≡ 0 = omega arith in rw n
 
--- ---- behind the lines of a text
+-- ---- behind all statements
 
 -- The old rules ask nothing, and neither do the new ones of statements that declare every line.
 pub declared-read : (rules : Rules) (ss rs : List Statement) → declared rules ss ≡ read rs → ss ≡ rs
@@ -154,48 +147,3 @@ unfolding declared
 declared-read rules ss rs e =
     then-read (weigh 0 ((No.undeclared, declaring rules && someLine (undeclaredLines ss)) ∷ [])) (read ss) rs
     (λ u w r. let same : ss ≡ rs = cc in same) e
-
-held-past : {table : List ℕ} {ss : List Statement} (h : NetlistHolds table ss) → drop Size.netlist table ≡ h .past
-held-past {table} {ss} h = rw (h .words) (drop-at (netlistWords ss) (h .past) Size.netlist (length-netlistWords ss))
-
-module _ (rules : Rules) (before : List ℕ) (ss : List Statement) (h : NetlistHolds before ss) (r : Verdict) (after : List ℕ) where
-  pub declares-refused : (declaring rules && someUndeclared before) ≡ true → verdictRead r ≡ refused No.undeclared 0
-      → after ≡ replicate (length before) 0 → ReadsAs (declared rules ss) before r after
-  unfolding declared weigh pick _>>_ doneRead netlistAfter
-  declares-refused t said z =
-      let e : (declaring rules && someLine (undeclaredLines ss)) ≡ true = rw (← some-same h) t in
-      record { answers = rw e said; leaves = rw e z }
-
-  pub declares-read : (declaring rules && someUndeclared before) ≡ false → verdictRead r ≡ read tt → after ≡ before
-      → ReadsAs (declared rules ss) before r after
-  unfolding declared weigh pick _>>_ doneRead netlistAfter
-  declares-read t said z =
-      let e : (declaring rules && someLine (undeclaredLines ss)) ≡ false = rw (← some-same h) t in
-      record { answers = rw e said; leaves = rw (e, held-past h) (z ∙ h .words) }
-
--- ---- the lines of a text, and what comes behind them
-
-module _ (rules : Rules) (cells : List Cell) (text before : List ℕ) (v : Verdict) (mid : List ℕ)
-    (lines : ReadsAs (textStatements rules cells text) before v mid) where
-  pub all-refused : (r : Refusal) → v ≡ Refused r → ReadsAs (netlist rules cells text) before v mid
-  unfolding netlist verdictRead doneRead netlistAfter _>>=_
-  all-refused r q =
-      let said : refused (r .number) (r .line) ≡ doneRead (textStatements rules cells text) = rw q at (lines .answers) in
-      let e = done-refused (textStatements rules cells text) (r .number) (r .line) said in
-      record { answers = rw (e, q); leaves = rw e (rw e at (lines .leaves)) }
-
-  pub all-read : v ≡ Accepted → length mid ≡ length before → (w : Verdict) (after : List ℕ)
-      → ((ss : List Statement) → NetlistHolds mid ss → ReadsAs (declared rules ss) mid w after)
-      → ReadsAs (netlist rules cells text) before w after
-  unfolding netlist verdictRead netlistAfter _>>=_
-  all-read q size w after declares =
-      done-read (textStatements rules cells text) (rw q at (lines .answers))
-      (λ ss e.
-      let held : NetlistHolds mid ss = record { past = drop Size.netlist before; words = rw e at (lines .leaves) } in
-      let d = declares ss held in
-      record { answers = rw e (d .answers); leaves = rw e (d .leaves ∙ after-same (held-past held) (declared rules ss)) })
-    where
-      after-same : drop Size.netlist mid ≡ drop Size.netlist before → (o : Read (List Statement))
-          → netlistAfter o mid ≡ netlistAfter o before
-      after-same past (refused number line) = rw size
-      after-same past (read rs) = rw past

@@ -2,7 +2,7 @@
 -- Assumes nothing.
 use mathlib.Core.Bool.{Bool, true, false, not, _||_}
 use mathlib.Core.List.{List, [], _∷_, _++_}
-use mathlib.Core.Logic.{inl, inr, ⊎-elim}
+use mathlib.Core.Logic.{⊎-elim}
 use mathlib.Core.Option.{Option, none, some}
 use mathlib.Core.Path.{_≡_, refl, sym, ap, _∙_}
 use Prim.Native.Nat.{ℕ, zero, suc, _+_, _%_, _≤_, _<_, min}
@@ -51,7 +51,6 @@ use Rattle.netlist.specs.Netlist.{
 }
 use Rattle.netlist.specs.Layout.{gateWords, netlistWords, NetlistHolds}
 use Rattle.netlist.specs.Admitting.{
-  IsMark,
   IsGate,
   StandsFor,
   gateCause,

@@ -1,12 +1,12 @@
 -- One statement over plain numbers, as `admit` takes it from texts and from records, and what admitting it comes to.
 -- Assumes nothing.
-use mathlib.Core.Bool.{Bool, true, false, not, _&&_, _||_}
+use mathlib.Core.Bool.{Bool, true, false, not, _&&_}
 use mathlib.Core.List.{List, [], _∷_, _++_}
 use mathlib.Core.Logic.{_⊎_}
 use mathlib.Core.Option.{Option, none, some}
 use mathlib.Core.Path.{_≡_}
-use Prim.Native.Nat.{ℕ, _+_, _%_, _≤_, _<_, min}
-use lib.Dec.{eqb, ltb}
+use Prim.Native.Nat.{ℕ, _+_, _%_, _<_, min}
+use lib.Dec.{eqb}
 use lib.ListN.{length, getD, set, take}
 use lib.Seq.{sets}
 use Rattle.sizes.specs.Places.{driverPlace, outputPlace, mentionPlace, gatePlace}
@@ -14,34 +14,14 @@ use Rattle.sizes.specs.Sizes as Size
 use Rattle.table.specs.Blocks.{fitted}
 use Rattle.reading.specs.Choice.{pick}
 use Rattle.reading.specs.Numbers as No
-use Rattle.reading.specs.Refusal.{Read, refused, read, weigh}
-use Rattle.reading.specs.Verdict.{verdictRead, doneRead}
-use Rattle.reading.specs.declared.Verdict.{Verdict}
 use Rattle.cell_library.specs.Cells.{Cell}
-use Rattle.cell_library.specs.Layout.{LibraryHolds}
-use Rattle.netlist.specs.declared.Pins.{Pins}
 use Rattle.netlist.specs.declared.RawStatement.{RawStatement}
-use Rattle.netlist.specs.declared.Rules.{Rules}
 use Rattle.netlist.specs.Lowest.{lowest}
 use Rattle.netlist.specs.Netlist.{Gate, Mark, input, output, opened, Statement, mark, gate, kindOf, gateKind, lastKind}
 use Rattle.netlist.specs.Netlist.{linesOf, anyLineBad, linesWhere, someLine}
-use Rattle.netlist.specs.Netlist.{unknownCell, countDiffers, causes, netlist}
-use Rattle.netlist.specs.Layout.{netlistWords, NetlistHolds, netlistAfter}
+use Rattle.netlist.specs.Netlist.{unknownCell, countDiffers, causes}
+use Rattle.netlist.specs.Layout.{netlistWords, NetlistHolds}
 use Rattle.netlist.specs.Sound.{Sound}
-
--- ---- pins
-
--- Pins that were gathered are those of a list of lines: as many as a gate has at most, 0 after the last, the list's length,
--- and whether one of all of them is out of range.
-pub record PinsAre (ls : List ℕ) (p : Pins) : Type 0 where
-  pub pins : p .pins ≡ fitted 0 Size.pins ls
-  pub count : p .count ≡ length ls
-  pub bad : p .bad ≡ anyLineBad ls
-
--- What gathering the pins of a line's fields comes to; none is bad form.
-unfoldable pub PinsRead : Option (List ℕ) → Pins → Type 0
-PinsRead none p = p .form ≡ false
-PinsRead (some ls) p = (p .form ≡ true) × PinsAre ls p
 
 -- ---- a statement
 
@@ -140,16 +120,7 @@ gateAdded g s table =
     let pins = take (min (s .count) Size.pins) (s .pins) in
     set (gateStored g (s .cell) l (s .pins) (mentionAll (l ∷ pins) (set table (driverPlace l) 2))) 0 (oneMore g)
 
--- ---- the text
-
--- "entry (line 0)": "1 a lent table below its published size; 2 a text above 65,535 bytes". By the lengths of the text, of the
--- library table and of the netlist table.
-unfoldable pub netlistEntry : ℕ → ℕ → ℕ → Read (Unit {0})
-netlistEntry text library table =
-    weigh 0
-    ((No.tableShort, ltb library Size.library || ltb table Size.netlist)
-    ∷ (No.textLong, ltb Size.textBytes text)
-    ∷ [])
+-- ---- the lines that are not declared
 
 -- Whether the table says of a line that it is mentioned, and nothing that claims it: of a table that holds statements just where
 -- it is undeclared.
@@ -159,21 +130,3 @@ wordsUndeclared table l = not (eqb (getD table (mentionPlace l) 0) 0) && eqb (ge
 -- Whether it says so of some line.
 abbrev pub someUndeclared : List ℕ → Bool
 someUndeclared table = someLine (linesWhere (wordsUndeclared table) Size.lines 1)
-
--- What a reading answers, and leaves in the lent table.
-pub record ReadsAs (o : Read (List Statement)) (before : List ℕ) (verdict : Verdict) (after : List ℕ) : Type 0 where
-  pub answers : verdictRead verdict ≡ doneRead o
-  pub leaves : after ≡ netlistAfter o before
-
--- "Entry refusals leave lent memory untouched", whatever the library table has in it; behind the entry the text is read against
--- the cells that the library table holds.
-unfoldable pub ReadsFrom : Rules → Read (Unit {0}) → List ℕ → List ℕ → List ℕ → Verdict → List ℕ → Type 0
-ReadsFrom rules (refused number line) text library before verdict after =
-    (verdictRead verdict ≡ refused number line) × (after ≡ before)
-ReadsFrom rules (read u) text library before verdict after =
-    (cells : List Cell) → LibraryHolds library cells → ReadsAs (netlist rules cells text) before verdict after
-
--- What reading a netlist text answers, and leaves in the lent table.
-unfoldable pub ReadsNetlist : Rules → List ℕ → List ℕ → List ℕ → Verdict → List ℕ → Type 0
-ReadsNetlist rules text library before verdict after =
-    ReadsFrom rules (netlistEntry (length text) (length library) (length before)) text library before verdict after

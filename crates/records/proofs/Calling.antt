@@ -38,7 +38,7 @@ use Rattle.records.specs.Records.{recordForms, recordStatements, fromRec
 use Rattle.records.specs.Walk.{declaredProgress, Walked}
 use Rattle.records.specs.Outcome.{givenRecords, Prepared}
 use Rattle.records.proofs.Laws.{walked-end, declared-stays, declared-end}
-use Rattle.netlist.proofs.Reading.{cleared-empty}
+use Rattle.netlist.proofs.Admitting.{cleared-empty}
 
 -- ---- before the walk
 

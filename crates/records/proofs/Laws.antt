@@ -25,7 +25,7 @@ use Rattle.netlist.specs.declared.Rules.the-variants.{New}
 use Rattle.netlist.specs.Netlist.{Statement, lineBad, anyLineBad, admitted, undeclaredLines, someLine, declared}
 use Rattle.netlist.specs.Layout.{netlistWords, NetlistHolds}
 use Rattle.netlist.specs.Admitting.{StandsFor, Admits, refusalOf, extended, wordsAfter, someUndeclared}
-use Rattle.netlist.proofs.Reading.{admitted-more, admitted-refused}
+use Rattle.netlist.proofs.Admitting.{admitted-more, admitted-refused}
 use Rattle.netlist.proofs.Opening.{declared-read, some-same}
 use Rattle.netlist.proofs.Sounding.{sound-none, sound-next}
 use Rattle.outcome.specs.declared.Progress.{Progress}

@@ -1,6 +1,6 @@
 -- `undeclared` looks at the two words of a line. Assumes nothing.
 use mathlib.Core.Bool.{not, _&&_}
-use mathlib.Core.Path.{_≡_, ap, _∙_}
+use mathlib.Core.Path.{ap, _∙_}
 use Prim.Native.Nat.{ℕ}
 use lib.Dec.{eqb}
 use lib.ListN.{getD}

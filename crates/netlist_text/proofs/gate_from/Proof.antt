@@ -8,11 +8,11 @@ use Rattle.text.specs.Lines.{part, nextAfter}
 use Rattle.text.specs.Numeral.{nameForm}
 use Rattle.cell_library.specs.Library.{cellNamed}
 use Rattle.cell_library.proofs.Names.{holds-find}
-use Rattle.netlist.proofs.Forms.{stands-none, number-good, number-bad, gate-none, gate-name-bad, gate-no-line}
-use Rattle.netlist.proofs.Forms.{gate-line-bad, gate-lines, gathered-gate}
+use Rattle.netlist_text.proofs.Forms.{stands-none, number-good, number-bad, gate-none, gate-name-bad, gate-no-line}
+use Rattle.netlist_text.proofs.Forms.{gate-line-bad, gate-lines, gathered-gate}
 use borrow.Author.Needs.{needs}
-use Rattle.netlist.proofs.gate_from.Statement.{statement}
-use Rattle.netlist.proofs.gate_from.Tie as tie
+use Rattle.netlist_text.proofs.gate_from.Statement.{statement}
+use Rattle.netlist_text.proofs.gate_from.Tie as tie
 
 -- ---- the places of the code that the answers speak of
 

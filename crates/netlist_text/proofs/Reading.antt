@@ -1,96 +1,32 @@
 -- The walk over the lines of a text, from a cursor on.
 -- Assumes nothing.
-use mathlib.Core.List.{List, [], _∷_, _++_, flatMap}
-use mathlib.Core.Option.{Option, none, some}
-use mathlib.Core.Path.{_≡_, refl, sym, ap, _∙_}
-use Prim.Native.Nat.{ℕ, zero, suc, _+_, _*_, _≤_, _<_, min}
-use native.Mathlib.Nat.{sub-zero}
+use mathlib.Core.List.{List, [], _∷_, _++_}
+use mathlib.Core.Option.{Option}
+use mathlib.Core.Path.{_≡_, sym, ap, _∙_}
+use Prim.Native.Nat.{ℕ, _+_, _≤_, _<_}
 use native.Mathlib.Numerals.{add-one}
 use native.Mathlib.Omega.{arith}
-use lib.ListN.{length, drop, replicate, replicate-append-replicate}
+use lib.ListN.{length, drop, replicate}
 use lib.Seq.{drop-at}
-use borrow.Author.Tests.{ne-eqb}
 use Rattle.sizes.specs.Sizes as Size
-use Rattle.table.specs.Blocks.{fitted, blocks, cleared}
-use Rattle.table.proofs.Places.{fitted-short}
+use Rattle.table.specs.Blocks.{cleared}
 use Rattle.text.specs.Lines.{part, fields, linesFrom, nextAfter}
 use Rattle.text.proofs.Laws.{linesFrom-start, linesFrom-line, linesFrom-end, linesFrom-unended, nextAfter-within}
 use Rattle.reading.specs.Choice.{pick}
 use Rattle.reading.specs.Numbers as No
-use Rattle.reading.specs.Refusal.{refused, read, _>>=_, _>>_, form}
+use Rattle.reading.specs.Refusal.{refused, read, _>>=_, form}
 use Rattle.reading.specs.Verdict.{verdictRead, doneRead}
 use Rattle.reading.specs.declared.Verdict.{Verdict}
 use Rattle.cell_library.specs.Cells.{Cell}
 use Rattle.netlist.specs.declared.Rules.{Rules}
-use Rattle.netlist.specs.Lowest.{lowest, verdict}
-use Rattle.netlist.specs.Netlist.{Statement, member, mentionedLines, markedLines, claimedLines, gatesOf, mentioned}
-use Rattle.netlist.specs.Netlist.{isMarked, claimed, causes, admit, admitted, statementOf, lineForm, lineForms, textStatements}
-use Rattle.netlist.specs.Layout.{gateWords, driverWord, outputWord, mentionWord, lineParts, lineWords}
+use Rattle.netlist.specs.Netlist.{Statement, admitted, statementOf, lineForm, lineForms, textStatements}
 use Rattle.netlist.specs.Layout.{netlistWords, NetlistHolds, netlistAfter}
-use Rattle.netlist.specs.Admitting.{refusalOf, extended, Decided, wordsAfter, ReadsAs}
+use Rattle.netlist.specs.Admitting.{extended, Decided, wordsAfter}
 use Rattle.netlist.specs.Sound.{Sound}
-use Rattle.netlist.proofs.Weighing.{weigh-lowest}
-use Rattle.netlist.proofs.Causes.{causes-counted}
+use Rattle.netlist.proofs.Admitting.{admitted-more, admitted-refused, cleared-empty}
 use Rattle.netlist.proofs.Places.{length-netlistWords}
 use Rattle.netlist.proofs.Sounding.{sound-none, sound-next}
-
--- ---- one statement of a list
-
-module _ (line : ℕ) (cells : List Cell) (ss : List Statement) where
-  admit-lowest : (s : Statement) → admit line cells ss s ≡ verdict line (lowest (causes cells ss s))
-  unfolding admit
-  admit-lowest s = weigh-lowest line (causes cells ss s) (causes-counted cells ss s)
-
-  -- An admitted statement stands behind those before it.
-  pub admitted-more : (w : Option Statement) (ws : List (Option Statement)) → refusalOf cells ss w ≡ 0
-      → admitted line cells ss (w ∷ ws) ≡ admitted (suc line) cells (extended ss w) ws
-  unfolding admitted form _>>=_ _>>_ refusalOf extended verdict pick
-  admitted-more none ws h = absurd (omega arith)
-  admitted-more (some s) ws h = rw (admit-lowest s, h)
-
-  -- A refused one ends the list.
-  pub admitted-refused : (w : Option Statement) (ws : List (Option Statement)) → (refusalOf cells ss w ≡ 0 → ⊥)
-      → admitted line cells ss (w ∷ ws) ≡ refused (refusalOf cells ss w) line
-  unfolding admitted form _>>=_ _>>_ refusalOf verdict pick
-  admitted-refused none ws h = refl
-  admitted-refused (some s) ws h = rw (admit-lowest s, ne-eqb (lowest (causes cells ss s)) 0 h)
-
--- ---- the cleared table
-
-lineWords-zero : (f : ℕ → ℕ) → ((k : ℕ) → f k ≡ 0) → (n first : ℕ) → lineWords f n first ≡ replicate n 0
-unfolding lineWords
-lineWords-zero f h zero first = refl
-lineWords-zero f h (suc n) first = rw (h first, lineWords-zero f h n (suc first))
-
-no-gates : (n : ℕ) → fitted 0 n (blocks gateWords (gatesOf [])) ≡ replicate n 0
-unfolding gatesOf flatMap blocks
-no-gates n = fitted-short 0 n [] (omega arith) ∙ ap (λ (k : ℕ). replicate k 0) (sub-zero n)
-
--- Three parts of n lines, all the same, 0, and the gates' d words. The lengths are variables, so that no list is computed.
-zeros : (n d : ℕ) (gs : List ℕ) → gs ≡ replicate d 0
-    → _≡_ {A = List ℕ}
-    (0 ∷ ((lineWords (driverWord []) n 1 ++ (lineWords (outputWord []) n 1 ++ (lineWords (mentionWord []) n 1 ++ []))) ++ gs))
-    (replicate (suc (n + (n + (n + 0)) + d)) 0)
-unfolding driverWord outputWord mentionWord isMarked markedLines claimed claimedLines mentioned mentionedLines flatMap member pick
-zeros n d gs e =
-    rw (
-      e,
-      lineWords-zero (driverWord []) (λ k. refl) n 1,
-      replicate-append-replicate {A = ℕ} n 0 0,
-      replicate-append-replicate {A = ℕ} n (n + 0) 0,
-      replicate-append-replicate {A = ℕ} n (n + (n + 0)) 0,
-      replicate-append-replicate {A = ℕ} (n + (n + (n + 0))) d 0,
-    )
-
-no-words : netlistWords [] ≡ replicate Size.netlist 0
-unfolding netlistWords lineParts blocks gatesOf flatMap
-no-words = zeros Size.lines (Size.gates * Size.gateWords) _ (no-gates (Size.gates * Size.gateWords))
-
--- A table whose published size is cleared holds no statement.
-pub cleared-empty : (before : List ℕ) → Size.netlist ≤ length before
-    → cleared Size.netlist before ≡ netlistWords [] ++ drop Size.netlist before
-unfolding cleared
-cleared-empty before h = let e : min Size.netlist (length before) ≡ Size.netlist = omega arith in rw (e, no-words)
+use Rattle.netlist_text.specs.Reading.{ReadsAs}
 
 pub cleared-past : (before : List ℕ) → Size.netlist ≤ length before
     → drop Size.netlist (cleared Size.netlist before) ≡ drop Size.netlist before

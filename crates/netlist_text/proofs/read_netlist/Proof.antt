@@ -1,9 +1,9 @@
 -- `read_netlist` reads the lines behind the entry. Assumes nothing.
 use denote.Ref.{now}
-use Rattle.netlist.proofs.Entering.{entered, shut, unshut, behind}
+use Rattle.netlist_text.proofs.Entering.{entered, shut, unshut, behind}
 use borrow.Author.Needs.{needs}
-use Rattle.netlist.proofs.read_netlist.Statement.{statement}
-use Rattle.netlist.proofs.read_netlist.Tie as tie
+use Rattle.netlist_text.proofs.read_netlist.Statement.{statement}
+use Rattle.netlist_text.proofs.read_netlist.Tie as tie
 
 -- ---- the places of the code that the answers speak of
 

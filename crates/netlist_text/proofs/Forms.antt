@@ -17,11 +17,12 @@ use Rattle.text.specs.declared.Numeral.the-variants.{Value, Bad}
 use Rattle.text.proofs.Laws.{fieldsFrom-start, fieldsFrom-step, fieldsFrom-end}
 use Rattle.cell_library.specs.Cells.{Cell}
 use Rattle.cell_library.specs.Library.{cellNamed}
-use Rattle.netlist.specs.declared.Pins.{Pins}
+use Rattle.netlist_text.specs.declared.Pins.{Pins}
 use Rattle.netlist.specs.declared.RawStatement.{RawStatement}
 use Rattle.netlist.specs.Netlist.{Statement, gateKind, with, decimals, lone, drivenBy, gateOf, lineBad, anyLineBad}
-use Rattle.netlist.specs.Admitting.{PinsAre, PinsRead, StandsFor}
+use Rattle.netlist.specs.Admitting.{StandsFor}
+use Rattle.netlist_text.specs.Reading.{PinsAre, PinsRead}
 use Rattle.netlist.proofs.Storing.{set-fitted}
 
 -- Numbers of bad form stand for no statement.
 pub stands-none : (p : RawStatement) (w : Option Statement) → w ≡ none → p .form ≡ false → StandsFor p w

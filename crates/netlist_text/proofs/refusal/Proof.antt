@@ -3,8 +3,8 @@ use mathlib.Core.Path.{refl, _∙_}
 use Rattle.table.proofs.Places.{cleared-all}
 use Rattle.reading.specs.Verdict.{verdictRead}
 use borrow.Author.Needs.{needs}
-use Rattle.netlist.proofs.refusal.Statement.{statement}
-use Rattle.netlist.proofs.refusal.Tie as tie
+use Rattle.netlist_text.proofs.refusal.Statement.{statement}
+use Rattle.netlist_text.proofs.refusal.Tie as tie
 
 returns : tie.Need-returns
 unfolding verdictRead

@@ -10,12 +10,12 @@ use Rattle.text.proofs.Laws.{nextAfter-within}
 use Rattle.sizes.specs.Sizes as Size
 use Rattle.table.specs.Blocks.{fitted}
 use Rattle.table.proofs.Places.{length-fitted}
-use Rattle.netlist.specs.declared.Pins.{Pins}
+use Rattle.netlist_text.specs.declared.Pins.{Pins}
 use Rattle.netlist.specs.Netlist.{anyLineBad}
-use Rattle.netlist.proofs.Forms.{number-good, number-bad, pins-more, Passed, passed-start, passed-more, passed-bad, passed-end}
+use Rattle.netlist_text.proofs.Forms.{number-good, number-bad, pins-more, Passed, passed-start, passed-more, passed-bad, passed-end}
 use borrow.Author.Needs.{needs}
-use Rattle.netlist.proofs.pins_from.Statement.{statement}
-use Rattle.netlist.proofs.pins_from.Tie as tie
+use Rattle.netlist_text.proofs.pins_from.Statement.{statement}
+use Rattle.netlist_text.proofs.pins_from.Tie as tie
 
 -- The pins gathered so far, as they are answered.
 abbrev gathered : List ℕ → ℕ → Bool → Pins

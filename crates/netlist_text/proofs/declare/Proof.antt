@@ -3,12 +3,12 @@ use mathlib.Core.Bool.{Bool, _&&_}
 use mathlib.Core.Path.{_≡_, refl, sym, ap, _∙_}
 use denote.Ref.{now}
 use Rattle.reading.specs.Verdict.{verdictRead}
 use Rattle.netlist.specs.Netlist.{declaring}
 use Rattle.netlist.specs.Admitting.{someUndeclared}
-use Rattle.netlist.proofs.Opening.{declares-refused, declares-read}
+use Rattle.netlist_text.proofs.Declared.{declares-refused, declares-read}
 use borrow.Author.Needs.{needs}
-use Rattle.netlist.proofs.declare.Statement.{statement}
-use Rattle.netlist.proofs.declare.Tie as tie
+use Rattle.netlist_text.proofs.declare.Statement.{statement}
+use Rattle.netlist_text.proofs.declare.Tie as tie
 
 abbrev begins : tie.After-some-undeclared → tie.Start
 begins c = c .before .before .before .before

@@ -6,12 +6,12 @@ use Prim.Native.Nat.{ℕ}
 use Rattle.reading.specs.Choice.{pick}
 use Rattle.text.specs.Bytes.{bytes}
 use Rattle.text.specs.Lines.{part, nextAfter, sameBytes}
 use Rattle.netlist.specs.declared.Rules.{Rules}
 use Rattle.netlist.specs.Netlist.{input, output, opened, declaring, statementOf}
-use Rattle.netlist.proofs.Forms.{stands-none, same-is, all-fields}
+use Rattle.netlist_text.proofs.Forms.{stands-none, same-is, all-fields}
 use borrow.Author.Needs.{needs}
-use Rattle.netlist.proofs.statement_of.Statement.{statement}
-use Rattle.netlist.proofs.statement_of.Tie as tie
+use Rattle.netlist_text.proofs.statement_of.Statement.{statement}
+use Rattle.netlist_text.proofs.statement_of.Tie as tie
 
 -- ---- the places of the code that the answers speak of
 

@@ -7,13 +7,12 @@ use lib.ListN.{length, drop}
 use Rattle.sizes.specs.Sizes as Size
 use Rattle.text.specs.Lines.{part, fields, nextAfter}
 use Rattle.text.proofs.Laws.{nextAfter-within, part-within}
-use Rattle.reading.specs.Numbers as No
 use Rattle.reading.specs.Verdict.{verdictRead}
 use Rattle.cell_library.specs.Cells.{Cell}
 use Rattle.netlist.specs.Netlist.{statementOf}
 use Rattle.netlist.specs.Admitting.{Decided}
 use Rattle.cell_library.specs.Layout.{LibraryHolds}
-use Rattle.netlist.proofs.Reading.{
+use Rattle.netlist_text.proofs.Reading.{
   cleared-past,
   Reading,
   holding,
@@ -27,8 +26,8 @@ use Rattle.netlist.proofs.Reading.{
   left-read,
 }
 use borrow.Author.Needs.{needs}
-use Rattle.netlist.proofs.read_lines.Statement.{statement}
-use Rattle.netlist.proofs.read_lines.Tie as tie
+use Rattle.netlist_text.proofs.read_lines.Statement.{statement}
+use Rattle.netlist_text.proofs.read_lines.Tie as tie
 
 abbrev Inv-loop : tie.InvT-loop
 Inv-loop rules text library table₀ n at₀ number₀ table at number =

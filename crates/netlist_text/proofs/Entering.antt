@@ -17,9 +17,9 @@ use Rattle.reading.specs.declared.Verdict.the-variants.{Accepted, Refused}
 use Rattle.reading.proofs.Laws.{or-right, weigh-one}
 use Rattle.cell_library.specs.Cells.{Cell}
 use Rattle.cell_library.specs.Layout.{LibraryHolds}
 use Rattle.netlist.specs.declared.Rules.{Rules}
 use Rattle.netlist.specs.Netlist.{netlist}
-use Rattle.netlist.specs.Admitting.{netlistEntry, ReadsAs, ReadsFrom, ReadsNetlist}
+use Rattle.netlist_text.specs.Reading.{netlistEntry, ReadsAs, ReadsFrom, ReadsNetlist}
 
 module _ (text library table : ℕ) where
   -- What is known behind the entry.

@@ -1,9 +1,9 @@
 -- `read_all` reads the lines of a text, and what comes behind them. Assumes nothing.
 use denote.Ref.{now}
-use Rattle.netlist.proofs.Opening.{all-refused, all-read}
+use Rattle.netlist_text.proofs.Declared.{all-refused, all-read}
 use borrow.Author.Needs.{needs}
-use Rattle.netlist.proofs.read_all.Statement.{statement}
-use Rattle.netlist.proofs.read_all.Tie as tie
+use Rattle.netlist_text.proofs.read_all.Statement.{statement}
+use Rattle.netlist_text.proofs.read_all.Tie as tie
 
 -- ---- the places of the code that the answers speak of
 

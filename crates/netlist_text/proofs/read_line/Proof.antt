@@ -1,7 +1,7 @@
 -- `read_line` reads the statement of a line and admits it. Assumes nothing.
 use borrow.Author.Needs.{needs}
-use Rattle.netlist.proofs.read_line.Statement.{statement}
-use Rattle.netlist.proofs.read_line.Tie as tie
+use Rattle.netlist_text.proofs.read_line.Statement.{statement}
+use Rattle.netlist_text.proofs.read_line.Tie as tie
 
 returns : tie.Need-returns
 returns c cells lib ss so h =

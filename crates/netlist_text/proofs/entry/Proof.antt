@@ -2,9 +2,9 @@
 use Rattle.reading.specs.Choice.{pick}
 use Rattle.reading.specs.Refusal.{weigh}
 use Rattle.reading.specs.Verdict.{verdictRead}
-use Rattle.netlist.specs.Admitting.{netlistEntry}
-use Rattle.netlist.proofs.entry.Statement.{statement}
-use Rattle.netlist.proofs.entry.Tie as tie
+use Rattle.netlist_text.specs.Reading.{netlistEntry}
+use Rattle.netlist_text.proofs.entry.Statement.{statement}
+use Rattle.netlist_text.proofs.entry.Tie as tie
 
 returns : tie.Need-returns
 unfolding netlistEntry weigh pick verdictRead

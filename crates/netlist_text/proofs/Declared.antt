@@ -1,0 +1,70 @@
+-- What comes behind the lines of a text: refusal 20.
+-- Assumes nothing.
+use mathlib.Core.Bool.{true, false, _&&_}
+use mathlib.Core.List.{List}
+use mathlib.Core.Path.{_≡_, _∙_}
+use Prim.Native.Nat.{ℕ}
+use lib.ListN.{length, drop, replicate}
+use lib.Seq.{drop-at}
+use Rattle.sizes.specs.Sizes as Size
+use Rattle.reading.specs.Choice.{pick}
+use Rattle.reading.specs.Numbers as No
+use Rattle.reading.specs.Refusal.{Read, refused, read, _>>=_, _>>_, weigh}
+use Rattle.reading.specs.Verdict.{verdictRead, doneRead}
+use Rattle.reading.specs.declared.Verdict.{Verdict}
+use Rattle.reading.specs.declared.Verdict.the-variants.{Accepted, Refused}
+use Rattle.reading.specs.declared.Refusal.{Refusal}
+use Rattle.reading.proofs.Laws.{done-read, done-refused}
+use Rattle.cell_library.specs.Cells.{Cell}
+use Rattle.netlist.specs.declared.Rules.{Rules}
+use Rattle.netlist.specs.Netlist.{Statement, declaring, textStatements, undeclaredLines, someLine, declared, netlist}
+use Rattle.netlist.specs.Layout.{netlistWords, NetlistHolds, netlistAfter}
+use Rattle.netlist.specs.Admitting.{someUndeclared}
+use Rattle.netlist.proofs.Opening.{some-same}
+use Rattle.netlist.proofs.Places.{length-netlistWords}
+use Rattle.netlist_text.specs.Reading.{ReadsAs}
+
+held-past : {table : List ℕ} {ss : List Statement} (h : NetlistHolds table ss) → drop Size.netlist table ≡ h .past
+held-past {table} {ss} h = rw (h .words) (drop-at (netlistWords ss) (h .past) Size.netlist (length-netlistWords ss))
+
+module _ (rules : Rules) (before : List ℕ) (ss : List Statement) (h : NetlistHolds before ss) (r : Verdict) (after : List ℕ) where
+  pub declares-refused : (declaring rules && someUndeclared before) ≡ true → verdictRead r ≡ refused No.undeclared 0
+      → after ≡ replicate (length before) 0 → ReadsAs (declared rules ss) before r after
+  unfolding declared weigh pick _>>_ doneRead netlistAfter
+  declares-refused t said z =
+      let e : (declaring rules && someLine (undeclaredLines ss)) ≡ true = rw (← some-same h) t in
+      record { answers = rw e said; leaves = rw e z }
+
+  pub declares-read : (declaring rules && someUndeclared before) ≡ false → verdictRead r ≡ read tt → after ≡ before
+      → ReadsAs (declared rules ss) before r after
+  unfolding declared weigh pick _>>_ doneRead netlistAfter
+  declares-read t said z =
+      let e : (declaring rules && someLine (undeclaredLines ss)) ≡ false = rw (← some-same h) t in
+      record { answers = rw e said; leaves = rw (e, held-past h) (z ∙ h .words) }
+
+-- ---- the lines of a text, and what comes behind them
+
+module _ (rules : Rules) (cells : List Cell) (text before : List ℕ) (v : Verdict) (mid : List ℕ)
+    (lines : ReadsAs (textStatements rules cells text) before v mid) where
+  pub all-refused : (r : Refusal) → v ≡ Refused r → ReadsAs (netlist rules cells text) before v mid
+  unfolding netlist verdictRead doneRead netlistAfter _>>=_
+  all-refused r q =
+      let said : refused (r .number) (r .line) ≡ doneRead (textStatements rules cells text) = rw q at (lines .answers) in
+      let e = done-refused (textStatements rules cells text) (r .number) (r .line) said in
+      record { answers = rw (e, q); leaves = rw e (rw e at (lines .leaves)) }
+
+  pub all-read : v ≡ Accepted → length mid ≡ length before → (w : Verdict) (after : List ℕ)
+      → ((ss : List Statement) → NetlistHolds mid ss → ReadsAs (declared rules ss) mid w after)
+      → ReadsAs (netlist rules cells text) before w after
+  unfolding netlist verdictRead netlistAfter _>>=_
+  all-read q size w after declares =
+      done-read (textStatements rules cells text) (rw q at (lines .answers))
+      (λ ss e.
+      let held : NetlistHolds mid ss = record { past = drop Size.netlist before; words = rw e at (lines .leaves) } in
+      let d = declares ss held in
+      record { answers = rw e (d .answers); leaves = rw e (d .leaves ∙ after-same (held-past held) (declared rules ss)) })
+    where
+      after-same : drop Size.netlist mid ≡ drop Size.netlist before → (o : Read (List Statement))
+          → netlistAfter o mid ≡ netlistAfter o before
+      after-same past (refused number line) = rw size
+      after-same past (read rs) = rw past

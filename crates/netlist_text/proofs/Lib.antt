@@ -1,0 +1,4 @@
+pub mod Declared
+pub mod Entering
+pub mod Forms
+pub mod Reading
