@@ -6,9 +6,10 @@
 ghost use mathlib.Core.Path.{_≡_};
 ghost use mathlib.Core.List.{List, [], _∷_};
 ghost use mathlib.Core.Option.{Option, some};
-ghost use Prim.Native.Nat.{_≤_, min};
+ghost use Prim.Native.Nat.{_+_, _≤_, min};
 ghost use lib.ListN.{set, take};
-ghost use Rattle.sizes.specs.Places.{mentionPlace};
+ghost use lib.Seq.{sets};
+ghost use Rattle.sizes.specs.Places.{gatePlace, mentionPlace};
 ghost use Rattle.sizes.specs.Sizes as Size;
 ghost use Rattle.reading.specs.Numbers as No;
 ghost use Rattle.cell_library.specs.Cells.{Cell};
@@ -89,6 +90,18 @@ fn mention_pins(table: &mut [u32], pins: [u32; sizes::PINS], count: usize)
     }
 }
 
+// Stores the lines of a gate's pins.
+fn put_pins(table: &mut [u32], g: u32, pins: [u32; sizes::PINS])
+    ensures { λ _. ⌜ now (table .exit) ≡ sets (now (table .entry)) (gatePlace g + 2) (take Size.pins pins) ⌝ }
+{
+    let at = sizes::GATES_AT + g as usize * sizes::GATE_WORDS + 2;
+    let mut i = 0;
+    while i < sizes::PINS {
+        put(table, at + i, pins[i]);
+        i += 1;
+    }
+}
+
 // Stores a gate's numbers.
 fn put_gate(table: &mut [u32], g: u32, cell: u32, line: u32, pins: [u32; sizes::PINS])
     ensures { λ _. ⌜ now (table .exit) ≡ gateStored g cell line pins (now (table .entry)) ⌝ }
@@ -96,11 +109,7 @@ fn put_gate(table: &mut [u32], g: u32, cell: u32, line: u32, pins: [u32; sizes::
     let at = sizes::GATES_AT + g as usize * sizes::GATE_WORDS;
     put(table, at, cell);
     put(table, at + 1, line);
-    let mut i = 0;
-    while i < sizes::PINS {
-        put(table, at + 2 + i, pins[i]);
-        i += 1;
-    }
+    put_pins(table, g, pins);
 }
 
 // ---- checking and admitting one statement

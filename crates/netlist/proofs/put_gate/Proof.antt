@@ -1,104 +1,44 @@
--- `put_gate` stores a gate's numbers: of the pins those passed. Assumes nothing.
+-- `put_gate` stores a gate's numbers. Assumes nothing.
 use mathlib.Core.List.{List}
-use mathlib.Core.Path.{_≡_, refl, ap, _∙_}
-use Prim.Native.Nat.{ℕ, suc, _+_, _-_, _^_, _≤_, _<_}
-use native.Mathlib.Numerals.{add-one}
+use mathlib.Core.Path.{_≡_}
+use Prim.Native.Nat.{ℕ, suc, _+_}
 use native.Mathlib.Omega.{arith}
-use lib.ListN.{length, set, take, length-set}
+use lib.ListN.{set, take}
 use lib.Seq.{sets}
 use Rattle.sizes.specs.Places.{gatePlace}
 use Rattle.sizes.specs.Sizes as Size
 use Rattle.netlist.specs.Admitting.{gateStored}
-use Rattle.netlist.proofs.Storing.{sets-step}
 use borrow.Author.Needs.{needs}
 use Rattle.netlist.proofs.put_gate.Statement.{statement}
 use Rattle.netlist.proofs.put_gate.Tie as tie
 
-abbrev Inv-loop : tie.InvT-loop
-Inv-loop table₀ g cell line pins at i₀ table i =
-    (i ≤ Size.pins)
-    × (at ≡ gatePlace g)
-    × (g < 2 ^ 32)
-    × (length pins ≡ Size.pins)
-    × (length table ≡ length table₀)
-    × (table ≡ sets table₀ (at + 2) (take i pins))
-
-abbrev μ-loop : tie.MeasureT-loop
-μ-loop table₀ g cell line pins at i₀ table i = Size.pins - i
-
--- ---- the places of the code that the answers speak of
-
-abbrev begun : tie.After-put Inv-loop μ-loop → tie.Start Inv-loop μ-loop
-begun c = c .before .before .before
-
-abbrev named : tie.After-put2 Inv-loop μ-loop → tie.After-put Inv-loop μ-loop
-named c = c .before .before .before .before
-
-abbrev headed : tie.At-loop Inv-loop μ-loop → tie.After-put2 Inv-loop μ-loop
-headed c = c .before .before .before
-
-abbrev storing : tie.After-put3 Inv-loop μ-loop → tie.At-loop Inv-loop μ-loop
-storing c = c .before .before .before
-
--- The table once the cell and the line are stored.
-two : (c : tie.After-put2 Inv-loop μ-loop)
-    → let a = begun (named c) .args in
-    c .put2 .last .0 ≡ set (set (a .table .now) (gatePlace (a .g)) (a .cell)) (gatePlace (a .g) + 1) (a .line)
-two c =
-    let a = begun (named c) .args in
-    c .put2 .ensures ∙ ap (λ (t : List ℕ). set t (gatePlace (a .g) + 1) (a .line)) (named c .put .ensures)
-
-loop-holds : tie.Need-loop-holds Inv-loop μ-loop
-loop-holds c = (omega arith, refl, omega arith, omega arith, refl, refl)
-
-loop-again : tie.Need-loop-again Inv-loop μ-loop
-loop-again c =
-    let put = c .before .before in
-    let w = storing put in
-    let l = w .loop in
-    let pins = begun (named (headed w)) .args .t5 in (
-      omega arith,
-      l .inv .1,
-      l .inv .2,
-      l .inv .3,
-      ap length (put .put3 .ensures) ∙ simp length-set (l .inv .4),
-      put .put3 .ensures ∙ rw (l .inv .5) (sets-step pins (l .i) _ _ (omega arith)),
-    )
-
-same-length : tie.Need-same-length Inv-loop μ-loop
-same-length c = c .before .loop .inv .4 ∙ ap length (two (headed (c .before))) ∙ simp length-set
-
-returns : tie.Need-returns Inv-loop μ-loop
+-- The stores one after the other, over any tables.
+stores : (g cell line : ℕ) (pins t₀ : List ℕ) {t₁ t₂ t₃ : List ℕ} → t₁ ≡ set t₀ (gatePlace g) cell
+    → t₂ ≡ set t₁ (gatePlace g + 1) line → t₃ ≡ sets t₂ (gatePlace g + 2) (take Size.pins pins)
+    → t₃ ≡ gateStored g cell line pins t₀
 unfolding gateStored
+stores g cell line pins t₀ first second rest =
+    let one : gatePlace g + 1 ≡ suc (gatePlace g) = omega arith in
+    let two : gatePlace g + 2 ≡ suc (suc (gatePlace g)) = omega arith in
+    rw (rest, second, first, one, two)
+
+returns : tie.Need-returns
 returns c =
-    let w = c .before in
-    let a = begun (named (headed w)) .args in
-    let at = gatePlace (a .g) in
-    let all : w .loop .i ≡ Size.pins = omega arith in
-    let one : at + 1 ≡ suc at = add-one at in
-    let past : at + 2 ≡ suc (suc at) = omega arith in
-    w .loop .inv .5
-    ∙ rw (all, past) (ap (λ (t : List ℕ). sets t (suc (suc at)) (take Size.pins (a .t5))) (rw one at (two (headed w))))
+    let rest = c .before .before in
+    let second = rest .before .before .before .before in
+    let first = second .before .before .before .before in
+    let a = first .before .before .before .args in
+    stores (a .g) (a .cell) (a .line) _ (a .table .now) (first .put .ensures) (second .put2 .ensures) (rest .put-pins .ensures)
 
 pub put-gate-spec : {M : Type 1} → statement M
 put-gate-spec =
     tie.close
     (tie.spec
-    Inv-loop
-    μ-loop
     (λ c. search needs)
     (λ c. search needs)
     (λ c κs. search needs)
     (λ c. search needs)
     (λ c κs. search needs)
-    loop-holds
-    (λ c. search needs)
-    (λ c. search needs)
-    (λ c. search needs)
-    (λ c. search needs)
     (λ c κs. search needs)
     (λ c. search needs)
-    (λ c. search needs)
-    loop-again
-    same-length
     returns)

@@ -1,10 +1,11 @@
 -- `store_gate` stores a gate behind those before it. Assumes nothing.
 use mathlib.Core.List.{List}
-use mathlib.Core.Path.{ap, _∙_}
+use mathlib.Core.Path.{_≡_}
 use Prim.Native.Nat.{ℕ, min}
 use lib.ListN.{set, take}
-use Rattle.sizes.specs.Places.{mentionPlace}
+use Rattle.sizes.specs.Places.{driverPlace, mentionPlace}
 use Rattle.sizes.specs.Sizes as Size
+use Rattle.netlist.specs.declared.RawStatement.{RawStatement}
 use Rattle.netlist.specs.Admitting.{mentionAll, gateStored, oneMore, gateAdded}
 use borrow.Author.Needs.{needs}
 use Rattle.netlist.proofs.store_gate.Statement.{statement}
@@ -30,8 +31,15 @@ counted c = c .before
 abbrev stored : tie.After-one-more → tie.After-put-gate
 stored c = c .before .before .before .before
 
-returns : tie.Need-returns
+-- The stores one after the other, over any tables.
+stores : (g : ℕ) (s : RawStatement) (t₀ : List ℕ) {t₁ t₂ t₃ t₄ t₅ : List ℕ} {n : ℕ} → t₁ ≡ set t₀ (driverPlace (s .line)) 2
+    → t₂ ≡ set t₁ (mentionPlace (s .line)) 1 → t₃ ≡ mentionAll (take (min (s .count) Size.pins) (s .pins)) t₂
+    → t₄ ≡ gateStored g (s .cell) (s .line) (s .pins) t₃ → n ≡ oneMore g → t₅ ≡ set t₄ 0 n
+    → t₅ ≡ gateAdded g s t₀
 unfolding gateAdded mentionAll
+stores g s t₀ drives line pins gates more counts = rw (counts, more, gates, pins, line, drives)
+
+returns : tie.Need-returns
 returns c =
     let counts = c .before .before in
     let more = counted counts in
@@ -39,16 +47,8 @@ returns c =
     let pins = read gates in
     let lines = mentioned pins in
     let drives = driven lines in
-    let g = begun drives .args .g in
-    let s = begun drives .args .s in
-    counts .put2 .ensures
-    ∙ ap (set (gates .put-gate .last .0) 0) (more .one-more .ensures)
-    ∙ ap (λ (t : List ℕ). set t 0 (oneMore g))
-    (gates .put-gate .ensures
-    ∙ ap (gateStored g (s .cell) (s .line) (s .pins))
-    (pins .mention-pins .ensures
-    ∙ ap (mentionAll (take (min (s .count) Size.pins) (s .pins)))
-    (lines .mention .ensures ∙ ap (λ (t : List ℕ). set t (mentionPlace (s .line)) 1) (drives .put .ensures))))
+    stores (begun drives .args .g) (begun drives .args .s) (begun drives .args .table .now) (drives .put .ensures) (lines .mention .ensures)
+    (pins .mention-pins .ensures) (gates .put-gate .ensures) (more .one-more .ensures) (counts .put2 .ensures)
 
 pub store-gate-spec : {M : Type 1} → statement M
 store-gate-spec =
