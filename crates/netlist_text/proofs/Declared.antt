@@ -2,7 +2,7 @@
 -- Assumes nothing.
 use mathlib.Core.Bool.{true, false, _&&_}
 use mathlib.Core.List.{List}
-use mathlib.Core.Path.{_≡_, _∙_}
+use mathlib.Core.Path.{_≡_, sym, _∙_}
 use Prim.Native.Nat.{ℕ}
 use lib.ListN.{length, drop, replicate}
 use lib.Seq.{drop-at}
@@ -14,7 +14,7 @@ use Rattle.reading.specs.Verdict.{verdictRead, doneRead}
 use Rattle.reading.specs.declared.Verdict.{Verdict}
 use Rattle.reading.specs.declared.Verdict.the-variants.{Accepted, Refused}
 use Rattle.reading.specs.declared.Refusal.{Refusal}
-use Rattle.reading.proofs.Laws.{done-read, done-refused}
+use Rattle.reading.proofs.Laws.{refused-read}
 use Rattle.cell_library.specs.Cells.{Cell}
 use Rattle.netlist.specs.declared.Rules.{Rules}
 use Rattle.netlist.specs.Netlist.{Statement, declaring, textStatements, undeclaredLines, someLine, declared, netlist}
@@ -44,27 +44,38 @@ module _ (rules : Rules) (before : List ℕ) (ss : List Statement) (h : NetlistH
 
 -- ---- the lines of a text, and what comes behind them
 
+after-same : (mid before : List ℕ) → length mid ≡ length before → drop Size.netlist mid ≡ drop Size.netlist before
+    → (o : Read (List Statement)) → netlistAfter o mid ≡ netlistAfter o before
+unfolding netlistAfter
+after-same mid before size past (refused number line) = rw size
+after-same mid before size past (read ss) = rw past
+
+-- One reading behind another, into the one table.
+module _ (f : List Statement → Read (List Statement)) {before mid : List ℕ} where
+  then-refused : (o : Read (List Statement)) (r : Refusal) → ReadsAs o before (Refused r) mid
+      → ReadsAs (o >>= f) before (Refused r) mid
+  unfolding _>>=_ verdictRead doneRead
+  then-refused (refused number line) r reads = reads
+  then-refused (read ss) r reads = refused-read (reads .answers)
+
+  then-read : (o : Read (List Statement)) → ReadsAs o before Accepted mid → length mid ≡ length before → (w : Verdict) (after : List ℕ)
+      → ((ss : List Statement) → NetlistHolds mid ss → ReadsAs (f ss) mid w after)
+      → ReadsAs (o >>= f) before w after
+  unfolding _>>=_ verdictRead doneRead netlistAfter
+  then-read (refused number line) reads size w after behind = refused-read (sym (reads .answers))
+  then-read (read ss) reads size w after behind =
+      let held : NetlistHolds mid ss = record { past = drop Size.netlist before; words = reads .leaves } in
+      let d = behind ss held in
+      record { answers = d .answers; leaves = d .leaves ∙ after-same mid before size (held-past held) (f ss) }
+
 module _ (rules : Rules) (cells : List Cell) (text before : List ℕ) (v : Verdict) (mid : List ℕ)
     (lines : ReadsAs (textStatements rules cells text) before v mid) where
   pub all-refused : (r : Refusal) → v ≡ Refused r → ReadsAs (netlist rules cells text) before v mid
-  unfolding netlist verdictRead doneRead netlistAfter _>>=_
-  all-refused r q =
-      let said : refused (r .number) (r .line) ≡ doneRead (textStatements rules cells text) = rw q at (lines .answers) in
-      let e = done-refused (textStatements rules cells text) (r .number) (r .line) said in
-      record { answers = rw (e, q); leaves = rw e (rw e at (lines .leaves)) }
+  unfolding netlist
+  all-refused r q = rw q (then-refused (declared rules) (textStatements rules cells text) r (rw q at lines))
 
   pub all-read : v ≡ Accepted → length mid ≡ length before → (w : Verdict) (after : List ℕ)
       → ((ss : List Statement) → NetlistHolds mid ss → ReadsAs (declared rules ss) mid w after)
       → ReadsAs (netlist rules cells text) before w after
-  unfolding netlist verdictRead netlistAfter _>>=_
-  all-read q size w after declares =
-      done-read (textStatements rules cells text) (rw q at (lines .answers))
-      (λ ss e.
-      let held : NetlistHolds mid ss = record { past = drop Size.netlist before; words = rw e at (lines .leaves) } in
-      let d = declares ss held in
-      record { answers = rw e (d .answers); leaves = rw e (d .leaves ∙ after-same (held-past held) (declared rules ss)) })
-    where
-      after-same : drop Size.netlist mid ≡ drop Size.netlist before → (o : Read (List Statement))
-          → netlistAfter o mid ≡ netlistAfter o before
-      after-same past (refused number line) = rw size
-      after-same past (read rs) = rw past
+  unfolding netlist
+  all-read q size w after declares = then-read (declared rules) (textStatements rules cells text) (rw q at lines) size w after declares

@@ -3,7 +3,7 @@
 use mathlib.Core.List.{List, [], _∷_, _++_}
 use mathlib.Core.Option.{Option}
 use mathlib.Core.Path.{_≡_, sym, ap, _∙_}
-use Prim.Native.Nat.{ℕ, _+_, _≤_, _<_}
+use Prim.Native.Nat.{ℕ, _+_, _-_, _≤_, _<_}
 use native.Mathlib.Numerals.{add-one}
 use native.Mathlib.Omega.{arith}
 use lib.ListN.{length, drop, replicate}
@@ -11,7 +11,7 @@ use lib.Seq.{drop-at}
 use Rattle.sizes.specs.Sizes as Size
 use Rattle.table.specs.Blocks.{cleared}
 use Rattle.text.specs.Lines.{part, fields, linesFrom, nextAfter}
-use Rattle.text.proofs.Laws.{linesFrom-start, linesFrom-line, linesFrom-end, linesFrom-unended, nextAfter-within}
+use Rattle.text.proofs.Laws.{linesFrom-start, linesFrom-line, linesFrom-end, linesFrom-unended, nextAfter-within, part-within}
 use Rattle.reading.specs.Choice.{pick}
 use Rattle.reading.specs.Numbers as No
 use Rattle.reading.specs.Refusal.{refused, read, _>>=_, form}
@@ -36,10 +36,26 @@ cleared-past before h =
 
 -- ---- the walk
 
--- A line behind which the text goes on, or ends, is ended by byte 10.
-pub line-ended : (text : List ℕ) (at next : ℕ) → at ≤ length text → next ≡ nextAfter text at (part 10 text at)
-    → next ≤ length text → at + length (part 10 text at) < length text
-line-ended text at next h e q = omega (arith, nextAfter-within text at (part 10 text at) h)
+-- The cursor behind a line.
+module _ (text : List ℕ) (at next : ℕ) (within : at ≤ length text) (is : next ≡ nextAfter text at (part 10 text at)) where
+  -- A line behind which the text goes on, or ends, is ended by byte 10; else the text ends with it.
+  pub line-ended : next ≤ length text → at + length (part 10 text at) < length text
+  line-ended q = omega (arith, nextAfter-within text at (part 10 text at) within)
+
+  pub line-unended : length text < next → at + length (part 10 text at) ≡ length text
+  line-unended q = omega (arith, part-within 10 text at within, nextAfter-within text at (part 10 text at) within)
+
+  pub line-less : at < length text → length text - next < length text - at
+  line-less q = omega (arith, nextAfter-within text at (part 10 text at) within)
+
+  pub line-number : (number : ℕ) → number ≤ at + 1 → number + 1 ≤ next + 1
+  line-number number q = omega (arith, nextAfter-within text at (part 10 text at) within)
+
+-- What is decided of a line is decided of that part of the text.
+pub part-decided : (rules : Rules) {cells : List Cell} {ss : List Statement} {past after l m : List ℕ} {r : ℕ} → l ≡ m
+    → Decided cells ss (statementOf rules cells (fields l)) past r after
+    → Decided cells ss (statementOf rules cells (fields m)) past r after
+part-decided rules e d = rw (← e) d
 
 -- What is read so far: the statements, which were admitted and which the table holds, and the lines from the cursor on still
 -- to be read.
@@ -112,7 +128,8 @@ module _ (rules : Rules) (cells : List Cell) (text before : List ℕ) (answer : 
   unfolding doneRead netlistAfter
   left-refused e said z same = record { answers = rw e said; leaves = rw (e, ← same) z }
 
-  pub left-read : {ss : List Statement} → textStatements rules cells text ≡ read ss → verdictRead answer ≡ read tt
-      → after ≡ netlistWords ss ++ drop Size.netlist before → ReadsAs (textStatements rules cells text) before answer after
+  pub left-read : {ss : List Statement} {past : List ℕ} → textStatements rules cells text ≡ read ss → verdictRead answer ≡ read tt
+      → after ≡ netlistWords ss ++ past → past ≡ drop Size.netlist before
+      → ReadsAs (textStatements rules cells text) before answer after
   unfolding doneRead netlistAfter
-  left-read e said words = record { answers = rw e said; leaves = rw e words }
+  left-read e said words same = record { answers = rw e said; leaves = rw (e, ← same) words }

@@ -6,7 +6,6 @@ use native.Mathlib.Omega.{arith}
 use lib.ListN.{length, drop}
 use Rattle.sizes.specs.Sizes as Size
 use Rattle.text.specs.Lines.{part, fields, nextAfter}
-use Rattle.text.proofs.Laws.{nextAfter-within, part-within}
 use Rattle.reading.specs.Verdict.{verdictRead}
 use Rattle.cell_library.specs.Cells.{Cell}
 use Rattle.netlist.specs.Netlist.{statementOf}
@@ -17,6 +16,10 @@ use Rattle.netlist_text.proofs.Reading.{
   Reading,
   holding,
   line-ended,
+  line-unended,
+  line-less,
+  line-number,
+  part-decided,
   reading-start,
   reading-more,
   reading-refused,
@@ -25,7 +28,6 @@ use Rattle.netlist_text.proofs.Reading.{
   left-refused,
   left-read,
 }
-use borrow.Author.Needs.{needs}
 use Rattle.netlist_text.proofs.read_lines.Statement.{statement}
 use Rattle.netlist_text.proofs.read_lines.Tie as tie
 
@@ -92,7 +94,7 @@ decided : (c : tie.After-read-line Inv-loop μ-loop) (cells : List Cell)
 decided c cells lib =
     let w = walking (ended c .before) in
     let so-far = w .loop .inv .3 cells lib in
-    rw (← ended c .before .before .line .ensures)
+    part-decided (begun (cleared w) .args .rules) (ended c .before .before .line .ensures)
     (c .read-line .ensures cells lib (so-far .statements) (so-far .sound) (holding so-far))
 
 loop-holds : tie.Need-loop-holds Inv-loop μ-loop
@@ -115,18 +117,9 @@ returns c cells lib =
     let w = walking (t .before) in
     let s = text w in
     let l = w .loop in
-    let within : l .at < length s = t .before .before .before .loop-test .taken in
-    let unended : l .at + length (part 10 s (l .at)) ≡ length s =
-    omega (
-      arith,
-      part-within 10 s (l .at) (l .inv .0),
-      nextAfter-within s (l .at) (part 10 s (l .at)) (l .inv .0),
-      behind (t .before),
-      t .if1 .taken,
-    )
-    in
     left-refused (begun (cleared w) .args .rules) cells s (before w) (left .refusal .result) _
-    (reading-unended (l .inv .3 cells lib) within unended)
+    (reading-unended (l .inv .3 cells lib) (t .before .before .before .loop-test .taken)
+    (line-unended s (l .at) (t .before .after .result) (l .inv .0) (behind (t .before)) (t .if1 .taken)))
     (left .refusal .ensures .0) (left .refusal .ensures .1) (same-size w)
 
 same-length-2 : tie.Need-same-length-2 Inv-loop μ-loop
@@ -150,13 +143,7 @@ loop-less : tie.Need-loop-less Inv-loop μ-loop
 loop-less c =
     let f = ended (read (c .before)) .before in
     let w = walking f in
-    let l = w .loop in
-    omega (
-      arith,
-      nextAfter-within (text w) (l .at) (f .before .line .result .now) (l .inv .0),
-      f .after .ensures,
-      f .before .before .loop-test .taken,
-    )
+    line-less (text w) (w .loop .at) (f .after .result) (w .loop .inv .0) (behind f) (f .before .before .loop-test .taken)
 
 loop-again : tie.Need-loop-again Inv-loop μ-loop
 loop-again c =
@@ -165,7 +152,7 @@ loop-again c =
     let w = walking f in
     let l = w .loop in (
       ended r .if1 .left,
-      omega (arith, nextAfter-within (text w) (l .at) (part 10 (text w) (l .at)) (l .inv .0), behind f, l .inv .1),
+      line-number (text w) (l .at) (f .after .result) (l .inv .0) (behind f) (l .number) (l .inv .1),
       r .read-line .kept .1 .1 .1 .0 ∙ l .inv .2,
       λ cells lib. reading-more (l .inv .3 cells lib) (whole (ended r)) (decided r cells lib) (behind f) (c .if2 .left),
     )
@@ -178,11 +165,9 @@ unfolding verdictRead
 returns-3 c cells lib =
     let w = c .before in
     let so-far = w .loop .inv .3 cells lib in
-    let past : drop Size.netlist (cleared w .clear .last .0) ≡ drop Size.netlist (before w) =
-    ap (drop Size.netlist) (cleared w .clear .ensures) ∙ cleared-past (before w) (begun (cleared w) .pre .1)
-    in
     left-read (begun (cleared w) .args .rules) cells (text w) (before w) _ (w .loop .table) (reading-end so-far (c .loop-test .left)) refl
-    (rw (← past) (so-far .held))
+    (so-far .held)
+    (ap (drop Size.netlist) (cleared w .clear .ensures) ∙ cleared-past (before w) (begun (cleared w) .pre .1))
 
 pub read-lines-spec : {M : Type 1} → statement M
 read-lines-spec =
@@ -190,15 +175,15 @@ read-lines-spec =
     (tie.spec
     Inv-loop
     μ-loop
-    (λ c κs. search needs)
+    (λ c κs. tt)
     loop-holds
-    (λ c κs. search needs)
-    (λ c κs. search needs)
-    (λ c κs. search needs)
+    (λ c κs. tt)
+    (λ c κs. tt)
+    (λ c κs. tt)
     same-length
     returns
-    (λ c κs. search needs)
-    (λ c κs. search needs)
+    (λ c κs. tt)
+    (λ c κs. tt)
     same-length-2
     returns-2
     add-number
