@@ -17,7 +17,7 @@ use Rattle.writer.specs.Put.{Put}
 use Rattle.writer.proofs.Steps.{put-front}
 use Rattle.truth_tables.specs.Entries.{cellOf, entryBytes}
 use Rattle.truth_tables.specs.Tables.{allOf}
-use Rattle.generator.specs.Masks.{isBit, isOne, Bits}
+use Rattle.prime_rows.specs.Masks.{isBit, isOne, Bits}
 use Rattle.generator.specs.Generated.{withPins, tableLine, wrongCount, entryOf, judged, fitted, judgedInto, leftBy, answerRead, lengthRead, Comes}
 use Rattle.generator.specs.declared.Generated.{Generated}
 use Rattle.generator.specs.declared.Generated.the-variants.{Length, Refused}

@@ -1,7 +1,5 @@
-pub mod Pins
-pub mod Primes
 pub mod Passing
-pub mod Conditions
+pub mod Groups
 pub mod Listing
 pub mod Tables
 pub mod Judging

@@ -11,9 +11,10 @@ use Rattle.text.specs.Bytes.{bytes}
 use Rattle.writer.specs.Put.{Put}
 use Rattle.writer.proofs.Steps.{put-none, put-then}
 use Rattle.truth_tables.specs.Tables.{keep}
-use Rattle.generator.specs.Masks.{primeRow, downFrom, primeRows}
-use Rattle.generator.specs.Printed.{oneBytes, moreBytes, askedNumber, rowsBytes, Passed}
-use Rattle.generator.specs.declared.rows.Asked.{Asked}
+use Rattle.prime_rows.specs.Asked.{askedNumber}
+use Rattle.prime_rows.specs.Masks.{primeRow, downFrom, primeRows}
+use Rattle.prime_rows.specs.declared.Asked.{Asked}
+use Rattle.generator.specs.Printed.{oneBytes, moreBytes, rowsBytes, Passed}
 use Rattle.generator.specs.declared.rows.Cursor.{Cursor}
 
 -- The rows below a number that are still to be printed.

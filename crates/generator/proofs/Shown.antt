@@ -27,7 +27,7 @@ use Rattle.writer.proofs.Steps.{put-front}
 use Rattle.truth_tables.specs.Entries.{cellOf, entryBytes}
 use Rattle.truth_tables.specs.Tables.{allOf}
 use Rattle.truth_tables.proofs.Lengths.{longestEntry, entry-short}
-use Rattle.generator.specs.Masks.{isBit, isOne}
+use Rattle.prime_rows.specs.Masks.{isBit, isOne}
 use Rattle.generator.specs.Generated.{TableLine, withPins, tableLine, tableAfter, ended, oneLine, wrongCount, entryOf, judged, generated, fitted, generatedInto, leftBy, answerRead, lengthRead, Comes}
 use Rattle.generator.specs.Shown.{entryRoom, shown, Shows, Bounded}
 use Rattle.generator.specs.declared.Generated.the-variants.{Length, Refused}

@@ -18,7 +18,7 @@ use Rattle.text.specs.Lines.{lines, fields, part, linesFrom, nextAfter}
 use Rattle.text.proofs.Laws.{linesFrom-start, linesFrom-line, linesFrom-end, linesFrom-unended, nextAfter-within, part-within}
 use Rattle.cell_library.specs.Library.{Fields}
 use Rattle.truth_tables.specs.Tables.{allOf}
-use Rattle.generator.specs.Masks.{isBit}
+use Rattle.prime_rows.specs.Masks.{isBit}
 use Rattle.generator.specs.Generated.{TableLine, tableLine, tableAfter, ended, oneLine, generated, judgedInto, generatedInto}
 
 not-formed : (name n bits : List ℕ) → tableLine false name n bits ≡ none

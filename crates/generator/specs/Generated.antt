@@ -16,7 +16,7 @@ use Rattle.text.specs.Numeral.{decimal, nameForm, numeral-open}
 use Rattle.cell_library.specs.Library.{Fields}
 use Rattle.truth_tables.specs.Entries.{cellOf, entryBytes, entries-open}
 use Rattle.truth_tables.specs.Tables.{allOf}
-use Rattle.generator.specs.Masks.{isBit, isOne}
+use Rattle.prime_rows.specs.Masks.{isBit, isOne}
 use Rattle.generator.specs.declared.Generated.{Generated}
 use Rattle.generator.specs.declared.Generated.the-variants.{Length, Refused}
 

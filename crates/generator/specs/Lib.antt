@@ -1,4 +1,3 @@
-pub mod Masks
 pub mod Printed
 pub mod Generated
 pub mod Shown

@@ -1,8 +1,8 @@
 // The entry of a truth table, line by line.
-use crate::masks::power;
-use crate::masks::wanted;
-use crate::rows::Asked;
 use crate::rows::put_rows;
+use prime_rows::Asked;
+use prime_rows::of_pin;
+use prime_rows::of_value;
 use writer::put_byte;
 use writer::put_bytes;
 use writer::put_decimal;
@@ -12,8 +12,9 @@ ghost use Prim.Native.Nat.{_≤_, _<_};
 ghost use Rattle.writer.specs.Put.{Put};
 ghost use Rattle.truth_tables.specs.Entries.{settingGroup, settingGroups, observingGroup, observingGroups, cellOf};
 ghost use Rattle.truth_tables.specs.Entries.{groupBytes, lineBytes, nameBytes, entryBytes};
-ghost use Rattle.generator.specs.Masks.{isBit, isOne, Bits};
-ghost use Rattle.generator.specs.Printed.{rowsBytes, Small};
+ghost use Rattle.prime_rows.specs.Masks.{isBit, isOne, Bits};
+ghost use Rattle.prime_rows.specs.Asked.{Small};
+ghost use Rattle.generator.specs.Printed.{rowsBytes};
 ghost use mathlib.Core.Bool.{true};
 
 const COMMA: u8 = 44;
@@ -39,14 +40,7 @@ fn put_value(entry: &mut [u8], at: usize, depth: u32, pins: usize, bits: &[u8], 
     ensures { λ r. ⌜ Put at (44 ∷ groupBytes (settingGroup depth pins (map isOne (now (bits .entry))) (isOne value)))
         (now (entry .entry)) (now (entry .exit)) r ⌝ }
 {
-    let mask = wanted(bits, 0, value, bits.len());
-    let weight = power(4, pins);
-    let asked = Asked {
-        wanted: mask,
-        pins,
-        base: depth,
-        weight,
-    };
+    let asked = of_value(depth, pins, bits, value);
     put_group(entry, at, asked)
 }
 
@@ -56,16 +50,7 @@ fn put_pin(entry: &mut [u8], at: usize, depth: u32, pins: usize, bits: &[u8], k:
     ensures { λ r. ⌜ Put at (44 ∷ groupBytes (observingGroup depth pins (map isOne (now (bits .entry))) k))
         (now (entry .entry)) (now (entry .exit)) r ⌝ }
 {
-    let behind = pins - 1 - k;
-    let mask = wanted(bits, power(2, behind) as usize, ZERO, bits.len() / 2);
-    let base = depth + 8 * power(4, pins);
-    let weight = power(4, behind);
-    let asked = Asked {
-        wanted: mask,
-        pins: pins - 1,
-        base,
-        weight,
-    };
+    let asked = of_pin(depth, pins, bits, k);
     put_group(entry, at, asked)
 }
 

@@ -3,11 +3,10 @@
 // Open to others: `put_entry`, `put_printed`, and the type `Generated`. They have no condition on their input; specs/Generated.antt
 // says what a text comes to, specs/Shown.antt what is printed of it. What that is, in rows, is said by crate `truth_tables`.
 mod entry;
-mod masks;
 mod rows;
 
 use crate::entry::put_cell;
-use crate::masks::power;
+use prime_rows::masks::power;
 use reading::Refusal;
 use text::Numeral;
 use text::after;
@@ -25,7 +24,7 @@ ghost use Rattle.reading.specs.Choice.{pick};
 ghost use Rattle.reading.specs.Refusal.{refused};
 ghost use Rattle.text.specs.Numeral.{decimal, nameForm, numeralRead};
 ghost use Rattle.truth_tables.specs.Tables.{allOf};
-ghost use Rattle.generator.specs.Masks.{isBit};
+ghost use Rattle.prime_rows.specs.Masks.{isBit};
 ghost use Rattle.generator.specs.Generated.{tableLine, judgedInto, generated, generatedInto, Comes};
 ghost use Rattle.generator.specs.Shown.{Shows};
 

@@ -1,24 +1,17 @@
 // The rows of a group, found and printed one by one, by descending value.
-use crate::masks::is_prime;
-use crate::masks::number;
-use crate::masks::power;
+use prime_rows::Asked;
+use prime_rows::masks::is_prime;
+use prime_rows::masks::number;
+use prime_rows::masks::power;
 use writer::put_byte;
 use writer::put_bytes;
 use writer::put_octal;
 ghost use mathlib.Core.List.{[]};
 ghost use Rattle.reading.specs.Choice.{pick};
 ghost use Rattle.writer.specs.Put.{Put};
-ghost use Rattle.generator.specs.Masks.{primeRow};
-ghost use Rattle.generator.specs.Printed.{oneBytes, rowsBytes, Small, Passed};
-
-// What is asked of a group's rows: the settings wanted, of so many pins; what every row has besides the columns of its term, and
-// the weight of the two columns above which a pin is left out that is not named.
-pub struct Asked {
-    pub wanted: u32,
-    pub pins: usize,
-    pub base: u32,
-    pub weight: u32,
-}
+ghost use Rattle.prime_rows.specs.Masks.{primeRow};
+ghost use Rattle.prime_rows.specs.Asked.{Small};
+ghost use Rattle.generator.specs.Printed.{oneBytes, rowsBytes, Passed};
 
 // Where the next row goes, and whether there is one before it.
 struct Cursor {

@@ -6,7 +6,7 @@ use native.Mathlib.Omega.{arith}
 use lib.Dec.{eqb}
 use lib.ListN.{length, drop, getD, drop-of-length-le}
 use Rattle.truth_tables.specs.Tables.{allOf}
-use Rattle.generator.specs.Masks.{isBit}
+use Rattle.prime_rows.specs.Masks.{isBit}
 use Rattle.generator.proofs.Tables.{bits-more}
 use Rattle.generator.proofs.all_bits.Statement.{statement}
 use Rattle.generator.proofs.all_bits.Tie as tie

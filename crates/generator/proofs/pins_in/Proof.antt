@@ -6,7 +6,7 @@ use borrow.Author.Tests.{not-true, not-false}
 use Rattle.reading.specs.Choice.{pick}
 use Rattle.text.specs.Numeral.{nameForm, numeralRead}
 use Rattle.truth_tables.specs.Tables.{allOf}
-use Rattle.generator.specs.Masks.{isBit}
+use Rattle.prime_rows.specs.Masks.{isBit}
 use Rattle.generator.proofs.pins_in.Statement.{statement}
 use Rattle.generator.proofs.pins_in.Tie as tie
 

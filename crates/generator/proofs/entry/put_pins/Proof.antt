@@ -7,7 +7,7 @@ use lib.ListN.{length}
 use borrow.Author.Needs.{needs}
 use Rattle.writer.proofs.Steps.{put-then}
 use Rattle.truth_tables.specs.Entries.{lineBytes}
-use Rattle.generator.specs.Masks.{isOne}
+use Rattle.prime_rows.specs.Masks.{isOne}
 use Rattle.generator.proofs.Listing.{Listed, listed-none, listed-more, listed-all}
 use Rattle.generator.proofs.entry.put_pins.Statement.{statement}
 use Rattle.generator.proofs.entry.put_pins.Tie as tie

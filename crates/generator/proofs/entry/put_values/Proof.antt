@@ -3,7 +3,7 @@ use mathlib.Core.Path.{refl}
 use borrow.Author.Needs.{needs}
 use Rattle.writer.proofs.Steps.{put-then}
 use Rattle.truth_tables.specs.Entries.{settingGroups}
-use Rattle.generator.specs.Masks.{isBit, isOne}
+use Rattle.prime_rows.specs.Masks.{isBit, isOne}
 use Rattle.generator.proofs.Listing.{line-two}
 use Rattle.generator.proofs.entry.put_values.Statement.{statement}
 use Rattle.generator.proofs.entry.put_values.Tie as tie

@@ -5,7 +5,8 @@ use borrow.Author.Needs.{needs}
 use borrow.Author.Tests.{not-true, not-false}
 use Rattle.reading.specs.Choice.{pick}
 use Rattle.writer.proofs.Steps.{put-none}
-use Rattle.generator.specs.Printed.{Passed, askedNumber}
+use Rattle.prime_rows.specs.Asked.{askedNumber}
+use Rattle.generator.specs.Printed.{Passed}
 use Rattle.generator.proofs.rows.pass_row.Statement.{statement}
 use Rattle.generator.proofs.rows.pass_row.Tie as tie
 
