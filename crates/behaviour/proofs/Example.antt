@@ -19,7 +19,8 @@ use Rattle.truth_tables.specs.Tables.{output, tables-open}
 use Rattle.truth_tables.specs.Entries.{cellOf, entries-open}
 use Rattle.behaviour.specs.Loops.{Feeds, Leads, Leads.last, Leads.next, Loopless, Driver, Driver.input, Driver.gate, NoneOpen, ReadOnce, linesRead}
 use Rattle.behaviour.specs.Values.{Setting, Values, Does}
-use Rattle.behaviour.specs.Built.{Generated, Built, Qualifies, tablesOf}
+use Rattle.truth_tables.specs.Generated.{Generated}
+use Rattle.behaviour.specs.Built.{Built, Qualifies, tablesOf}
 use Rattle.behaviour.specs.Never.{ccNumber}
 use Rattle.behaviour.specs.Example.{notBits, andBits, cells, bitsAt, statements}
 

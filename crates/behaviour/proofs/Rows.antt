@@ -21,7 +21,7 @@ use Rattle.truth_tables.specs.Tables.{Term, Setting, digit, output, meets, term
 use Rattle.truth_tables.specs.Entries.{termColumns, settingRow, settingGroup, settingGroups}
 use Rattle.truth_tables.proofs.Lists.{any-member, any-found, kept}
 use Rattle.truth_tables.proofs.Covering.{setting-fact}
-use Rattle.behaviour.specs.Built.{Generated}
+use Rattle.truth_tables.specs.Generated.{Generated}
 use Rattle.behaviour.proofs.Telling.{Met, Tells}
 use Rattle.behaviour.proofs.Naming.{says, term-bit, meets-said, said-meets}
 

@@ -3,29 +3,16 @@
 -- Assumes nothing.
 use mathlib.Core.Bool.{Bool}
 use mathlib.Core.List.{List, List·Memᴰ}
-use mathlib.Core.Path.{_≡_}
-use Prim.Native.Nat.{ℕ, _≤_, _^_}
-use lib.ListN.{length}
+use Prim.Native.Nat.{ℕ}
 use Rattle.cell_library.specs.Cells.{Cell}
 use Rattle.netlist.specs.Netlist.{Gate, Statement, gatesOf}
 use Rattle.calculation.specs.Ways.{cellOf}
 use Rattle.truth_tables.specs.Tables as Table
-use Rattle.truth_tables.specs.Entries.{settingGroups, observingGroups}
+use Rattle.truth_tables.specs.Generated.{Generated}
 use Rattle.behaviour.specs.Loops.{Loopless, NoneOpen}
 use Rattle.behaviour.specs.Values.{Tables}
 
--- A cell whose groups are those that the generator makes of the truth table with these bits, whatever its name. One without
--- pins is a constant.
-pub record Generated (c : Cell) (bits : List Bool) : Type 0 where
-  -- "n from 0 to 4, BITS the 2^n output values"
-  pub few : c .pins ≤ 4
-  pub size : length bits ≡ 2 ^ c .pins
-  pub cc : c .cc ≡ settingGroups 1 (c .pins) bits
-  pub co : c .co ≡ observingGroups 1 (c .pins) bits
-  pub sc : c .sc ≡ settingGroups 0 (c .pins) bits
-  pub so : c .so ≡ observingGroups 0 (c .pins) bits
-
--- Each gate's cell is such a cell: `bits` has the truth table of the cell at each place of the library.
+-- Each gate's cell has a truth table: `bits` has that of the cell at each place of the library.
 pub record Built (cells : List Cell) (ss : List Statement) : Type 0 where
   pub bits : ℕ → List Bool
   pub generated : (g : Gate) → List·Memᴰ g (gatesOf ss) → Generated (cellOf cells g) (bits (g .cell))

@@ -6,10 +6,7 @@ use prime_rows::masks::power;
 use writer::put_byte;
 use writer::put_bytes;
 use writer::put_octal;
-ghost use mathlib.Core.List.{[]};
-ghost use Rattle.reading.specs.Choice.{pick};
 ghost use Rattle.writer.specs.Put.{Put};
-ghost use Rattle.prime_rows.specs.Masks.{primeRow};
 ghost use Rattle.prime_rows.specs.Asked.{Small};
 ghost use Rattle.generator.specs.Printed.{oneBytes, rowsBytes, Passed};
 

@@ -1,24 +1,24 @@
 -- What the code asks of BITS is what the definitions ask of settings, and what it makes of terms is their rows' numbers.
 -- Assumes nothing.
-use mathlib.Core.Bool.{Bool, true, false, not, _&&_, _||_}
+use mathlib.Core.Bool.{Bool, true, false, not, _||_}
 use mathlib.Core.List.{List, [], _∷_, _++_, map}
-use mathlib.Core.Option.{Option, none, some}
+use mathlib.Core.Option.{none, some}
 use mathlib.Core.Path.{_≡_, refl, sym, ap, subst, _∙_}
 use Prim.Native.Nat.{ℕ, zero, suc, _+_, _*_, _-_, _/_, _%_, _^_, _≤_, _<_}
-use native.Mathlib.Nat.{pow-suc, pow-zero, one-le-pow, add-zero, add-suc, suc-add, zero-add, mul-assoc, mul-comm, add-mul, div-eq-of-lt, mod-eq-of-lt, add-mul-div-right, add-mul-mod-self-right}
+use native.Mathlib.Nat.{pow-suc, one-le-pow, add-zero, add-suc, suc-add, zero-add, mul-assoc, mul-comm, add-mul, div-eq-of-lt, mod-eq-of-lt, add-mul-div-right, add-mul-mod-self-right}
 use native.Mathlib.Omega.{arith}
 use lib.Dec.{eqb}
 use lib.ListN.{length, getD, List·getD-map}
 use lib.Pow.{pow-add}
-use borrow.Author.Tests.{eq-eqb, ne-eqb, eqb-true, eqb-false}
+use borrow.Author.Tests.{ne-eqb, eqb-true}
 use Rattle.reading.specs.Choice.{pick}
 use Rattle.reading.specs.Each.{Each}
-use Rattle.reading.proofs.Laws.{by-test, clash, and-left, and-right, each-append, each-map, each-at}
+use Rattle.reading.proofs.Laws.{by-test, clash, and-left, and-right, each-append, each-map}
 use Rattle.truth_tables.specs.Entries.{literalColumns, termColumns, observeColumn, settingRow, observingRow, settingGroup, observingGroup, rowNumber}
-use Rattle.truth_tables.specs.Tables.{Setting, Term, Condition, digit, settings, place, output, same, terms, allOf, keep, prime, primes, gives, putIn, changes, observing}
+use Rattle.truth_tables.specs.Tables.{Setting, Term, Condition, digit, settings, place, output, same, terms, allOf, prime, primes, gives, putIn, changes, observing}
 use Rattle.truth_tables.proofs.Lists.{map-append, map-map, map-each, each-kept}
 use Rattle.truth_tables.proofs.Order.{terms-length, length-putIn}
-use Rattle.prime_rows.specs.Masks.{maskOf, wantedMask, isBit, isOne, Bits, askAt, upFrom, termOf, primeRows, spread, numberOf}
+use Rattle.prime_rows.specs.Masks.{maskOf, wantedMask, isBit, isOne, Bits, askAt, upFrom, primeRows, spread, numberOf}
 use Rattle.prime_rows.proofs.Primes.{prime-rows}
 
 -- ---- the places of the settings
@@ -28,7 +28,7 @@ unfolding upFrom
 up-shift c j zero = refl
 up-shift c j (suc left) = ap (λ (l : List ℕ). (c + j) ∷ l) (ap (λ (k : ℕ). upFrom k left) (sym (add-suc c j)) ∙ up-shift c (suc j) left)
 
-up-append : (j a b : ℕ) → upFrom j (a + b) ≡ upFrom j a ++ upFrom (j + a) b
+pub up-append : (j a b : ℕ) → upFrom j (a + b) ≡ upFrom j a ++ upFrom (j + a) b
 unfolding upFrom
 up-append j zero b = rw (zero-add b, add-zero j) refl
 up-append j (suc a) b = rw (suc-add a b, up-append (suc j) a b, suc-add j a, ← add-suc j a) refl
@@ -38,7 +38,7 @@ unfolding Each
 each-cons n v [] e = tt
 each-cons n v (s ∷ ss) e = (ap suc (e .0), each-cons n v ss (e .1))
 
-settings-length : (n : ℕ) → Each (λ s. length s ≡ n) (settings n)
+pub settings-length : (n : ℕ) → Each (λ s. length s ≡ n) (settings n)
 unfolding settings Each
 settings-length zero = (refl, tt)
 settings-length (suc n) =
@@ -142,13 +142,13 @@ module _ (b m k D x y : ℕ) (positive : 0 < b) (h : k ≤ m) where
       (let e : (x / w + D * b ^ k) * (b * w) ≡ x / w * (b * w) + D * b ^ suc m = add-mul (x / w) (D * b ^ k) (b * w) ∙ ap (λ (i : ℕ). x / w * (b * w) + i) heavy in
       omega arith)
 
-place-below : (s : Setting) → place s < 2 ^ length s
+pub place-below : (s : Setting) → place s < 2 ^ length s
 unfolding place digit
 place-below [] = omega arith
 place-below (false ∷ s) = rw (pow-suc 2 (length s)) (omega (arith, place-below s))
 place-below (true ∷ s) = rw (pow-suc 2 (length s)) (omega (arith, place-below s))
 
-term-below : (t : Term) → termColumns t < 4 ^ length t
+pub term-below : (t : Term) → termColumns t < 4 ^ length t
 unfolding termColumns literalColumns
 term-below [] = omega arith
 term-below (none ∷ t) = rw (pow-suc 4 (length t)) (omega (arith, term-below t))
@@ -214,7 +214,7 @@ module _ (n : ℕ) (bits : List ℕ) (B : Bits n bits) (k value : ℕ) (h : k < 
 
 -- ---- rows
 
-primes-length : (n : ℕ) (C : Condition) → Each (λ t. length t ≡ n) (primes n C)
+pub primes-length : (n : ℕ) (C : Condition) → Each (λ t. length t ≡ n) (primes n C)
 unfolding primes
 primes-length n C = each-kept (λ t. length t ≡ n) (prime n C) (terms n) (terms-length n)
 

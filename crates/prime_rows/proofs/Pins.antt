@@ -143,7 +143,7 @@ up-more j count h k =
     let next : suc (j - 1) ≡ j = omega arith in
     rw left (ap (λ (m : ℕ). (j - 1) ∷ upFrom m (count - j)) next)
 
-length-up : (j left : ℕ) → length (upFrom j left) ≡ left
+pub length-up : (j left : ℕ) → length (upFrom j left) ≡ left
 unfolding upFrom
 length-up j zero = refl
 length-up j (suc left) = ap suc (length-up (suc j) left)

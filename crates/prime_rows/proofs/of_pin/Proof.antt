@@ -1,6 +1,6 @@
 -- `of_pin` meets its contract. Assumes nothing.
 use mathlib.Core.Path.{refl}
-use Prim.Native.Nat.{_+_, _-_, _*_, _^_, _≤_, _<_}
+use Prim.Native.Nat.{_+_, _-_, _*_, _≤_, _<_}
 use native.Mathlib.Nat.{pow-le-pow-right, one-le-pow}
 use native.Mathlib.Omega.{arith}
 use borrow.Author.Needs.{needs}
@@ -46,7 +46,10 @@ returns c =
             some = omega (arith, c .power3 .ensures, one-le-pow (a .pins - 1 - a .k) 4 four);
             weight = omega (arith, c .power3 .ensures, pow-le-pow-right four least);
           };
-      rows = observing-group (a .depth) (a .pins) (w .wanted .result) (c .power3 .result) (a .bits .now) b (a .k) (a .depth + 8 * e .power2 .result) (l .power .result) 48 (s .pre .2) (l .power .ensures) (w .wanted .ensures) (rw (e .power2 .ensures) refl) (c .power3 .ensures);
+      rows =
+          observing-group (a .depth) (a .pins) (w .wanted .result) (c .power3 .result) (a .bits .now) b (a .k)
+          (a .depth + 8 * e .power2 .result) (l .power .result) 48 (s .pre .2) (l .power .ensures) (w .wanted .ensures)
+          (rw (e .power2 .ensures) refl) (c .power3 .ensures);
     }
 
 pub of-pin-spec : {M : Type 1} → statement M

@@ -1,5 +1,5 @@
 -- `of_value` meets its contract. Assumes nothing.
-use Prim.Native.Nat.{_^_, _≤_, _<_}
+use Prim.Native.Nat.{_<_}
 use native.Mathlib.Nat.{pow-le-pow-right, one-le-pow}
 use native.Mathlib.Omega.{arith}
 use borrow.Author.Needs.{needs}
@@ -29,7 +29,9 @@ returns c =
             some = omega (arith, c .power .ensures, one-le-pow (a .pins) 4 four);
             weight = omega (arith, c .power .ensures, pow-le-pow-right four (s .pre .0 .few));
           };
-      rows = setting-group (a .depth) (a .pins) (w .wanted .result) (c .power .result) (a .bits .now) (s .pre .0) (a .value) (s .pre .2) (w .wanted .ensures) (c .power .ensures);
+      rows =
+          setting-group (a .depth) (a .pins) (w .wanted .result) (c .power .result) (a .bits .now) (s .pre .0) (a .value)
+          (s .pre .2) (w .wanted .ensures) (c .power .ensures);
     }
 
 pub of-value-spec : {M : Type 1} → statement M
