@@ -30,7 +30,7 @@ reaches-more ss k m l (inr p) f = leads-more p f
 
 -- ---- one gate for a line
 
-same-gate : (gs : List Gate) → N.DrivenOnce gs → (g h : Gate) → List·Memᴰ g gs → List·Memᴰ h gs → g .line ≡ h .line → g ≡ h
+pub same-gate : (gs : List Gate) → N.DrivenOnce gs → (g h : Gate) → List·Memᴰ g gs → List·Memᴰ h gs → g .line ≡ h .line → g ≡ h
 same-gate (x ∷ gs) d g h (List·Memᴰ·head a) (List·Memᴰ·head b) e = a ∙ sym b
 same-gate (x ∷ gs) d g h (List·Memᴰ·head a) (List·Memᴰ·tail b) e = absurd (d .0 h b (ap (λ (t : Gate). t .line) (sym a) ∙ e))
 same-gate (x ∷ gs) d g h (List·Memᴰ·tail a) (List·Memᴰ·head b) e = absurd (d .0 g a (ap (λ (t : Gate). t .line) (sym b) ∙ sym e))

@@ -1,5 +1,5 @@
-mod Descending
-mod Giving
+pub mod Descending
+pub mod Giving
 mod Parting
 mod Telling
 mod Naming
