@@ -103,7 +103,7 @@ enum scoap_refusal {
  * Pins of a gate that share a line are one wire: a CC or SC row pays a value of it once, and a row that needs
  * both is no way. A cell with a row that names both values of one pin pays for each pin.
  *
- * A cost 'never' says that there is no plan. What it says of the chip, and of which netlists, README tells.
+ * A cost 'never' says that there is no plan. scoap_qualifies tells whether it also says something of the chip.
  *
  * The buffer afterwards:
  *   accepted       the report, without a byte 0 at its end; bytes past it keep their values
@@ -160,6 +160,22 @@ uint64_t scoap_cell(const uint8_t *line, size_t line_len, uint8_t *entry, size_t
  * text_len bytes is shorter, which is then all zero.
  */
 uint64_t scoap_built_in(uint8_t *text, size_t text_len);
+
+/* What never says of the chip. */
+enum scoap_never {
+    /* nothing: the netlist has a loop, an open line or a cell that scoap_cell does not make */
+    SCOAP_NOTHING = 0,
+    /* no setting of the inputs gives a line a value whose CC number is never */
+    SCOAP_NO_SETTING = 1,
+    /* besides, never stands exactly when no setting does: each line is read by at most one pin */
+    SCOAP_EXACTLY = 2
+};
+
+/*
+ * Tells which of these holds of a netlist: answers one of enum scoap_never, or a refusal as scoap_report answers
+ * it with a buffer of SCOAP_REPORT bytes, so that 17 cannot come. The texts are lent as to scoap_report.
+ */
+uint64_t scoap_qualifies(const uint8_t *lib, size_t lib_len, const uint8_t *net, size_t net_len);
 
 /* The two parts of a refusal. */
 static inline unsigned scoap_number(uint64_t answer)

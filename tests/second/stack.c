@@ -27,7 +27,7 @@ static size_t lib_length;
 static size_t net_length;
 static uint64_t answer;
 /* Which entry is called. The library's text is the line of a truth table for CELL. */
-static enum { REPORT, PLAN, CELL, BUILT_IN } entry;
+static enum { REPORT, PLAN, CELL, BUILT_IN, QUALIFIES } entry;
 /* The line whose plan is written out, at 1. */
 static unsigned plan;
 
@@ -79,6 +79,9 @@ static void *run(void *unused)
         break;
     case BUILT_IN:
         answer = scoap_built_in(report, SCOAP_BUILT_IN);
+        break;
+    case QUALIFIES:
+        answer = scoap_qualifies((const uint8_t *)lib, lib_length, (const uint8_t *)net, net_length);
         break;
     }
     entered = 0;
@@ -302,6 +305,12 @@ int main(void)
     add_net("input,1\ngate,NOT,2,1\noutput,2\n");
     entry = REPORT;
     measure("a netlist over it", 0);
+    entry = QUALIFIES;
+    measure("whether it qualifies", 0);
+    if (answer != SCOAP_EXACTLY) {
+        printf("FAILED: an inverter's netlist qualifies by %llu\n", (unsigned long long)answer);
+        failed++;
+    }
 
     printf("%u passed, %u failed\n", passed, failed);
     return failed == 0 ? 0 : 1;

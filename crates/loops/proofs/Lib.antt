@@ -1,6 +1,6 @@
-mod Walking
+pub mod Walking
 mod Marking
 mod Settled
-mod Holding
+pub mod Holding
 mod Standing
 pub mod Laws

@@ -19,7 +19,7 @@ use Rattle.loops.specs.Settling.{marked, allMarked, markEach, ready, set
 -- ---- what is left
 
 module _ {A : Type 0} (f : ℕ → A) (n i : ℕ) where
-  each-next : i < n → eachOf f (n - i) i ≡ f i ∷ eachOf f (n - (i + 1)) (i + 1)
+  pub each-next : i < n → eachOf f (n - i) i ≡ f i ∷ eachOf f (n - (i + 1)) (i + 1)
   unfolding eachOf
   each-next h =
       let e : n - i ≡ suc (n - (i + 1)) = omega arith in

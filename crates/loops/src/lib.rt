@@ -2,7 +2,7 @@
 // by at most one pin: what document 02, K8 asks of a netlist besides its cells. proofs/Laws.antt has what
 // the answers say of the statements that were read.
 //
-// Open to others: `without_loops`, `read_once`.
+// Open to others: `without_loops`, `read_once`. For the crates above: `gate_count`.
 ghost use mathlib.Core.List.{[], _∷_};
 ghost use mathlib.Core.Path.{_≡_};
 ghost use Prim.Native.Nat.{_<_};
@@ -23,7 +23,8 @@ fn wide(x: u32) -> usize
     x as usize
 }
 
-fn gate_count(netlist: &[u32]) -> usize
+// How many gates the table says of, no more than there may be.
+pub fn gate_count(netlist: &[u32]) -> usize
     ensures { λ r. ⌜ r ≡ gateCount (now (netlist .entry)) ⌝ }
 {
     let count = wide(table::word(netlist, 0));

@@ -1,3 +1,4 @@
 pub mod Coding
 pub mod Cells
 pub mod Plans
+pub mod Qualifying

@@ -2,3 +2,4 @@ pub mod Coded
 pub mod Cell
 pub mod BuiltIn
 pub mod Plan
+pub mod Qualifies

@@ -1,8 +1,9 @@
 // The calls for C, in one archive, `libscoap_c.a`, with one header, include/scoap.h. Each has tables of
 // its own, and answers by one number.
 //
-// Open to others: `scoap_report`, `scoap_plan`, `scoap_cell` and `scoap_built_in`. They have no condition on
-// their input; specs/Coded.antt, specs/Plan.antt, specs/Cell.antt and specs/BuiltIn.antt say what they promise.
+// Open to others: `scoap_report`, `scoap_plan`, `scoap_cell`, `scoap_built_in` and `scoap_qualifies`. They have no
+// condition on their input; specs/Coded.antt, specs/Plan.antt, specs/Cell.antt, specs/BuiltIn.antt and
+// specs/Qualifies.antt say what they promise.
 use generator::Generated;
 use outcome::Answer;
 use planning::Written;
@@ -10,6 +11,7 @@ ghost use Rattle.scoap_c.specs.BuiltIn.{BuiltInCoded};
 ghost use Rattle.scoap_c.specs.Cell.{CellCoded};
 ghost use Rattle.scoap_c.specs.Coded.{Coded};
 ghost use Rattle.scoap_c.specs.Plan.{PlanCoded};
+ghost use Rattle.scoap_c.specs.Qualifies.{QualifiesCoded};
 
 // "the refusal number times 1,000,000 plus the line"
 const CODE_LINES: u64 = 1_000_000;
@@ -86,5 +88,29 @@ pub extern "C" fn scoap_plan(
     match written {
         Written::Length(n) => n as u64,
         Written::Refused(r) => r.number as u64 * CODE_LINES + r.line as u64,
+    }
+}
+
+// For C: of which netlists document 02, K8, speaks, on tables of its own: 0, 1 or 2 as `qualifies` answers, else
+// the refusal number times 1,000,000 plus the line.
+#[no_mangle]
+pub extern "C" fn scoap_qualifies(lib: &[u8], net: &[u8]) -> u64
+    ensures { λ r. ⌜ QualifiesCoded (now (lib .entry)) (now (net .entry)) r ⌝ }
+{
+    let mut library = [0u32; sizes::LIBRARY];
+    let mut netlist = [0u32; sizes::NETLIST];
+    let mut numbers = [0u32; sizes::NUMBERS];
+    let mut report = [0u8; sizes::REPORT_BYTES];
+    let answer = analysis::analyse(
+        lib,
+        net,
+        &mut library,
+        &mut netlist,
+        &mut numbers,
+        &mut report,
+    );
+    match answer {
+        Answer::Accepted(_s) => qualifying::qualifies(&library, &netlist) as u64,
+        Answer::Refused(r) => r.number as u64 * CODE_LINES + r.line as u64,
     }
 }

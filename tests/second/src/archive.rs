@@ -18,6 +18,13 @@ mod c {
             entry_len: usize,
         ) -> u64;
         #[allow(dead_code)]
+        pub fn scoap_qualifies(
+            lib: *const u8,
+            lib_len: usize,
+            net: *const u8,
+            net_len: usize,
+        ) -> u64;
+        #[allow(dead_code)]
         pub fn scoap_plan(
             lib: *const u8,
             lib_len: usize,
@@ -75,4 +82,10 @@ pub fn scoap_plan(
             text.len(),
         )
     }
+}
+
+#[allow(dead_code)]
+pub fn scoap_qualifies(lib: &[u8], net: &[u8]) -> u64 {
+    // Each slice is valid for its length.
+    unsafe { c::scoap_qualifies(lib.as_ptr(), lib.len(), net.as_ptr(), net.len()) }
 }

@@ -12,6 +12,7 @@ pub mod generate;
 mod library;
 mod netlist;
 mod plan;
+mod qualifies;
 pub mod random;
 pub mod refusal;
 mod report;
@@ -92,6 +93,14 @@ pub fn report_into(lib: &[u8], net: &[u8], buffer: &mut [u8]) -> u64 {
             }
             u64::from(number) * 1_000_000 + u64::from(line)
         }
+    }
+}
+
+/// What K8 says of a netlist, in the form of the C entry.
+pub fn qualifies_code(lib: &[u8], net: &[u8]) -> u64 {
+    match both_read(lib, net) {
+        Ok((library, netlist)) => qualifies::qualifies(&library, &netlist),
+        Err(Refusal { number, line }) => u64::from(number) * 1_000_000 + u64::from(line),
     }
 }
 

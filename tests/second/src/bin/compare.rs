@@ -18,7 +18,9 @@ use second::generate::{
     Style, Wiring,
 };
 use second::random::Random;
-use second::{analyse, plan_into, report_into, Answer, Refusal, MOST_BYTES, MOST_LINES};
+use second::{
+    analyse, plan_into, qualifies_code, report_into, Answer, Refusal, MOST_BYTES, MOST_LINES,
+};
 use std::process::ExitCode;
 
 const SEED: u64 = 0x5c0a_9197_9115_2026;
@@ -96,6 +98,8 @@ struct Comparison {
     shown: [u64; SHOWN.len()],
     /// Plans written out, and refused.
     plans: [u64; 2],
+    /// Pairs of which K8 says nothing, its first sentence, both; and pairs that are refused.
+    qualified: [u64; 4],
     turn: usize,
 }
 
@@ -196,6 +200,19 @@ impl Comparison {
                 );
             }
         }
+    }
+
+    /// Of which netlists K8 speaks, by both sides.
+    fn check_qualifies(&mut self, label: &str, lib: &[u8], net: &[u8]) -> u64 {
+        let answer = archive::scoap_qualifies(lib, net);
+        let expected = qualifies_code(lib, net);
+        self.qualified[answer.min(3) as usize] += 1;
+        let problem = (answer != expected).then(|| {
+            let net = String::from_utf8_lossy(net);
+            format!("qualifies {answer} instead of {expected}: {net:?}")
+        });
+        self.verdict(label, problem);
+        answer
     }
 
     /// Lends both sides the same texts and a buffer of `room` bytes for a plan's text.
@@ -832,6 +849,10 @@ fn chips(all: &mut Comparison, rng: &mut Random) {
         let length = if answer < 1_000_000 { answer } else { 0 };
         let report = String::from_utf8_lossy(&buffer[..length as usize]).into_owned();
         let read_once = chip.read_once();
+        let qualified = all.check_qualifies("chip", &lib, &net);
+        let problem = (qualified != 1 + u64::from(read_once))
+            .then(|| format!("qualifies {qualified}, each line read once: {read_once}"));
+        all.verdict("a chip qualifies", problem);
         once += u64::from(read_once);
         let given = chip.given();
         let mut rows = 0;
@@ -862,6 +883,31 @@ fn chips(all: &mut Comparison, rng: &mut Random) {
         all.verdict("each line of a chip", problem);
     }
     println!("{CHIPS} netlists of truth tables at every setting");
+    // Other cells, loops and open lines, and texts that are refused.
+    for turn in 0..CHIPS {
+        let chip = Chip::random(rng, turn % 2 == 0);
+        let made = pair(rng, 1 + turn % 12);
+        let (lib, net) = (made.lib.bytes(), made.net.bytes());
+        all.check_qualifies("any pair", &lib, &net);
+        let (mut lib, mut net) = (chip.library(), chip.netlist());
+        match turn % 4 {
+            0 => net.extend(b"open,900\noutput,900\n"),
+            1 => scramble(rng, &mut lib),
+            2 => scramble(rng, &mut net),
+            _ => net.extend(b"gate,T0,900,900\n"),
+        }
+        all.check_qualifies("a damaged chip", &lib, &net);
+    }
+    for (title, count) in [
+        ("K8 says nothing", all.qualified[0]),
+        ("its first sentence", all.qualified[1]),
+        ("both", all.qualified[2]),
+        ("refused", all.qualified[3]),
+    ] {
+        println!("  {title:<34} {count:>6}");
+        let problem = (count < AT_LEAST).then(|| format!("came up {count} times only"));
+        all.verdict(title, problem);
+    }
     for (title, count) in [
         ("each line read by at most one pin", once),
         ("a value that is never", nevers),
@@ -887,6 +933,7 @@ fn main() -> ExitCode {
         answers: [0; 21],
         shown: [0; SHOWN.len()],
         plans: [0; 2],
+        qualified: [0; 4],
         turn: 0,
     };
     figures(&mut all);

@@ -1,0 +1,45 @@
+-- Of which netlists document 02, K8, speaks, by the numbers of the tables, and what the answer says of cells and statements.
+-- Assumes nothing.
+use mathlib.Core.Bool.{Bool, true, _&&_}
+use mathlib.Core.List.{List, [], _∷_}
+use mathlib.Core.Logic.{_↔_}
+use mathlib.Core.Path.{_≡_}
+use Prim.Native.Nat.{ℕ, _≤_}
+use lib.Dec.{eqb}
+use lib.ListN.{getD}
+use Rattle.reading.specs.Choice.{pick}
+use Rattle.cell_library.specs.Cells.{Cell}
+use Rattle.netlist.specs.Netlist.{Gate, Statement}
+use Rattle.behaviour.specs.Loops.{ReadOnce}
+use Rattle.behaviour.specs.Built.{Qualifies}
+use Rattle.generated_cells.specs.Words.{generatedAt}
+use Rattle.loops.specs.Held.{gatesHeld}
+use Rattle.loops.specs.Settling.{withoutLoops, readOnce}
+
+-- "built only of cells that K6 generates, constants among them"
+unfoldable pub allGenerated : List ℕ → List Gate → Bool
+allGenerated library [] = true
+allGenerated library (g ∷ gs) = generatedAt library (g .cell) && allGenerated library gs
+
+-- 0 where K8 says nothing of the netlist, 1 where its first theorem holds of it, 2 where both do.
+unfoldable pub qualifying : List ℕ → List ℕ → ℕ
+qualifying library netlist =
+    pick (withoutLoops netlist && allGenerated library (gatesHeld netlist)) (pick (readOnce netlist) 2 1) 0
+
+-- What the answer says of the cells and statements that the tables hold.
+pub record Says (cells : List Cell) (ss : List Statement) (said : ℕ) : Type 0 where
+  pub most : said ≤ 2
+  -- "No setting of the inputs then gives a line a value whose CC number is never."
+  pub first : (1 ≤ said) ↔ Qualifies cells ss
+  -- "If besides each line is read by at most one pin, never stands exactly when no setting does."
+  pub both : (said ≡ 2) ↔ (Qualifies cells ss × ReadOnce ss)
+
+-- ---- cells that were judged before
+
+-- A cell with a mark other than 0 is generated.
+unfoldable pub Known : List ℕ → List ℕ → Type 0
+Known library known = (c : ℕ) → (getD known c 0 ≡ 0 → ⊥) → generatedAt library c ≡ true
+
+pub record Judged (library : List ℕ) (cell : ℕ) (known : List ℕ) (said : Bool) : Type 0 where
+  pub answer : said ≡ generatedAt library cell
+  pub still : Known library known
