@@ -23,9 +23,10 @@ use Rattle.calculation.specs.Calculation.{startLine, startLines, start}
 use Rattle.calculation.specs.Acceptance.{BothSound}
 use Rattle.gates.specs.Tables.{byRole, gateVisit}
 use Rattle.gates.proofs.Bridge.{noGate, pins-number, visit-is}
-use Rattle.sweep.specs.Order.{gateVisits, sweepVisits}
+use Rattle.starting.specs.Start.{startNumber, lineStart, linesStart}
+use Rattle.visits.specs.Order.{gateVisits}
+use Rattle.sweep.specs.Order.{sweepVisits}
 use Rattle.plans.specs.Idle.{inTurn}
-use Rattle.sweep.specs.Start.{startNumber, lineStart, linesStart}
 
 -- ---- turns
 

@@ -26,17 +26,18 @@ use Rattle.gates.specs.Tables.{byRole}
 use Rattle.gates.specs.Fits.{TablesFit}
 use Rattle.gates.proofs.Bridge.{tables-fit, netlist-room}
 use Rattle.awake.specs.Lines.{LinesStand, Chained, Driven}
-use Rattle.sweep.specs.Fits.{FreshFits}
 use Rattle.gates.specs.Fits.{Tied}
-use Rattle.sweep.specs.Order.{ruleOf, sweepVisits}
+use Rattle.starting.specs.Start.{linesStart}
+use Rattle.starting.proofs.Starting.{laid-length}
+use Rattle.visits.specs.Order.{ruleOf}
+use Rattle.visits.specs.Waking.{Linked}
+use Rattle.visits.proofs.Visits.{rule-stores}
+use Rattle.sweep.specs.Fits.{FreshFits}
+use Rattle.sweep.specs.Order.{sweepVisits}
 use Rattle.sweep.specs.Ready.{Holds}
 use Rattle.sweep.specs.Runs.{Runs}
-use Rattle.sweep.specs.Start.{linesStart}
-use Rattle.sweep.specs.Waking.{Linked}
 use Rattle.sweep.proofs.Bridge.{setting-sweep, observing-sweep, start-is}
 use Rattle.sweep.proofs.Linking.{lines-stand, reads-linked, drives-linked}
-use Rattle.sweep.proofs.Starting.{laid-length}
-use Rattle.sweep.proofs.Visits.{rule-stores}
 
 module _ {library netlist : List ℕ} {cells : List Cell} {ss : List Statement} (h : Holds library netlist cells ss) where
   abbrev gates : ℕ

@@ -1,6 +1,6 @@
 -- The lines of the gates, at the tables of accepted cells and statements: which gates need a line, for the arrays that tell it.
 -- Assumes nothing.
-use mathlib.Core.List.{List, [], _∷_, _++_, List·Memᴰ, Memᴰ·map, Memᴰ·of-map}
+use mathlib.Core.List.{List, _∷_, _++_, List·Memᴰ, Memᴰ·map, Memᴰ·of-map}
 use mathlib.Core.Path.{_≡_, refl, sym, ap, _∙_, subst}
 use Prim.Native.Nat.{ℕ, zero, suc, _+_, _-_, _≤_, _<_}
 use native.Mathlib.Decide.{decLt}
@@ -29,12 +29,12 @@ use Rattle.calculation.proofs.Accepting.{row-observes, gate-cell, gate-pin, rol
 use Rattle.calculation.proofs.Needing.{setting-reads, observing-drives}
 use Rattle.calculation.proofs.Visiting.{getD-listed, Sets, value-from, pins-from, asks-observe, usable-from}
 use Rattle.awake.specs.Lines.{gateLine, LinesStand, Chained, Driven}
-use Rattle.gates.specs.Tables.{byRole, gatePins, gateLines, visitCount, visitPlace, gateVisit}
+use Rattle.gates.specs.Tables.{byRole, gatePins, gateLines, visitPlace, gateVisit}
 use Rattle.gates.proofs.Bridge.{noGate, netlist-room, pins-number, lines-are}
 use Rattle.gates.proofs.Naming.{set-node, observe-node, linesOf}
-use Rattle.sweep.specs.Order.{gateVisits}
-use Rattle.sweep.specs.Waking.{NeedsLine, visitLine, Linked}
-use Rattle.sweep.specs.Waking as Table
+use Rattle.visits.specs.Order.{gateVisits}
+use Rattle.visits.specs.Waking.{NeedsLine, visitLine, Linked}
+use Rattle.visits.specs.Waking as Table
 use Rattle.sweep.proofs.Bridge.{values-are, pin-visit, pins-are}
 
 -- No two places of the list have gates that drive one line.

@@ -8,7 +8,8 @@ use native.Mathlib.Omega.{arith}
 use Rattle.plans.specs.System.{Visit}
 use Rattle.plans.specs.Sweep.{Rule, Settles}
 use Rattle.calculation.specs.Changes.{Going}
-use Rattle.sweep.specs.Runs.{Swept, Runs}
+use Rattle.visits.specs.Renewed.{Swept}
+use Rattle.sweep.specs.Runs.{Runs}
 use Rattle.calculation.proofs.Sweeping.{going-first, going-on, going-ends, going-within}
 
 -- Before the sweep that counts `count`, all sweeps before it changed something.

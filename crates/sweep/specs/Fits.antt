@@ -1,57 +1,17 @@
--- What visits, sweeps and runs ask of the tables and the numbers (specs/Fits.antt of crate `gates`).
+-- What sweeps and runs ask of the tables and the numbers (specs/Fits.antt of crate `visits`).
 -- Assumes nothing.
 use mathlib.Core.Bool.{Bool}
 use mathlib.Core.List.{List}
 use mathlib.Core.Path.{_≡_}
-use Prim.Native.Nat.{ℕ, _*_, _≤_, _<_}
-use lib.ListN.{length, getD}
+use Prim.Native.Nat.{ℕ}
+use lib.ListN.{length}
 use Rattle.sizes.specs.Sizes as Size
 use Rattle.plans.specs.Sweep.{Lowering}
-use Rattle.awake.specs.Lines.{Chained, Driven}
-use Rattle.gates.specs.Fits.{Gathered, GroupFits, SumFits, TablesFit, Tied}
-use Rattle.sweep.specs.Order.{ruleOf, sweepVisits}
+use Rattle.visits.specs.Fits.{LinksFit}
+use Rattle.visits.specs.Order.{ruleOf}
+use Rattle.sweep.specs.Order.{sweepVisits}
 use Rattle.sweep.specs.Runs.{Runs}
-use Rattle.sweep.specs.Waking.{Linked, Resting}
-
--- One visit: a group, the costs of its columns, the place of its number, and the pins of its cell.
-pub record VisitFits (kind : ℕ) (library : List ℕ) (group : ℕ) (costs numbers : List ℕ) (place pins : ℕ) : Type 0 where
-  pub sumFits : SumFits kind library group costs
-  pub size : length numbers ≡ Size.numbers
-  pub placeFits : place < Size.numbers
-  pub pinsFit : pins ≤ Size.pins
-
--- Costs are those of the columns which the rows of a group name, at a gate with these lines.
-pub record CostsOf (kind : ℕ) (library : List ℕ) (group : ℕ) (lines : List ℕ) (pins : ℕ) (numbers costs : List ℕ) : Type 0 where
-  pub count : ℕ
-  pub few : count ≤ Size.columns
-  pub wide : 2 * pins ≤ count
-  pub gathered : Gathered count kind lines pins numbers costs
-  pub groupFits : GroupFits library group count
-
--- The gates that need a line's number may be woken.
-pub record WakeFits (role line gates : ℕ) (first next driver awake : List ℕ) : Type 0 where
-  pub roleFits : role ≤ 1
-  pub inside : line ≤ Size.lines
-  pub netlist : List ℕ
-  pub chained : Chained netlist gates first next
-  pub driven : Driven netlist gates driver
-  pub size : length awake ≡ Size.awakeWords
-
--- The tables, and the arrays beside them, of a role and a kind.
-pub record LinksFit (role kind : ℕ) (library netlist first next driver : List ℕ) (tied : List Bool) : Type 0 where
-  pub roleFits : role ≤ 1
-  pub kindFits : kind ≤ 1
-  pub tablesFit : TablesFit library netlist
-  pub linked : Linked role kind library netlist first next driver
-  pub few : getD netlist 0 0 ≤ Size.gates
-  pub noted : Tied library netlist (getD netlist 0 0) tied
-
--- The visits of one gate.
-pub record GateVisitsFit (role kind : ℕ) (library netlist first next driver : List ℕ) (tied : List Bool) (numbers awake : List ℕ) (gate : ℕ) : Type 0 where
-  pub linksFit : LinksFit role kind library netlist first next driver tied
-  pub inside : gate < getD netlist 0 0
-  pub size : length numbers ≡ Size.numbers
-  pub awakeSize : length awake ≡ Size.awakeWords
+use Rattle.sweep.specs.Waking.{Resting}
 
 -- A sweep.
 pub record SweepFits (role kind : ℕ) (library netlist first next driver : List ℕ) (tied : List Bool) (numbers awake : List ℕ) : Type 0 where

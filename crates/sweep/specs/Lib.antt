@@ -1,5 +1,4 @@
 pub mod Order
-pub mod Start
 pub mod Runs
 pub mod Waking
 pub mod Fits

@@ -1,36 +1,17 @@
 -- The visits of a sweep over the tables, in order. A role is a number, 0 setting and 1 observing, and a kind, 0 combinational
 -- and 1 sequential. `proofs/Bridge.antt` shows that at the tables of accepted cells and statements these are the visits of
 -- crate `calculation`. Assumes nothing.
-use mathlib.Core.List.{List, [], _∷_}
-use Prim.Native.Nat.{ℕ, _-_}
+use mathlib.Core.List.{List}
+use Prim.Native.Nat.{ℕ}
 use lib.ListN.{getD}
 use Rattle.plans.specs.System.{Visit}
-use Rattle.plans.specs.Sweep.{Rule, renew, lower}
 use Rattle.plans.specs.Idle.{inTurn}
-use Rattle.gates.specs.Tables.{byRole, gatePins, visitCount, gateVisit}
-
--- "each output number becomes the least row sum of its group"; "a line keeps the lesser of its number and the row sums"
-abbrev pub ruleOf : ℕ → Rule
-ruleOf role = byRole role renew lower
-
--- "visits the gates in netlist order"; "visit gates in reverse order"
-abbrev pub gateOfTurn : ℕ → ℕ → ℕ → ℕ
-gateOfTurn role gates turn = byRole role turn (gates - 1 - turn)
+use Rattle.visits.specs.Order.{turnVisits}
 
 module _ (role kind : ℕ) (library netlist : List ℕ) where
-  -- "for each the output's 0 before its 1", "pins in order": the first `count` of a gate's visits, and all.
-  abbrev pub firstVisits : ℕ → ℕ → List Visit
-  firstVisits g count = inTurn (λ i. gateVisit role kind library netlist g i ∷ []) count
-
-  abbrev pub gateVisits : ℕ → List Visit
-  gateVisits g = firstVisits g (visitCount role (gatePins library netlist g))
-
-  -- The visits of a turn, and of the gates of the first `count` turns.
-  abbrev pub turnVisits : ℕ → List Visit
-  turnVisits turn = gateVisits (gateOfTurn role (getD netlist 0 0) turn)
-
+  -- The visits of the gates of the first `count` turns.
   abbrev pub firstGates : ℕ → List Visit
-  firstGates count = inTurn (λ turn. turnVisits turn) count
+  firstGates count = inTurn (λ turn. turnVisits role kind library netlist turn) count
 
   -- One sweep over all gates.
   abbrev pub sweepVisits : List Visit

@@ -1,37 +1,16 @@
--- What the calls that visit, sweep and run leave in the numbers and say.
+-- What a run asks of its sweeps.
 -- Assumes nothing.
-use mathlib.Core.Bool.{Bool, false, not}
-use mathlib.Core.List.{List, List·Memᴰ}
+use mathlib.Core.Bool.{false}
+use mathlib.Core.List.{List}
 use mathlib.Core.Logic.{_↔_}
 use mathlib.Core.Path.{_≡_}
 use Prim.Native.Nat.{ℕ, _^_, _<_}
-use lib.Dec.{eqb}
-use lib.ListN.{set}
-use Rattle.plans.specs.System.{Way, Visit}
-use Rattle.plans.specs.Sweep.{at, Rule, sweep, Rests}
+use Rattle.plans.specs.System.{Visit}
+use Rattle.plans.specs.Sweep.{Rule, Rests}
 use Rattle.plans.specs.Statements.{SettlesWithin}
-use Rattle.calculation.specs.Changes.{alters, changes}
+use Rattle.calculation.specs.Changes.{changes}
 
--- In the numbers `xs` a number was stored at a place, which left `ys`, and it was said whether another stood there.
-pub record Stored (place number : ℕ) (xs ys : List ℕ) (changed : Bool) : Type 0 where
-  pub numbers : ys ≡ set xs place number
-  pub flag : changed ≡ not (eqb number (at xs place))
-
--- Where lines are observed, each way of a visit needs a node that has this number: its gate's output observed.
-abbrev pub Led : ℕ → ℕ → List ℕ → Visit → Type 0
-Led role number xs v = (role ≡ 0 → ⊥) → (o : ℕ) × (number ≡ at xs o) × ((w : Way) → List·Memᴰ w (v .ways) → List·Memᴰ o (w .needs))
-
--- From the numbers `xs`, a visit by this rule left `ys`, and said whether it changed a number.
-pub record Renewed (rule : Rule) (v : Visit) (xs ys : List ℕ) (changed : Bool) : Type 0 where
-  pub numbers : ys ≡ rule xs v
-  pub flag : changed ≡ alters rule v xs
-
--- The same of a sweep over these visits.
-pub record Swept (rule : Rule) (vs : List Visit) (xs ys : List ℕ) (changed : Bool) : Type 0 where
-  pub numbers : ys ≡ sweep rule vs xs
-  pub flag : changed ≡ changes rule vs xs
-
--- What a run asks: a sweep's flag tells whether it changed the numbers, and the sweeps settle, after so few that the count
+-- A sweep's flag tells whether it changed the numbers, and the sweeps settle, after so few that the count
 -- holds their number.
 pub record Runs (rule : Rule) (vs : List Visit) (xs : List ℕ) : Type 0 where
   pub flag : (ys : List ℕ) → (changes rule vs ys ≡ false) ↔ Rests rule vs ys

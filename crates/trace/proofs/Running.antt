@@ -23,9 +23,9 @@ use Rattle.gates.proofs.Bridge.{tables-fit}
 use Rattle.gates.specs.Fits.{TablesFit}
 use Rattle.sweep.specs.Order.{sweepVisits}
 use Rattle.sweep.specs.Ready.{Holds}
-use Rattle.sweep.specs.Start.{linesStart}
+use Rattle.starting.specs.Start.{linesStart}
 use Rattle.sweep.proofs.Bridge.{setting-sweep, start-is}
-use Rattle.sweep.proofs.Starting.{laid-length}
+use Rattle.starting.proofs.Starting.{laid-length}
 use Rattle.trace.specs.Lowered.{settingTrace}
 use Rattle.trace.specs.Marks.{NotedAs, AllNoted, Stands}
 use Rattle.trace.specs.Runs.{Traced}

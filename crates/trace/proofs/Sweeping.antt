@@ -13,7 +13,8 @@ use Rattle.plans.specs.Sweep.{lower}
 use Rattle.plans.specs.Idle.{inTurn}
 use Rattle.plans.specs.Trace.{Trace, traceSweep}
 use Rattle.gates.specs.Tables.{byRole, gatePins, gateVisit}
-use Rattle.sweep.specs.Order.{gateVisits, sweepVisits}
+use Rattle.visits.specs.Order.{gateVisits}
+use Rattle.sweep.specs.Order.{sweepVisits}
 use Rattle.trace.specs.Marks.{Stands}
 use Rattle.trace.specs.Runs.{turnVisit, Traced}
 use Rattle.trace.proofs.Tracing.{trace-append, trace-time}

@@ -18,8 +18,8 @@ use Rattle.plans.proofs.Laws.{at-getD}
 use Rattle.gates.specs.Tables.{readRow, gateCell, gatePins, gateLines, byRole, roleColumns, visitGroup, visitPlace, visitWired, groupVisit, gateVisit}
 use Rattle.gates.specs.Fits.{LinesFit, Gathered, GatherFits, GroupFits, GateFits, SumFits}
 use Rattle.gates.proofs.Gathering.{group-same, group-wider, read-narrow}
-use Rattle.sweep.proofs.Visits.{visit-is}
-use Rattle.sweep.proofs.Turning.{gather-first, rows-same}
+use Rattle.visits.proofs.Visits.{visit-is}
+use Rattle.visits.proofs.Turning.{gather-first, rows-same}
 use Rattle.trace.specs.declared.Least.{Least}
 use Rattle.trace.specs.Marks.{rowPlace, wayRow, gateRow, lastPin, writtenRow, askingRow, Stands}
 use Rattle.trace.specs.Runs.{LeastOf, Fits, turnVisit, Traced}

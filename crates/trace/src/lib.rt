@@ -18,7 +18,7 @@ use gates::visits::SETTING;
 use gates::visits::visit_group;
 use gates::visits::visit_place;
 use row_sums::kinds::wide;
-use sweep::start;
+use starting::start;
 use table::word;
 use wires::once;
 ghost use mathlib.Core.List.{List, [], _∷_};

@@ -1,15 +1,16 @@
 -- `one_sweep` goes from one awake turn to the next: the turns between are idle, so that with each turn all before it are done, and
 -- the turns that are asleep stay idle. Assumes nothing.
 use mathlib.Core.Path.{_≡_, _∙_, ap}
-use Prim.Native.Nat.{ℕ, _-_, _≤_, _<_}
+use Prim.Native.Nat.{ℕ, _-_, _<_}
 use native.Mathlib.Omega.{arith}
 use lib.ListN.{getD}
 use borrow.Author.Needs.{needs}
 use Rattle.plans.specs.Idle.{inTurn}
-use Rattle.sweep.specs.Order.{ruleOf, gateOfTurn, turnVisits, firstGates}
-use Rattle.sweep.specs.Runs.{Swept}
+use Rattle.visits.specs.Order.{ruleOf, gateOfTurn, turnVisits}
+use Rattle.visits.specs.Renewed.{Swept}
+use Rattle.visits.proofs.Visits.{swept-none, swept-length, next-turn, turn-inside}
+use Rattle.sweep.specs.Order.{firstGates}
 use Rattle.sweep.specs.Waking.{Resting}
-use Rattle.sweep.proofs.Visits.{swept-none, swept-length, next-turn, turn-inside}
 use Rattle.sweep.proofs.Waking.{come, skips, rests-on}
 use Rattle.sweep.proofs.one_sweep.Statement.{statement}
 use Rattle.sweep.proofs.one_sweep.Tie as tie

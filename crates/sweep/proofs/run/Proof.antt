@@ -6,9 +6,10 @@ use Prim.Native.Nat.{_-_, _^_}
 use native.Mathlib.Omega.{arith}
 use lib.ListN.{length}
 use Rattle.sizes.specs.Sizes as Size
-use Rattle.sweep.specs.Order.{ruleOf, sweepVisits}
+use Rattle.visits.specs.Order.{ruleOf}
+use Rattle.visits.proofs.Visits.{swept-length}
+use Rattle.sweep.specs.Order.{sweepVisits}
 use Rattle.sweep.specs.Waking.{Resting}
-use Rattle.sweep.proofs.Visits.{swept-length}
 use Rattle.sweep.proofs.Running.{Before, run-first, run-on, run-fits, run-ends}
 use Rattle.sweep.proofs.run.Statement.{statement}
 use Rattle.sweep.proofs.run.Tie as tie

@@ -7,7 +7,7 @@ use lib.ListN.{length, getD, length-replicate}
 use borrow.Author.Needs.{needs}
 use Rattle.sizes.specs.Sizes as Size
 use Rattle.sweep.proofs.Calculating.{room}
-use Rattle.sweep.proofs.Starting.{laid-length}
+use Rattle.starting.proofs.Starting.{laid-length}
 use Rattle.gates.specs.Fits.{Tied}
 use Rattle.trace.specs.Marks.{Stands}
 use Rattle.trace.proofs.Running.{after, begins, one-more, tables, few-gates, ends-all, ends-early}

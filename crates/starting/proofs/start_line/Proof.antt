@@ -1,0 +1,52 @@
+-- `start_line` stores the six numbers of a line, one behind the other. Assumes nothing.
+use borrow.Author.Needs.{needs}
+use Rattle.starting.proofs.Starting.{line-laid}
+use Rattle.starting.proofs.start_line.Statement.{statement}
+use Rattle.starting.proofs.start_line.Tie as tie
+
+abbrev first-laid : tie.After-first6 → tie.After-first
+first-laid c = c .before .before .before .before .before
+
+returns : tie.Need-returns
+returns c =
+    let f = first-laid c in
+    let a = f .before .before .before .before .args in
+    line-laid (a .netlist .now) (a .numbers .now) (a .line) (f .first .result) _ _ _ _ _
+    (f .first .ensures) (c .before .before .before .before .first2 .ensures) (c .before .before .before .first3 .ensures) (c .before .before .first4 .ensures) (c .before .first5 .ensures) (c .first6 .ensures)
+
+pub start-line-spec : {M : Type 1} → statement M
+start-line-spec =
+    tie.close
+    (tie.spec
+    (λ c. search needs)
+    (λ c. search needs)
+    (λ c. search needs)
+    (λ c. search needs)
+    (λ c. search needs)
+    (λ c. search needs)
+    (λ c. search needs)
+    (λ c. search needs)
+    (λ c κs. search needs)
+    (λ c. search needs)
+    (λ c. search needs)
+    (λ c κs. search needs)
+    (λ c. search needs)
+    (λ c. search needs)
+    (λ c. search needs)
+    (λ c κs. search needs)
+    (λ c. search needs)
+    (λ c. search needs)
+    (λ c. search needs)
+    (λ c κs. search needs)
+    (λ c. search needs)
+    (λ c. search needs)
+    (λ c. search needs)
+    (λ c κs. search needs)
+    (λ c. search needs)
+    (λ c. search needs)
+    (λ c. search needs)
+    (λ c κs. search needs)
+    (λ c. search needs)
+    (λ c. search needs)
+    (λ c. search needs)
+    returns)

@@ -1,0 +1,61 @@
+-- `visit` stores what the least row sum comes to by the role. Assumes nothing.
+use mathlib.Core.Path.{refl, _∙_}
+use Prim.Native.Nat.{_<_}
+use native.Mathlib.Omega.{arith}
+use lib.ListN.{length}
+use borrow.Author.Needs.{needs}
+use Rattle.gates.specs.Tables.{readRow, groupVisit}
+use Rattle.gates.proofs.Gathering.{group-same, read-narrow}
+use Rattle.visits.proofs.Visits.{visited, led-still}
+use Rattle.visits.proofs.visit.Statement.{statement}
+use Rattle.visits.proofs.visit.Tie as tie
+
+abbrev began : tie.After-lowest-already → tie.Start
+began c = c .before .before .before .before
+
+abbrev summed : tie.After-store → tie.After-least-of
+summed c = c .before .before .before .before .before
+
+abbrev renewed : tie.After-store → tie.After-renewal
+renewed c = c .before .before .before
+
+-- No sum can be below the number.
+returns : tie.Need-returns
+unfolding groupVisit
+returns c o led =
+    let s = began (c .before) in
+    let a = s .args in
+    let inside : a .place < length (a .numbers .now) = rw (s .pre .size) (s .pre .placeFits) in
+    led-still (a .role) (groupVisit (a .wired) (a .kind) (a .lines .now) (a .pins) (a .library .now) (a .group) (a .place)) (a .numbers .now) inside refl led (c .before .lowest-already .ensures (c .if1 .taken))
+
+returns-2 : tie.Need-returns-2
+unfolding groupVisit
+returns-2 c o led =
+    let s = began (summed c .before .before) in
+    let a = s .args in
+    let inside : a .place < length (a .numbers .now) = rw (s .pre .size) (s .pre .placeFits) in
+    let sum =
+    group-same (o .gathered) (readRow (a .wired) (a .lines .now) (a .pins)) (read-narrow (a .wired) (a .lines .now) (a .pins) (o .count) (o .wide))
+    (a .library .now) (a .group) (o .few) (o .groupFits) in
+    visited (groupVisit (a .wired) (a .kind) (a .lines .now) (a .pins) (a .library .now) (a .group) (a .place)) (a .numbers .now) inside (c .store .ensures) (a .role)
+    (c .before .number-of .ensures ∙ renewed c .renewal .ensures ∙ rw (summed c .least-of .ensures, sum))
+
+pub visit-spec : {M : Type 1} → statement M
+visit-spec =
+    tie.close
+    (tie.spec
+    (λ c. search needs)
+    (λ c. search needs)
+    (λ c. omega (arith, c .before .before .pre .pinsFit))
+    (λ c. omega (arith, c .before .before .pre .pinsFit))
+    (λ c. omega (arith, c .before .before .pre .pinsFit))
+    (λ c. omega (arith, c .before .before .pre .pinsFit))
+    (λ c κs. search needs)
+    returns
+    (λ c κs. let p = began (c .before) .pre in (p .pinsFit, p .sumFits))
+    (λ c. search needs)
+    (λ c. search needs)
+    (λ c κs. search needs)
+    (λ c κs. search needs)
+    (λ c κs. search needs)
+    returns-2)

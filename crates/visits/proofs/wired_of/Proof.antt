@@ -1,0 +1,15 @@
+-- `wired_of` goes by the role. Assumes nothing.
+use mathlib.Core.Path.{sym}
+use native.Mathlib.Omega.{arith}
+use borrow.Author.Needs.{needs}
+use Rattle.gates.proofs.Roles.{role-set, role-observed}
+use Rattle.visits.proofs.wired_of.Statement.{statement}
+use Rattle.visits.proofs.wired_of.Tie as tie
+
+pub wired-of-spec : {M : Type 1} → statement M
+wired-of-spec =
+    tie.close
+    (tie.spec
+    (λ c. search needs)
+    (λ c. sym (role-set _ _ _ (omega (arith, c .before .if1 .taken))))
+    (λ c. sym (role-observed _ _ _ (λ h. absurd (omega (arith, h, c .if1 .left))))))

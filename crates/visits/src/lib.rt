@@ -1,0 +1,224 @@
+// One gate's turn in a sweep, document 01, "Sweeps": the visits of the gate, each of which renews one
+// number, and the gates that a changed number wakes.
+//
+// For the crates above: `visit_gate`, with what it asks of the tables (specs/Fits.antt), since the loop of
+// the sweeps tests no bounds; and `either`, of two answers whether a number changed.
+//
+// All goes by a role's number, 0 setting (CC, SC) and 1 observing (CO, SO), and by a kind's number,
+// 0 combinational (CC, CO) and 1 sequential (SC, SO).
+use awake::wake_driver;
+use awake::wake_readers;
+use cost::NEVER;
+use gates::cell_place;
+use gates::gather::column_costs;
+use gates::least_of;
+use gates::lines_of;
+use gates::visits::SETTING;
+use gates::visits::visit_count;
+use gates::visits::visit_group;
+use gates::visits::visit_place;
+use row_sums::Sum;
+use row_sums::kinds::wide;
+use row_sums::lesser_of;
+use row_sums::number_of;
+ghost use mathlib.Core.Path.{_≡_};
+ghost use mathlib.Core.Bool.{true, false, _||_};
+ghost use mathlib.Core.List.{List};
+ghost use Prim.Native.Nat.{ℕ, _+_, _*_, _≤_, _<_};
+ghost use lib.ListN.{length, getD};
+ghost use Rattle.sizes.specs.Sizes as Size;
+ghost use Rattle.cost.specs.Cost.{never, lesser};
+ghost use Rattle.row_sums.specs.Sums.{sumNumber};
+ghost use Rattle.gates.specs.Tables.{byRole, groupVisit};
+ghost use Rattle.awake.specs.Lines.{Chained, Driven};
+ghost use Rattle.visits.specs.Fits.{VisitFits, CostsOf, WakeFits, GateVisitsFit};
+ghost use Rattle.visits.specs.Order.{ruleOf, gateVisits};
+ghost use Rattle.visits.specs.Renewed.{Stored, Led, Renewed, Swept};
+ghost use Rattle.visits.specs.Waking.{visitLine, LineWoken, ChangesWoken, DrivenOnce};
+
+pub fn either(a: bool, b: bool) -> bool
+    ensures { λ r. ⌜ r ≡ (a || b) ⌝ }
+{
+    if a { true } else { b }
+}
+
+// Stores a number, and says whether another stood there.
+fn store(numbers: &mut [u32; sizes::NUMBERS], place: usize, number: u32) -> bool
+    requires { ⌜ (place < Size.numbers) × (length (now numbers) ≡ Size.numbers) ⌝ }
+    ensures { λ r. ⌜ Stored place number (now (numbers .entry)) (now (numbers .exit)) r ⌝ }
+{
+    if numbers[place] == number {
+        return false;
+    }
+    numbers[place] = number;
+    true
+}
+
+// What a number is renewed to: it "becomes the least row sum of its group" where lines are set, and
+// "keeps the lesser of its number and the row sums" where they are observed.
+fn renewal(role: usize, number: u32, sum: Sum) -> Sum
+    ensures { λ r. ⌜ sumNumber r ≡ byRole role (sumNumber sum) (lesser number (sumNumber sum)) ⌝ }
+{
+    if role == SETTING {
+        sum
+    } else {
+        lesser_of(number, sum)
+    }
+}
+
+// Whether no row sum is below a number: where lines are observed, the cost of the gate's output observed
+// is a term of each.
+fn lowest_already(role: usize, number: u32, observed: u32) -> bool
+    ensures { λ r. ⌜ (r ≡ true → (role ≡ 0 → ⊥) × (number ≤ observed) × (number ≤ never)) ⌝ }
+{
+    if role == SETTING {
+        return false;
+    }
+    if NEVER < number {
+        return false;
+    }
+    if number <= observed {
+        return true;
+    }
+    false
+}
+
+// Renews the number at a place by the row sums of a group, over the costs of its columns; whether it
+// changed. Sums that cannot be below the number are not taken.
+fn visit(
+    role: usize,
+    kind: usize,
+    library: &[u32],
+    group: usize,
+    wired: bool,
+    lines: &[u32; sizes::GATE_LINES],
+    costs: &[u32; sizes::COLUMNS],
+    numbers: &mut [u32; sizes::NUMBERS],
+    place: usize,
+    pins: usize,
+) -> bool
+    requires { ⌜ VisitFits kind (now library) group (now costs) (now numbers) place pins ⌝ }
+    ensures { λ r.
+        ⌜ (CostsOf kind (now (library .entry)) group (now (lines .entry)) pins
+        (now (numbers .entry)) (now (costs .entry))
+        → Led role (getD (now (costs .entry)) (2 * pins + 2) 0) (now (numbers .entry))
+        (groupVisit wired kind (now (lines .entry)) pins (now (library .entry)) group place)
+        → Renewed (ruleOf role)
+        (groupVisit wired kind (now (lines .entry)) pins (now (library .entry)) group place)
+        (now (numbers .entry)) (now (numbers .exit)) r) ⌝ }
+{
+    if lowest_already(role, numbers[place], costs[2 * pins + 2]) {
+        return false;
+    }
+    let least = least_of(wired, kind, library, group, lines, pins, costs);
+    let sum = renewal(role, numbers[place], least);
+    store(numbers, place, number_of(sum))
+}
+
+// The line whose number a visit renews.
+fn visit_line(role: usize, lines: &[u32; sizes::GATE_LINES], i: usize) -> u32
+    requires { ⌜ i < Size.pins ⌝ }
+    ensures { λ r. ⌜ r ≡ visitLine role (now (lines .entry)) i ⌝ }
+{
+    if role == SETTING {
+        lines[0]
+    } else {
+        lines[i + 1]
+    }
+}
+
+// Where a number of a line changed, wakes the gates that need it: where lines are set those that read
+// the line, where they are observed the one that drives it.
+fn wake_needing(
+    role: usize,
+    changed: bool,
+    line: u32,
+    gates: usize,
+    first: &[u16; sizes::LINE_PLACES],
+    next: &[u16; sizes::PIN_PLACES],
+    driver: &[u16; sizes::LINE_PLACES],
+    awake: &mut [u64; sizes::AWAKE_WORDS],
+)
+    requires { ⌜ WakeFits role line gates (now first) (now next) (now driver) (now awake) ⌝ }
+    ensures { λ _.
+        ⌜ ((netlist : List ℕ) → Chained netlist gates (now (first .entry)) (now (next .entry))
+        → Driven netlist gates (now (driver .entry)) → DrivenOnce netlist gates
+        → LineWoken role netlist gates line changed (now (awake .entry)) (now (awake .exit))) ⌝ }
+{
+    if !changed {
+        return;
+    }
+    if role == SETTING {
+        wake_readers(awake, first, next, wide(line));
+    } else {
+        wake_driver(awake, driver, gates, wide(line));
+    }
+}
+
+// Whether the rows of a gate's visits are read as those of one wire, by what was noted of the gate.
+fn wired_of(role: usize, tied: &[bool; sizes::GATES], gate: usize) -> bool
+    requires { ⌜ gate < Size.gates ⌝ }
+    ensures { λ r. ⌜ r ≡ byRole role (getD (now (tied .entry)) gate false) false ⌝ }
+{
+    if role == SETTING { tied[gate] } else { false }
+}
+
+// A gate's visits, "the output's 0 before its 1" or "pins in order"; whether a number changed. The costs
+// of its columns are gathered once, and again after a visit that changed a number: the output's 1 sees
+// its 0, and a pin may read the gate's own line.
+pub fn visit_gate(
+    role: usize,
+    kind: usize,
+    library: &[u32],
+    netlist: &[u32],
+    first: &[u16; sizes::LINE_PLACES],
+    next: &[u16; sizes::PIN_PLACES],
+    driver: &[u16; sizes::LINE_PLACES],
+    tied: &[bool; sizes::GATES],
+    numbers: &mut [u32; sizes::NUMBERS],
+    awake: &mut [u64; sizes::AWAKE_WORDS],
+    gate: usize,
+) -> bool
+    requires { ⌜ GateVisitsFit role kind (now library) (now netlist) (now first) (now next) (now driver)
+        (now tied) (now numbers) (now awake) gate ⌝ }
+    ensures swept { λ r.
+        ⌜ Swept (ruleOf role)
+        (gateVisits role kind (now (library .entry)) (now (netlist .entry)) gate)
+        (now (numbers .entry)) (now (numbers .exit)) r ⌝ }
+    ensures wakes { λ _.
+        ⌜ ChangesWoken role kind (now (library .entry)) (now (netlist .entry)) (now (awake .entry))
+        (now (numbers .entry)) (now (awake .exit)) (now (numbers .exit)) ⌝ }
+{
+    let gates = wide(netlist[0]);
+    let cell = cell_place(netlist, gate);
+    let pins = wide(library[cell + sizes::PINS_AT]);
+    let lines = lines_of(netlist, gate);
+    let count = visit_count(role, pins);
+    let wired = wired_of(role, tied, gate);
+    let mut costs = [0u32; sizes::COLUMNS];
+    let mut stale = true;
+    let mut changed = false;
+    let mut i = 0;
+    while i < count {
+        column_costs(stale, role, kind, &lines, pins, numbers, &mut costs);
+        let group = cell + sizes::GROUPS_AT + visit_group(role, kind, i) * sizes::GROUP_WORDS;
+        let place = visit_place(role, kind, &lines, pins, i);
+        stale = visit(
+            role,
+            kind,
+            library,
+            group,
+            wired,
+            &lines,
+            &costs,
+            numbers,
+            place,
+            pins,
+        );
+        let line = visit_line(role, &lines, i);
+        wake_needing(role, stale, line, gates, first, next, driver, awake);
+        changed = either(changed, stale);
+        i += 1;
+    }
+    changed
+}
