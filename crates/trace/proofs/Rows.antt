@@ -1,7 +1,7 @@
 -- The first of the rows that come to the least sum, the rows taken from the last to the first, and the same over the costs of
 -- the columns and over the numbers.
 -- Assumes nothing.
-use mathlib.Core.Bool.{true, false}
+use mathlib.Core.Bool.{Bool, true, false}
 use mathlib.Core.List.{List, []}
 use mathlib.Core.Option.{Option, none, some}
 use mathlib.Core.Path.{_≡_, refl, sym, ap, _∙_}
@@ -23,8 +23,9 @@ use Rattle.gates.specs.Tables.{rowPlaces, hasWay, withWay, rowWays, groupColumn
 use Rattle.gates.specs.Fits.{Gathered, GroupFits}
 use Rattle.gates.specs.Sums.{lesserRow}
 use Rattle.gates.proofs.Gathering.{row-same, rows-same}
-use Rattle.gates.proofs.Rows.{leastFrom, rows-more}
+use Rattle.gates.proofs.Rows.{leastFrom, rows-none, rows-more, rows-all}
 use Rattle.trace.specs.Marks.{stepRow, wayRow}
+use Rattle.trace.specs.Runs.{LeastOf}
 
 -- ---- one row before others
 
@@ -67,7 +68,7 @@ module _ (read : ℕ → Option ℕ) (library costs : List ℕ) (group : ℕ) wh
   rowsFrom row = rowWays read namedColumns library (getD library group 0 - row) (group + 1 + Size.rowWords * row)
 
   -- The first of the rows from `row` on that come to the least of their sums.
-  abbrev pub firstFrom : ℕ → ℕ
+  abbrev firstFrom : ℕ → ℕ
   firstFrom row = row + wayRow read library (getD library group 0 - row) (group + 1 + Size.rowWords * row) (firstPlace costs (rowsFrom row))
 
   module _ (row : ℕ) (some : 0 < row) (within : row ≤ getD library group 0) (fit : GroupFits library group Size.columns) where
@@ -86,13 +87,13 @@ module _ (read : ℕ → Option ℕ) (library costs : List ℕ) (group : ℕ) wh
     deep : getD library place 0 ≤ over
     deep = fit .depth (row - 1) (omega arith)
 
-    pub first-here : sum ≤ leastFrom read library costs group row → hasWay (read (getD library (place + 1) 0)) ≡ true → row - 1 ≡ firstFrom (row - 1)
+    first-here : sum ≤ leastFrom read library costs group row → hasWay (read (getD library (place + 1) 0)) ≡ true → row - 1 ≡ firstFrom (row - 1)
     unfolding rowWays wayRow
     first-here h b =
         let e = here costs (getD library place 0) deep (read (getD library (place + 1) 0)) (rowsFrom row) (wayRow read library (getD library group 0 - row) (group + 1 + Size.rowWords * row)) b h in
         rw (more, next) (omega (arith, e))
 
-    pub first-later : leastFrom read library costs group row < sum → firstFrom row ≡ firstFrom (row - 1)
+    first-later : leastFrom read library costs group row < sum → firstFrom row ≡ firstFrom (row - 1)
     unfolding rowWays wayRow
     first-later h =
         let e = later costs (getD library place 0) deep (read (getD library (place + 1) 0)) (rowsFrom row) (wayRow read library (getD library group 0 - row) (group + 1 + Size.rowWords * row)) h in
@@ -103,35 +104,89 @@ module _ (read : ℕ → Option ℕ) (library costs : List ℕ) (group : ℕ) wh
         sym (joined costs (getD library place 0) deep (read (getD library (place + 1) 0)) (leastFrom read library costs group row) (least-bound costs (rowsFrom row)))
         ∙ rows-more read library costs group row Size.columns some within fit
 
-    pub least-here : sum ≤ leastFrom read library costs group row → sum ≡ leastFrom read library costs group (row - 1)
+    least-here : sum ≤ leastFrom read library costs group row → sum ≡ leastFrom read library costs group (row - 1)
     unfolding lesser counted
     least-here h = omega (arith, lesser-is, least-bound costs (rowsFrom row))
 
-    pub least-later : leastFrom read library costs group row < sum → leastFrom read library costs group row ≡ leastFrom read library costs group (row - 1)
+    least-later : leastFrom read library costs group row < sum → leastFrom read library costs group row ≡ leastFrom read library costs group (row - 1)
     unfolding lesser counted
     least-later h = omega (arith, lesser-is, least-bound costs (rowsFrom row))
 
     -- A row that is no way is passed over.
-    pub first-past : hasWay (read (getD library (place + 1) 0)) ≡ false → firstFrom row ≡ firstFrom (row - 1)
+    first-past : hasWay (read (getD library (place + 1) 0)) ≡ false → firstFrom row ≡ firstFrom (row - 1)
     unfolding rowWays wayRow
     first-past b =
         let e = past costs (getD library place 0) deep (read (getD library (place + 1) 0)) (rowsFrom row) (wayRow read library (getD library group 0 - row) (group + 1 + Size.rowWords * row)) b in
         rw (more, next) (omega (arith, e))
 
-    pub least-past : hasWay (read (getD library (place + 1) 0)) ≡ false → leastFrom read library costs group row ≡ leastFrom read library costs group (row - 1)
+    least-past : hasWay (read (getD library (place + 1) 0)) ≡ false → leastFrom read library costs group row ≡ leastFrom read library costs group (row - 1)
     least-past b = sym (unread costs (getD library place 0) deep (read (getD library (place + 1) 0)) (leastFrom read library costs group row) b) ∙ rows-more read library costs group row Size.columns some within fit
 
-  pub first-none : (row : ℕ) → row ≡ getD library group 0 → row ≡ firstFrom row
+  first-none : (row : ℕ) → row ≡ getD library group 0 → row ≡ firstFrom row
   unfolding wayRow
   first-none row h = let e : getD library group 0 - row ≡ 0 = omega arith in rw e (omega arith)
 
-  pub first-all : (row : ℕ) → row ≤ 0 → firstFrom row ≡ wayRow read library (getD library group 0) (group + 1) (firstPlace costs (groupColumns read library group))
+  first-all : (row : ℕ) → row ≤ 0 → firstFrom row ≡ wayRow read library (getD library group 0) (group + 1) (firstPlace costs (groupColumns read library group))
   unfolding groupWays
   first-all row h =
       let e : row ≡ 0 = omega arith in
       let n : getD library group 0 - 0 ≡ getD library group 0 = omega arith in
       let m : group + 1 + Size.rowWords * 0 ≡ group + 1 = omega arith in
       rw (e, n, m) (omega arith)
+
+-- ---- what is kept of the rows from `row` on
+
+pub record Kept (read : ℕ → Option ℕ) (library costs : List ℕ) (group row number first : ℕ) : Type 0 where
+  pub within : row ≤ getD library group 0
+  pub few : first ≤ getD library group 0
+  pub numberIs : number ≡ leastFrom read library costs group row
+  pub firstIs : first ≡ firstFrom read library costs group row
+
+module _ {read : ℕ → Option ℕ} {library costs : List ℕ} {group : ℕ} where
+  pub kept-none : {row : ℕ} → row ≡ getD library group 0 → Kept read library costs group row never row
+  kept-none {row} e =
+      record { within = omega (arith, e); few = omega (arith, e); numberIs = rows-none read library costs group row e; firstIs = first-none read library costs group row e }
+
+  module _ {row number first : ℕ} (k : Kept read library costs group row number first) (b : 0 < row) (fit : GroupFits library group Size.columns) where
+    abbrev rowAt : ℕ
+    rowAt = group + 1 + Size.rowWords * (row - 1)
+
+    abbrev comesTo : ℕ
+    comesTo = lesserRow costs (getD library rowAt 0) (read (getD library (rowAt + 1) 0)) never
+
+    pub kept-here : {way : Bool} {n : ℕ} → way ≡ hasWay (read (getD library (rowAt + 1) 0)) → way ≡ true → n ≡ comesTo → n ≤ number
+        → Kept read library costs group (row - 1) n (row - 1)
+    kept-here w t e h =
+        let l = rw (e, k .numberIs) at h in
+        record {
+          within = omega (arith, k .within);
+          few = omega (arith, k .within);
+          numberIs = e ∙ least-here read library costs group row b (k .within) fit l;
+          firstIs = first-here read library costs group row b (k .within) fit l (sym w ∙ t);
+        }
+
+    pub kept-later : {n : ℕ} → n ≡ comesTo → number < n → Kept read library costs group (row - 1) number first
+    kept-later e h =
+        let l = rw (e, k .numberIs) at h in
+        record {
+          within = omega (arith, k .within);
+          few = k .few;
+          numberIs = k .numberIs ∙ least-later read library costs group row b (k .within) fit l;
+          firstIs = k .firstIs ∙ first-later read library costs group row b (k .within) fit l;
+        }
+
+    pub kept-past : {way : Bool} → way ≡ hasWay (read (getD library (rowAt + 1) 0)) → way ≡ false → Kept read library costs group (row - 1) number first
+    kept-past w t =
+        record {
+          within = omega (arith, k .within);
+          few = k .few;
+          numberIs = k .numberIs ∙ least-past read library costs group row b (k .within) fit (sym w ∙ t);
+          firstIs = k .firstIs ∙ first-past read library costs group row b (k .within) fit (sym w ∙ t);
+        }
+
+  pub kept-all : {row number first : ℕ} → row ≤ 0 → Kept read library costs group row number first → LeastOf read library group costs (record { number = number; row = first })
+  kept-all {row} h k =
+      record { number = k .numberIs ∙ rows-all read library costs group row h; row = k .firstIs ∙ first-all read library costs group row h; few = k .few }
 
 -- ---- the same over the numbers
 
