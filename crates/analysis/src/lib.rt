@@ -4,27 +4,33 @@
 // It has no condition on its input. What it promises is in crate `outcome`: specs/Outcome.antt has its
 // answer and what it leaves in lent memory, specs/Demands.antt the three demands. The published sizes
 // of the tables are `sizes::LIBRARY`, `sizes::NETLIST` and `sizes::NUMBERS`. For the crates above:
-// `read_netlist`, between `outcome::begin` and `outcome::finish`.
+// `read_netlist`, between `outcome::begin` and `outcome::finish`, and `analyse_into`, which does not clear a table
+// that is zero.
 use netlist::Rules;
 use outcome::Answer;
 use outcome::Progress;
 use outcome::begin;
 use outcome::finish;
 use reading::Verdict;
+ghost use mathlib.Core.Path.{_≡_};
+ghost use Rattle.sizes.specs.Sizes as Size;
+ghost use Rattle.table.specs.Blocks.{cleared};
 ghost use Rattle.analysis.specs.Netlist.{TextRead};
 ghost use Rattle.outcome.specs.Answer.{answerRead, lentOf};
 ghost use Rattle.outcome.specs.Demands.{Promised};
 ghost use Rattle.outcome.specs.Outcome.{givenTexts};
 
-// Reads the netlist text by the rules named, against the cells of the library table. Nothing happens once a
-// refusal stands.
+// Reads the netlist text by the rules named, against the cells of the library table, into a table that may have other
+// numbers than 0 in its first `used` places, and past its published size. Nothing happens once a refusal stands.
 pub fn read_netlist(
     rules: Rules,
     net: &[u8],
     library: &[u32],
     netlist: &mut [u32],
     begun: Progress,
+    used: usize,
 ) -> Progress
+    requires { ⌜ cleared used (now netlist) ≡ cleared Size.netlist (now netlist) ⌝ }
     ensures { λ r. ⌜ TextRead rules (now (net .entry)) (now (library .entry)) (now (netlist .entry)) begun
         (now (netlist .exit)) r ⌝ }
 {
@@ -32,13 +38,44 @@ pub fn read_netlist(
         Progress::AtEntry(_) => begun,
         Progress::Later(_) => begun,
         Progress::Unrefused => {
-            let statements = netlist_text::read_netlist(rules, net, library, netlist);
+            let statements = netlist_text::read_netlist_into(rules, net, library, netlist, used);
             match statements {
                 Verdict::Refused(r) => Progress::Later(r),
                 Verdict::Accepted => Progress::Unrefused,
             }
         }
     }
+}
+
+// As `analyse`, where the library table may have other numbers than 0 in its first `library_used` places, the netlist
+// table in its first `netlist_used`, and each past its published size.
+pub fn analyse_into(
+    lib: &[u8],
+    net: &[u8],
+    library: &mut [u32],
+    netlist: &mut [u32],
+    numbers: &mut [u32],
+    report: &mut [u8],
+    library_used: usize,
+    netlist_used: usize,
+) -> Answer
+    requires { ⌜ (cleared «library_used» (now library) ≡ cleared Size.library (now library))
+        × (cleared «netlist_used» (now netlist) ≡ cleared Size.netlist (now netlist)) ⌝ }
+    ensures { λ r. ⌜ Promised (givenTexts (now (lib .entry)) (now (net .entry)))
+        (lentOf (now (library .entry)) (now (netlist .entry)) (now (numbers .entry)) (now (report .entry)))
+        (lentOf (now (library .exit)) (now (netlist .exit)) (now (numbers .exit)) (now (report .exit)))
+        (answerRead r) ⌝ }
+{
+    let begun = begin(
+        lib,
+        net.len(),
+        library,
+        netlist.len(),
+        numbers.len(),
+        library_used,
+    );
+    let progress = read_netlist(Rules::New, net, library, netlist, begun, netlist_used);
+    finish(library, netlist, numbers, report, progress)
 }
 
 // Analyses a library and a netlist. Entry refusals leave all that was lent untouched, later ones
@@ -56,7 +93,14 @@ pub fn analyse(
         (lentOf (now (library .exit)) (now (netlist .exit)) (now (numbers .exit)) (now (report .exit)))
         (answerRead r) ⌝ }
 {
-    let begun = begin(lib, net.len(), library, netlist.len(), numbers.len());
-    let progress = read_netlist(Rules::New, net, library, netlist, begun);
-    finish(library, netlist, numbers, report, progress)
+    analyse_into(
+        lib,
+        net,
+        library,
+        netlist,
+        numbers,
+        report,
+        sizes::LIBRARY,
+        sizes::NETLIST,
+    )
 }

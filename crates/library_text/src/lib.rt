@@ -1,11 +1,12 @@
 // The library text read into the library table.
 //
-// Open to others, for every input: `read_library`.
+// Open to others, for every input: `read_library`. For the crates above: `read_library_into`.
 ghost use mathlib.Core.Path.{_≡_};
 ghost use Prim.Native.Nat.{_≤_};
 ghost use lib.ListN.{length};
 ghost use Rattle.sizes.specs.Sizes as Size;
 ghost use Rattle.reading.specs.Verdict.{verdictRead, doneRead};
+ghost use Rattle.table.specs.Blocks.{cleared};
 ghost use Rattle.library_text.specs.Entry.{readLibrary, libraryLeft};
 ghost use Rattle.cell_library.specs.Library.{library};
 ghost use Rattle.cell_library.specs.Layout.{libraryAfter};
@@ -19,12 +20,13 @@ use reading::Verdict;
 use table::clear;
 
 // Reads a library text into a table of the published size. Where the text is refused, the whole table is 0.
-fn fill(text: &[u8], table: &mut [u32]) -> Verdict
-    requires { ⌜ (length (now text) ≤ Size.textBytes) × (Size.library ≤ length (now table)) ⌝ }
+fn fill(text: &[u8], table: &mut [u32], used: usize) -> Verdict
+    requires { ⌜ (length (now text) ≤ Size.textBytes) × (Size.library ≤ length (now table))
+        × (cleared used (now table) ≡ cleared Size.library (now table)) ⌝ }
     ensures answered { λ r. ⌜ verdictRead r ≡ doneRead (library (now (text .entry))) ⌝ }
     ensures leaves { λ _. ⌜ now (table .exit) ≡ libraryAfter (library (now (text .entry))) (now (table .entry)) ⌝ }
 {
-    clear(table, sizes::LIBRARY);
+    clear(table, used);
     let answer = read_lines(text, table);
     match answer {
         Verdict::Accepted => answer,
@@ -36,8 +38,9 @@ fn fill(text: &[u8], table: &mut [u32]) -> Verdict
     }
 }
 
-// Reads a library text into a table. Refusals 1 and 2, at line 0, leave the table as it was; any other leaves it all 0.
-pub fn read_library(text: &[u8], table: &mut [u32]) -> Verdict
+// As `read_library`, into a table that may have other numbers than 0 in its first `used` places, and past its published size.
+pub fn read_library_into(text: &[u8], table: &mut [u32], used: usize) -> Verdict
+    requires { ⌜ cleared used (now table) ≡ cleared Size.library (now table) ⌝ }
     ensures answered { λ r.
         ⌜ verdictRead r ≡ doneRead (readLibrary (now (text .entry)) (length (now (table .entry)))) ⌝ }
     ensures leaves { λ _. ⌜ now (table .exit) ≡ libraryLeft (now (text .entry)) (now (table .entry)) ⌝ }
@@ -54,5 +57,14 @@ pub fn read_library(text: &[u8], table: &mut [u32]) -> Verdict
             line: 0,
         });
     }
-    fill(text, table)
+    fill(text, table, used)
+}
+
+// Reads a library text into a table. Refusals 1 and 2, at line 0, leave the table as it was; any other leaves it all 0.
+pub fn read_library(text: &[u8], table: &mut [u32]) -> Verdict
+    ensures answered { λ r.
+        ⌜ verdictRead r ≡ doneRead (readLibrary (now (text .entry)) (length (now (table .entry)))) ⌝ }
+    ensures leaves { λ _. ⌜ now (table .exit) ≡ libraryLeft (now (text .entry)) (now (table .entry)) ⌝ }
+{
+    read_library_into(text, table, sizes::LIBRARY)
 }

@@ -1,13 +1,14 @@
 // The netlist text, read into the netlist table: its lines one after the other, each a statement that `netlist::admit` checks
 // and stores, and behind them refusal 20.
 //
-// Open to others: `read_netlist`, which has no condition on its input.
+// Open to others: `read_netlist`, which has no condition on its input. For the crates above: `read_netlist_into`.
 ghost use mathlib.Core.Path.{_≡_};
 ghost use mathlib.Core.Bool.{true, false};
 ghost use mathlib.Core.List.{List};
 ghost use Prim.Native.Nat.{_≤_};
 ghost use lib.ListN.{length, replicate};
 ghost use Rattle.sizes.specs.Sizes as Size;
+ghost use Rattle.table.specs.Blocks.{cleared};
 ghost use Rattle.text.specs.Lines.{fields, fieldsFrom};
 ghost use Rattle.reading.specs.Refusal.{refused};
 ghost use Rattle.reading.specs.Verdict.{verdictRead};
@@ -215,12 +216,13 @@ fn refusal(table: &mut [u32], number: u32, line: usize) -> Verdict
 }
 
 // Reads the lines of a text against the cells of a library table.
-fn read_lines(rules: Rules, text: &[u8], library: &[u32], table: &mut [u32]) -> Verdict
-    requires { ⌜ (length (now text) ≤ Size.textBytes) × (Size.netlist ≤ length (now table)) ⌝ }
+fn read_lines(rules: Rules, text: &[u8], library: &[u32], table: &mut [u32], used: usize) -> Verdict
+    requires { ⌜ (length (now text) ≤ Size.textBytes) × (Size.netlist ≤ length (now table))
+        × (cleared used (now table) ≡ cleared Size.netlist (now table)) ⌝ }
     ensures { λ r. ⌜ ((cells : List Cell) → LibraryHolds (now (library .entry)) cells
         → ReadsAs (textStatements rules cells (now (text .entry))) (now (table .entry)) r (now (table .exit))) ⌝ }
 {
-    clear(table, sizes::NETLIST);
+    clear(table, used);
     let n = text.len();
     let mut at = 0;
     let mut number: usize = 1;
@@ -253,12 +255,13 @@ fn declare(rules: Rules, table: &mut [u32]) -> Verdict
 }
 
 // The lines of a text, and what comes behind them.
-fn read_all(rules: Rules, text: &[u8], library: &[u32], table: &mut [u32]) -> Verdict
-    requires { ⌜ (length (now text) ≤ Size.textBytes) × (Size.netlist ≤ length (now table)) ⌝ }
+fn read_all(rules: Rules, text: &[u8], library: &[u32], table: &mut [u32], used: usize) -> Verdict
+    requires { ⌜ (length (now text) ≤ Size.textBytes) × (Size.netlist ≤ length (now table))
+        × (cleared used (now table) ≡ cleared Size.netlist (now table)) ⌝ }
     ensures { λ r. ⌜ ((cells : List Cell) → LibraryHolds (now (library .entry)) cells
         → ReadsAs (netlist rules cells (now (text .entry))) (now (table .entry)) r (now (table .exit))) ⌝ }
 {
-    let lines = read_lines(rules, text, library, table);
+    let lines = read_lines(rules, text, library, table, used);
     match lines {
         Verdict::Refused(_) => lines,
         Verdict::Accepted => declare(rules, table),
@@ -286,15 +289,30 @@ fn entry(text: usize, library: usize, table: usize) -> Verdict
     Verdict::Accepted
 }
 
-// Reads a netlist text against the cells of a library table, into a table. A refusal at entry leaves the
-// table as it was, a later one leaves it zero.
-pub fn read_netlist(rules: Rules, text: &[u8], library: &[u32], table: &mut [u32]) -> Verdict
+// As `read_netlist`, into a table that may have other numbers than 0 in its first `used` places, and past its published size.
+pub fn read_netlist_into(
+    rules: Rules,
+    text: &[u8],
+    library: &[u32],
+    table: &mut [u32],
+    used: usize,
+) -> Verdict
+    requires { ⌜ cleared used (now table) ≡ cleared Size.netlist (now table) ⌝ }
     ensures { λ r. ⌜ ReadsNetlist rules (now (text .entry)) (now (library .entry)) (now (table .entry)) r
         (now (table .exit)) ⌝ }
 {
     let entered = entry(text.len(), library.len(), table.len());
     match entered {
         Verdict::Refused(_) => entered,
-        Verdict::Accepted => read_all(rules, text, library, table),
+        Verdict::Accepted => read_all(rules, text, library, table, used),
     }
+}
+
+// Reads a netlist text against the cells of a library table, into a table. A refusal at entry leaves the
+// table as it was, a later one leaves it zero.
+pub fn read_netlist(rules: Rules, text: &[u8], library: &[u32], table: &mut [u32]) -> Verdict
+    ensures { λ r. ⌜ ReadsNetlist rules (now (text .entry)) (now (library .entry)) (now (table .entry)) r
+        (now (table .exit)) ⌝ }
+{
+    read_netlist_into(rules, text, library, table, sizes::NETLIST)
 }

@@ -66,14 +66,21 @@ fn put_declared(copy: &mut [u8], net: &[u8], netlist: &[u32]) -> usize
     put_opens(copy, at, netlist)
 }
 
-// What `scoap_open` prints of a library and a netlist: the copy, or the refusal. Its tables are its own.
+// What `scoap_open` prints of a library and a netlist: the copy, or the refusal. Its tables are its own, and zero.
 pub fn put_copy(lib: &[u8], net: &[u8], copy: &mut [u8; COPY_BYTES]) -> usize
     ensures { λ r. ⌜ Copied (now (lib .entry)) (now (net .entry)) (now (copy .entry)) (now (copy .exit)) r ⌝ }
 {
     let mut library = [0u32; sizes::LIBRARY];
     let mut netlist = [0u32; sizes::NETLIST];
-    let begun = outcome::begin(lib, net.len(), &mut library, sizes::NETLIST, sizes::NUMBERS);
-    let progress = analysis::read_netlist(Rules::Old, net, &library, &mut netlist, begun);
+    let begun = outcome::begin(
+        lib,
+        net.len(),
+        &mut library,
+        sizes::NETLIST,
+        sizes::NUMBERS,
+        0,
+    );
+    let progress = analysis::read_netlist(Rules::Old, net, &library, &mut netlist, begun, 0);
     match progress {
         Progress::AtEntry(r) => writer::put_refusal(copy, 0, r),
         Progress::Later(r) => writer::put_refusal(copy, 0, r),

@@ -6,7 +6,7 @@
 // Open to others: the types `Answer` and `Summary`. For the crates above: `Progress`, `begin` and
 // `finish`, between which a caller reads the netlist.
 use calculation::Counts;
-use library_text::read_library;
+use library_text::read_library_into;
 use reading::REPORT_LONG;
 use reading::Refusal;
 use reading::TABLE_SHORT;
@@ -15,6 +15,8 @@ use reading::Verdict;
 use report::Written;
 ghost use mathlib.Core.Path.{_≡_};
 ghost use mathlib.Core.List.{List};
+ghost use Rattle.sizes.specs.Sizes as Size;
+ghost use Rattle.table.specs.Blocks.{cleared};
 ghost use Rattle.cell_library.specs.Cells.{Cell};
 ghost use Rattle.netlist.specs.Netlist.{Statement};
 ghost use Rattle.reading.specs.Verdict.{verdictRead};
@@ -65,21 +67,24 @@ fn entry(lib: usize, net: usize, library: usize, netlist: usize, numbers: usize)
     Verdict::Accepted
 }
 
-// The entry and the library text. Of the netlist text and of the other tables it takes the lengths.
+// The entry and the library text. Of the netlist text and of the other tables it takes the lengths. The library table
+// may have other numbers than 0 in its first `used` places, and past its published size.
 pub fn begin(
     lib: &[u8],
     net: usize,
     library: &mut [u32],
     netlist: usize,
     numbers: usize,
+    used: usize,
 ) -> Progress
+    requires { ⌜ cleared used (now library) ≡ cleared Size.library (now library) ⌝ }
     ensures { λ r. ⌜ Begun (now (lib .entry)) net (now (library .entry)) netlist numbers r (now (library .exit)) ⌝ }
 {
     let entered = entry(lib.len(), net, library.len(), netlist, numbers);
     match entered {
         Verdict::Refused(r) => Progress::AtEntry(r),
         Verdict::Accepted => {
-            let cells = read_library(lib, library);
+            let cells = read_library_into(lib, library, used);
             match cells {
                 Verdict::Refused(r) => Progress::Later(r),
                 Verdict::Accepted => Progress::Unrefused,

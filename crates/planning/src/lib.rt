@@ -2,7 +2,7 @@
 //
 // Open to others: `write_plan`, over two texts, three tables and a text buffer that the caller lends, with a line, a
 // value and a kind; the type `Written`; `put_plan`, what the program prints. They have no condition on their input;
-// specs/Promise.antt and specs/Printed.antt say what they promise.
+// specs/Promise.antt and specs/Printed.antt say what they promise. For the crates above: `write_plan_into`.
 use cheapest::put_cheapest;
 use cost::MOST;
 use cost::NEVER;
@@ -17,6 +17,8 @@ use table::word;
 ghost use mathlib.Core.List.{List};
 ghost use mathlib.Core.Path.{_≡_};
 ghost use lib.ListN.{length, replicate};
+ghost use Rattle.sizes.specs.Sizes as Size;
+ghost use Rattle.table.specs.Blocks.{cleared};
 ghost use Rattle.reading.specs.Numbers as No;
 ghost use Rattle.reading.specs.Choice.{pick};
 ghost use Rattle.reading.specs.Refusal.{refused};
@@ -41,13 +43,26 @@ fn analyse_alone(
     library: &mut [u32],
     netlist: &mut [u32],
     numbers: &mut [u32],
+    library_used: usize,
+    netlist_used: usize,
 ) -> Answer
+    requires { ⌜ (cleared «library_used» (now library) ≡ cleared Size.library (now library))
+        × (cleared «netlist_used» (now netlist) ≡ cleared Size.netlist (now netlist)) ⌝ }
     ensures { λ r. ⌜ Alone (givenTexts (now (lib .entry)) (now (net .entry)))
         (now (library .entry)) (now (netlist .entry)) (now (numbers .entry))
         (now (library .exit)) (now (netlist .exit)) (now (numbers .exit)) (answerRead r) ⌝ }
 {
     let mut report = [0u8; sizes::REPORT_BYTES];
-    analysis::analyse(lib, net, library, netlist, numbers, &mut report)
+    analysis::analyse_into(
+        lib,
+        net,
+        library,
+        netlist,
+        numbers,
+        &mut report,
+        library_used,
+        netlist_used,
+    )
 }
 
 // "A line outside 1 to 1,000, or an unknown value or kind, counts as never."
@@ -124,6 +139,45 @@ fn clear_later(text: &mut [u8], number: u32)
     clear_bytes(text);
 }
 
+// As `write_plan`, on tables of which `analysis::analyse_into` asks the same.
+pub fn write_plan_into(
+    lib: &[u8],
+    net: &[u8],
+    library: &mut [u32],
+    netlist: &mut [u32],
+    numbers: &mut [u32],
+    text: &mut [u8],
+    line: usize,
+    value: usize,
+    kind: usize,
+    library_used: usize,
+    netlist_used: usize,
+) -> Written
+    requires { ⌜ (cleared «library_used» (now library) ≡ cleared Size.library (now library))
+        × (cleared «netlist_used» (now netlist) ≡ cleared Size.netlist (now netlist)) ⌝ }
+    ensures { λ r. ⌜ PlanPromised (givenTexts (now (lib .entry)) (now (net .entry)))
+        (lentOf (now (library .entry)) (now (netlist .entry)) (now (numbers .entry)) (now (text .entry)))
+        (lentOf (now (library .exit)) (now (netlist .exit)) (now (numbers .exit)) (now (text .exit)))
+        line value kind (writtenRead r) ⌝ }
+{
+    let answer = analyse_alone(
+        lib,
+        net,
+        library,
+        netlist,
+        numbers,
+        library_used,
+        netlist_used,
+    );
+    match answer {
+        Answer::Refused(r) => {
+            clear_later(text, r.number);
+            Written::Refused(r)
+        }
+        Answer::Accepted(_s) => conclude_plan(library, netlist, numbers, text, line, value, kind),
+    }
+}
+
 // Writes the cheapest way to set a line to a value, of one kind of cost, at the start of the text buffer.
 pub fn write_plan(
     lib: &[u8],
@@ -141,17 +195,22 @@ pub fn write_plan(
         (lentOf (now (library .exit)) (now (netlist .exit)) (now (numbers .exit)) (now (text .exit)))
         line value kind (writtenRead r) ⌝ }
 {
-    let answer = analyse_alone(lib, net, library, netlist, numbers);
-    match answer {
-        Answer::Refused(r) => {
-            clear_later(text, r.number);
-            Written::Refused(r)
-        }
-        Answer::Accepted(_s) => conclude_plan(library, netlist, numbers, text, line, value, kind),
-    }
+    write_plan_into(
+        lib,
+        net,
+        library,
+        netlist,
+        numbers,
+        text,
+        line,
+        value,
+        kind,
+        sizes::LIBRARY,
+        sizes::NETLIST,
+    )
 }
 
-// What the program prints: the text, or the refusal, in the front of the buffer lent. Its tables are its own.
+// What the program prints: the text, or the refusal, in the front of the buffer lent. Its tables are its own, and zero.
 pub fn put_plan(
     lib: &[u8],
     net: &[u8],
@@ -166,7 +225,7 @@ pub fn put_plan(
     let mut library = [0u32; sizes::LIBRARY];
     let mut netlist = [0u32; sizes::NETLIST];
     let mut numbers = [0u32; sizes::NUMBERS];
-    let written = write_plan(
+    let written = write_plan_into(
         lib,
         net,
         &mut library,
@@ -176,6 +235,8 @@ pub fn put_plan(
         line,
         value,
         kind,
+        0,
+        0,
     );
     match written {
         Written::Length(n) => n,

@@ -165,7 +165,7 @@ fn prepare(lib: &[u8], library: &mut [u32], netlist: &mut [u32], numbers: usize)
     ensures { λ r. ⌜ Prepared (now (lib .entry)) (now (library .entry)) (now (netlist .entry)) numbers r
         (now (library .exit)) (now (netlist .exit)) ⌝ }
 {
-    let begun = begin(lib, 0, library, netlist.len(), numbers);
+    let begun = begin(lib, 0, library, netlist.len(), numbers, sizes::LIBRARY);
     match begun {
         Progress::AtEntry(_) => begun,
         Progress::Later(_) => begun,

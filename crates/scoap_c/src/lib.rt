@@ -1,5 +1,5 @@
 // The calls for C, in one archive, `libscoap_c.a`, with one header, include/scoap.h. Each has tables of
-// its own, and answers by one number.
+// its own, of which no place is used before the call, and answers by one number.
 //
 // Open to others: `scoap_report`, `scoap_plan`, `scoap_cell`, `scoap_built_in` and `scoap_qualifies`. They have no
 // condition on their input; specs/Coded.antt, specs/Plan.antt, specs/Cell.antt, specs/BuiltIn.antt and
@@ -25,7 +25,16 @@ pub extern "C" fn scoap_report(lib: &[u8], net: &[u8], report: &mut [u8]) -> u64
     let mut library = [0u32; sizes::LIBRARY];
     let mut netlist = [0u32; sizes::NETLIST];
     let mut numbers = [0u32; sizes::NUMBERS];
-    let answer = analysis::analyse(lib, net, &mut library, &mut netlist, &mut numbers, report);
+    let answer = analysis::analyse_into(
+        lib,
+        net,
+        &mut library,
+        &mut netlist,
+        &mut numbers,
+        report,
+        0,
+        0,
+    );
     match answer {
         Answer::Accepted(s) => s.length as u64,
         Answer::Refused(r) => r.number as u64 * CODE_LINES + r.line as u64,
@@ -74,7 +83,7 @@ pub extern "C" fn scoap_plan(
     let mut library = [0u32; sizes::LIBRARY];
     let mut netlist = [0u32; sizes::NETLIST];
     let mut numbers = [0u32; sizes::NUMBERS];
-    let written = planning::write_plan(
+    let written = planning::write_plan_into(
         lib,
         net,
         &mut library,
@@ -84,6 +93,8 @@ pub extern "C" fn scoap_plan(
         line as usize,
         value as usize,
         kind as usize,
+        0,
+        0,
     );
     match written {
         Written::Length(n) => n as u64,

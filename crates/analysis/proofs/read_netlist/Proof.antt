@@ -12,10 +12,10 @@ use Rattle.analysis.proofs.read_netlist.Tie as tie
 abbrev begins : tie.After-slice-known → tie.Start
 begins c = c .before .before .before
 
-abbrev unrefused : tie.After-read-netlist-arg → tie.After-slice-known
+abbrev unrefused : tie.After-read-netlist-into-arg → tie.After-slice-known
 unrefused c = c .before .before .before
 
-abbrev reads : tie.After-slice-known2 → tie.After-read-netlist
+abbrev reads : tie.After-slice-known2 → tie.After-read-netlist-into
 reads c = c .before .before
 
 returns : tie.Need-returns
@@ -32,13 +32,13 @@ returns-3 : tie.Need-returns-3
 returns-3 c =
     let r = reads (c .before .before .before) in
     let a = begins (unrefused (r .before)) .args in
-    text-refused (a .rules) (now (a .net)) (now (a .library)) (now (a .netlist)) (a .begun) (search needs) (r .read-netlist .result) _ (r .read-netlist .ensures) _ (search needs)
+    text-refused (a .rules) (now (a .net)) (now (a .library)) (now (a .netlist)) (a .begun) (search needs) (r .read-netlist-into .result) _ (r .read-netlist-into .ensures) _ (search needs)
 
 returns-4 : tie.Need-returns-4
 returns-4 c =
     let r = reads (c .before .before) in
     let a = begins (unrefused (r .before)) .args in
-    text-accepted (a .rules) (now (a .net)) (now (a .library)) (now (a .netlist)) (a .begun) (search needs) (r .read-netlist .result) _ (r .read-netlist .ensures) (search needs)
+    text-accepted (a .rules) (now (a .net)) (now (a .library)) (now (a .netlist)) (a .begun) (search needs) (r .read-netlist-into .result) _ (r .read-netlist-into .ensures) (search needs)
 
 pub read-netlist-spec : {M : Type 1} → statement M
 read-netlist-spec =

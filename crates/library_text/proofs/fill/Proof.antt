@@ -31,7 +31,7 @@ stopped c = c .before .before .before .before
 
 -- The table holds no cell before the first line is read.
 empty : (c : tie.After-clear) → c .clear .last .0 ≡ libraryWords [] ++ drop Size.library (begun c .args .table .now)
-empty c = c .clear .ensures ∙ cleared-empty (begun c .args .table .now) (begun c .pre .1)
+empty c = c .clear .ensures ∙ begun c .pre .2 ∙ cleared-empty (begun c .args .table .now) (begun c .pre .1)
 
 kept : (c : tie.After-clear) → drop Size.library (c .clear .last .0) ≡ drop Size.library (begun c .args .table .now)
 kept c = ap (drop Size.library) (empty c) ∙ past-size [] (drop Size.library (begun c .args .table .now))

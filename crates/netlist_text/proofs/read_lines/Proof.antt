@@ -5,6 +5,7 @@ use Prim.Native.Nat.{ℕ, _+_, _-_, _≤_, _<_}
 use native.Mathlib.Omega.{arith}
 use lib.ListN.{length, drop}
 use Rattle.sizes.specs.Sizes as Size
+use Rattle.table.specs.Blocks as T
 use Rattle.text.specs.Lines.{part, fields, nextAfter}
 use Rattle.reading.specs.Verdict.{verdictRead}
 use Rattle.cell_library.specs.Cells.{Cell}
@@ -32,19 +33,23 @@ use Rattle.netlist_text.proofs.read_lines.Statement.{statement}
 use Rattle.netlist_text.proofs.read_lines.Tie as tie
 
 abbrev Inv-loop : tie.InvT-loop
-Inv-loop rules text library table₀ n at₀ number₀ table at number =
+Inv-loop rules text library table₀ used n at₀ number₀ table at number =
     (at ≤ length text)
     × (number ≤ at + 1)
     × (length table ≡ length table₀)
     × ((cells : List Cell) → LibraryHolds library cells → Reading rules cells text at number table (drop Size.netlist table₀))
 
 abbrev μ-loop : tie.MeasureT-loop
-μ-loop rules text library table₀ n at₀ number₀ table at number = length text - at
+μ-loop rules text library table₀ used n at₀ number₀ table at number = length text - at
 
 -- ---- the places of the code that the answers speak of
 
 abbrev begun : tie.After-clear Inv-loop μ-loop → tie.Start Inv-loop μ-loop
 begun c = c .before .before .before .before .before
+
+-- The table is zero up to its published size before the first line is read.
+cleared-front : (c : tie.After-clear Inv-loop μ-loop) → c .clear .last .0 ≡ T.cleared Size.netlist (begun c .args .table .now)
+cleared-front c = c .clear .ensures ∙ begun c .pre .2
 
 abbrev cleared : tie.At-loop Inv-loop μ-loop → tie.After-clear Inv-loop μ-loop
 cleared c = c .before .before .before
@@ -104,7 +109,7 @@ loop-holds c =
       omega arith,
       omega arith,
       refl,
-      λ cells lib. rw (k .clear .ensures) (reading-start (a .rules) cells (a .text .now) (a .table .now) (begun k .pre .1)),
+      λ cells lib. rw (cleared-front k) (reading-start (a .rules) cells (a .text .now) (a .table .now) (begun k .pre .1)),
     )
 
 same-length : tie.Need-same-length Inv-loop μ-loop
@@ -167,7 +172,7 @@ returns-3 c cells lib =
     let so-far = w .loop .inv .3 cells lib in
     left-read (begun (cleared w) .args .rules) cells (text w) (before w) _ (w .loop .table) (reading-end so-far (c .loop-test .left)) refl
     (so-far .held)
-    (ap (drop Size.netlist) (cleared w .clear .ensures) ∙ cleared-past (before w) (begun (cleared w) .pre .1))
+    (ap (drop Size.netlist) (cleared-front (cleared w)) ∙ cleared-past (before w) (begun (cleared w) .pre .1))
 
 pub read-lines-spec : {M : Type 1} → statement M
 read-lines-spec =

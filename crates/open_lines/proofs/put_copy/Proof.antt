@@ -1,6 +1,8 @@
 -- `put_copy` puts the copy, or the refusal, into the buffer. Assumes nothing.
 use native.Mathlib.Omega.{arith}
 use denote.Ref.{now}
+use Rattle.sizes.specs.Sizes as Size
+use Rattle.analysis.proofs.Own.{zeros-cleared}
 use Rattle.open_lines.proofs.Opens.{put-refused, put-accepted, at-entry, later, both-old}
 use borrow.Author.Needs.{needs}
 use Rattle.open_lines.proofs.put_copy.Statement.{statement}
@@ -52,10 +54,10 @@ put-copy-spec =
     tie.close
     (tie.spec
     (λ c. search needs)
-    (λ c κs. search needs)
+    (λ c κs. zeros-cleared Size.library)
     (λ c. search needs)
     (λ c. search needs)
-    (λ c κs. search needs)
+    (λ c κs. zeros-cleared Size.netlist)
     (λ c. search needs)
     (λ c κs. search needs)
     (λ c. search needs)

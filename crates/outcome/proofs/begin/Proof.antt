@@ -13,7 +13,7 @@ begins c = c .before .before .before
 abbrev accepted : tie.After-enum-told → tie.After-entry
 accepted c = c .before .before
 
-abbrev library-read : tie.After-slice-known2 → tie.After-read-library
+abbrev library-read : tie.After-slice-known2 → tie.After-read-library-into
 library-read c = c .before .before
 
 returns : tie.Need-returns
@@ -28,7 +28,7 @@ returns-2 c =
     let v = accepted (r .before .before) in
     let a = begins v .args in
     begun-later (now (a .lib)) (a .net) (now (a .library)) (a .netlist) (a .numbers) (v .entry .result) (v .entry .ensures) (search needs)
-    (r .read-library .result) _ (r .read-library .ensures .0) (r .read-library .ensures .1) _ (search needs)
+    (r .read-library-into .result) _ (r .read-library-into .ensures .0) (r .read-library-into .ensures .1) _ (search needs)
 
 returns-3 : tie.Need-returns-3
 returns-3 c =
@@ -36,7 +36,7 @@ returns-3 c =
     let v = accepted (r .before .before) in
     let a = begins v .args in
     begun-unrefused (now (a .lib)) (a .net) (now (a .library)) (a .netlist) (a .numbers) (v .entry .result) (v .entry .ensures) (search needs)
-    (r .read-library .result) _ (r .read-library .ensures .0) (r .read-library .ensures .1) (search needs)
+    (r .read-library-into .result) _ (r .read-library-into .ensures .0) (r .read-library-into .ensures .1) (search needs)
 
 pub begin-spec : {M : Type 1} → statement M
 begin-spec =

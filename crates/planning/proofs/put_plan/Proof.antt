@@ -2,17 +2,19 @@
 use native.Mathlib.Omega.{arith}
 use denote.Ref.{now}
 use borrow.Author.Needs.{needs}
+use Rattle.sizes.specs.Sizes as Size
 use Rattle.analysis.specs.Own.{ownTables}
+use Rattle.analysis.proofs.Own.{zeros-cleared}
 use Rattle.planning.proofs.Printing.{text-printed, refusal-printed}
 use Rattle.planning.proofs.put_plan.Statement.{statement}
 use Rattle.planning.proofs.put_plan.Tie as tie
 
 -- ---- the places of the code that the answers speak of
 
-abbrev begins : tie.After-write-plan → tie.Start
+abbrev begins : tie.After-write-plan-into → tie.Start
 begins c = c .before .before .before .before .before .before .before
 
-abbrev planned : tie.After-numbers2 → tie.After-write-plan
+abbrev planned : tie.After-numbers2 → tie.After-write-plan-into
 planned c = c .before .before .before
 
 returns : tie.Need-returns
@@ -20,16 +22,16 @@ unfolding ownTables
 returns c =
     let k = planned (c .before .before .before) in
     let a = begins k .args in
-    text-printed (now (a .lib)) (now (a .net)) (now (a .text)) (a .line) (a .value) (a .kind) _ (k .write-plan .result)
-    (k .write-plan .ensures) (c .before .written .given .0 .0) (search needs) (search needs)
+    text-printed (now (a .lib)) (now (a .net)) (now (a .text)) (a .line) (a .value) (a .kind) _ (k .write-plan-into .result)
+    (k .write-plan-into .ensures) (c .before .written .given .0 .0) (search needs) (search needs)
 
 returns-2 : tie.Need-returns-2
 unfolding ownTables
 returns-2 c =
     let k = planned (c .before .before .before .before .before) in
     let a = begins k .args in
-    refusal-printed (now (a .lib)) (now (a .net)) (now (a .text)) (a .line) (a .value) (a .kind) _ (k .write-plan .result)
-    (k .write-plan .ensures) (c .before .before .before .written2 .given .0 .0) (search needs) (search needs) _ (c .put-refusal .result)
+    refusal-printed (now (a .lib)) (now (a .net)) (now (a .text)) (a .line) (a .value) (a .kind) _ (k .write-plan-into .result)
+    (k .write-plan-into .ensures) (c .before .before .before .written2 .given .0 .0) (search needs) (search needs) _ (c .put-refusal .result)
     (c .put-refusal .ensures)
 
 pub put-plan-spec : {M : Type 1} → statement M
@@ -39,7 +41,7 @@ put-plan-spec =
     (λ c. search needs)
     (λ c. search needs)
     (λ c. search needs)
-    (λ c κs. search needs)
+    (λ c κs. (zeros-cleared Size.library, zeros-cleared Size.netlist))
     (λ c. search needs)
     (λ c. search needs)
     (λ c κs. search needs)

@@ -1,7 +1,9 @@
 -- `scoap_plan` tells the answer of `write_plan` by one number. Assumes nothing.
 use native.Mathlib.Omega.{arith}
 use denote.Ref.{now}
+use Rattle.sizes.specs.Sizes as Size
 use Rattle.analysis.specs.Own.{ownTables}
+use Rattle.analysis.proofs.Own.{zeros-cleared}
 use Rattle.scoap_c.proofs.Plans.{plan-line, plan-accepted, plan-refused}
 use borrow.Author.Needs.{needs}
 use Rattle.scoap_c.proofs.scoap_plan.Statement.{statement}
@@ -9,10 +11,10 @@ use Rattle.scoap_c.proofs.scoap_plan.Tie as tie
 
 -- ---- the places of the code that the answers speak of
 
-abbrev begins : tie.After-write-plan → tie.Start
+abbrev begins : tie.After-write-plan-into → tie.Start
 begins c = c .before .before .before .before .before .before .before .before
 
-abbrev analysed : tie.After-slice-known2 → tie.After-write-plan
+abbrev analysed : tie.After-slice-known2 → tie.After-write-plan-into
 analysed c = c .before .before .before .before .before
 
 abbrev accepted : tie.After-known-told → tie.After-slice-known2
@@ -26,21 +28,21 @@ unfolding ownTables
 add-result c =
     let k = analysed (refused c) in
     let a = begins k .args in
-    omega (arith, plan-line (now (a .lib)) (now (a .net)) (now (a .text)) _ (a .line) (a .value) (a .kind) (k .write-plan .result) (k .write-plan .ensures) (c .before .before .written2 .given .0 .0) (search needs))
+    omega (arith, plan-line (now (a .lib)) (now (a .net)) (now (a .text)) _ (a .line) (a .value) (a .kind) (k .write-plan-into .result) (k .write-plan-into .ensures) (c .before .before .written2 .given .0 .0) (search needs))
 
 returns : tie.Need-returns
 unfolding ownTables
 returns c =
     let k = analysed (accepted c) in
     let a = begins k .args in
-    plan-accepted (now (a .lib)) (now (a .net)) (now (a .text)) _ (a .line) (a .value) (a .kind) (k .write-plan .result) (k .write-plan .ensures) (c .before .written .given .0 .0) (search needs)
+    plan-accepted (now (a .lib)) (now (a .net)) (now (a .text)) _ (a .line) (a .value) (a .kind) (k .write-plan-into .result) (k .write-plan-into .ensures) (c .before .written .given .0 .0) (search needs)
 
 returns-2 : tie.Need-returns-2
 unfolding ownTables
 returns-2 c =
     let k = analysed (refused c) in
     let a = begins k .args in
-    plan-refused (now (a .lib)) (now (a .net)) (now (a .text)) _ (a .line) (a .value) (a .kind) (k .write-plan .result) (k .write-plan .ensures) (c .before .before .written2 .given .0 .0) (search needs)
+    plan-refused (now (a .lib)) (now (a .net)) (now (a .text)) _ (a .line) (a .value) (a .kind) (k .write-plan-into .result) (k .write-plan-into .ensures) (c .before .before .written2 .given .0 .0) (search needs)
 
 pub scoap-plan-spec : {M : Type 1} → statement M
 scoap-plan-spec =
@@ -49,7 +51,7 @@ scoap-plan-spec =
     (λ c. search needs)
     (λ c. search needs)
     (λ c. search needs)
-    (λ c κs. search needs)
+    (λ c κs. (zeros-cleared Size.library, zeros-cleared Size.netlist))
     (λ c. search needs)
     (λ c. search needs)
     (λ c. search needs)

@@ -1,7 +1,9 @@
 -- `scoap_report` tells the answer of the analysis by one number. Assumes nothing.
 use native.Mathlib.Omega.{arith}
 use denote.Ref.{now}
+use Rattle.sizes.specs.Sizes as Size
 use Rattle.analysis.specs.Own.{ownTables}
+use Rattle.analysis.proofs.Own.{zeros-cleared}
 use Rattle.scoap_c.proofs.Coding.{line-below, coded-accepted, coded-refused}
 use borrow.Author.Needs.{needs}
 use Rattle.scoap_c.proofs.scoap_report.Statement.{statement}
@@ -9,10 +11,10 @@ use Rattle.scoap_c.proofs.scoap_report.Tie as tie
 
 -- ---- the places of the code that the answers speak of
 
-abbrev begins : tie.After-analyse → tie.Start
+abbrev begins : tie.After-analyse-into → tie.Start
 begins c = c .before .before .before .before .before .before .before .before
 
-abbrev analysed : tie.After-slice-known2 → tie.After-analyse
+abbrev analysed : tie.After-slice-known2 → tie.After-analyse-into
 analysed c = c .before .before .before .before .before
 
 abbrev accepted : tie.After-known-told → tie.After-slice-known2
@@ -26,21 +28,21 @@ unfolding ownTables
 add-result c =
     let k = analysed (refused c) in
     let a = begins k .args in
-    omega (arith, line-below (now (a .lib)) (now (a .net)) (now (a .report)) _ (k .analyse .result) (k .analyse .ensures) (c .before .before .answer2 .given .0 .0) (search needs))
+    omega (arith, line-below (now (a .lib)) (now (a .net)) (now (a .report)) _ (k .analyse-into .result) (k .analyse-into .ensures) (c .before .before .answer2 .given .0 .0) (search needs))
 
 returns : tie.Need-returns
 unfolding ownTables
 returns c =
     let k = analysed (accepted c) in
     let a = begins k .args in
-    coded-accepted (now (a .lib)) (now (a .net)) (now (a .report)) _ (k .analyse .result) (k .analyse .ensures) (c .before .answer .given .0 .0) (search needs)
+    coded-accepted (now (a .lib)) (now (a .net)) (now (a .report)) _ (k .analyse-into .result) (k .analyse-into .ensures) (c .before .answer .given .0 .0) (search needs)
 
 returns-2 : tie.Need-returns-2
 unfolding ownTables
 returns-2 c =
     let k = analysed (refused c) in
     let a = begins k .args in
-    coded-refused (now (a .lib)) (now (a .net)) (now (a .report)) _ (k .analyse .result) (k .analyse .ensures) (c .before .before .answer2 .given .0 .0) (search needs)
+    coded-refused (now (a .lib)) (now (a .net)) (now (a .report)) _ (k .analyse-into .result) (k .analyse-into .ensures) (c .before .before .answer2 .given .0 .0) (search needs)
 
 pub scoap-report-spec : {M : Type 1} → statement M
 scoap-report-spec =
@@ -49,7 +51,7 @@ scoap-report-spec =
     (λ c. search needs)
     (λ c. search needs)
     (λ c. search needs)
-    (λ c κs. search needs)
+    (λ c κs. (zeros-cleared Size.library, zeros-cleared Size.netlist))
     (λ c. search needs)
     (λ c. search needs)
     (λ c. search needs)

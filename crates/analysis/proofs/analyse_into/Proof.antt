@@ -1,4 +1,4 @@
--- `analyse`: the entry and the library, the netlist text, and the end, one after the other. Assumes nothing.
+-- `analyse_into`: the entry and the library, the netlist text, and the end, one after the other. Assumes nothing.
 use mathlib.Core.Path.{_≡_, sym, _∙_}
 use Prim.Native.Nat.{_≤_}
 use lib.ListN.{length}
@@ -15,8 +15,8 @@ use Rattle.outcome.proofs.Entering.{texts-entry, entered}
 use Rattle.outcome.proofs.Promising.{Reached, unrefused-entry, reached, ready, promised}
 use Rattle.analysis.proofs.Reading.{netlist-read}
 use borrow.Author.Needs.{needs}
-use Rattle.analysis.proofs.analyse.Statement.{statement}
-use Rattle.analysis.proofs.analyse.Tie as tie
+use Rattle.analysis.proofs.analyse_into.Statement.{statement}
+use Rattle.analysis.proofs.analyse_into.Tie as tie
 
 -- ---- the places of the code that the answers speak of
 
@@ -76,8 +76,8 @@ returns c =
     let s = begins b in
     promised (given s) (lent s) (texts-checked _ _) _ _ (b .begin .kept .1 .1 .0) (n .read-netlist .kept .1 .1 .1 .0) _ (stands n) _ _ (f .finish .ensures)
 
-pub analyse-spec : {M : Type 1} → statement M
-analyse-spec =
+pub analyse-into-spec : {M : Type 1} → statement M
+analyse-into-spec =
     tie.close
     (tie.spec
     (λ c κs. search needs)

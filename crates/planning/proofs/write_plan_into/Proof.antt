@@ -1,4 +1,4 @@
--- `write_plan`: the analysis, and the plan. Assumes nothing.
+-- `write_plan_into`: the analysis, and the plan. Assumes nothing.
 use denote.Ref.{now}
 use borrow.Author.Needs.{needs}
 use Rattle.outcome.specs.Answer.{lentOf}
@@ -6,8 +6,8 @@ use Rattle.outcome.specs.Outcome.{Given, Lent, givenTexts}
 use Rattle.outcome.proofs.Checking.{texts-checked}
 use Rattle.planning.specs.Promise.{writtenRead}
 use Rattle.planning.proofs.Promising.{call-refused, call-ready, call-accepted}
-use Rattle.planning.proofs.write_plan.Statement.{statement}
-use Rattle.planning.proofs.write_plan.Tie as tie
+use Rattle.planning.proofs.write_plan_into.Statement.{statement}
+use Rattle.planning.proofs.write_plan_into.Tie as tie
 
 abbrev began : tie.After-analyse-alone → tie.Start
 began c = c .before .before .before .before .before .before .before .before .before .before
@@ -34,12 +34,14 @@ returns c =
 
 returns-2 : tie.Need-returns-2
 returns-2 c =
-    let k = c .before .before .before .before .before .before .before .before .before .before .before .before .before .before .before .before in
+    let a = c .before .before .before .before .before .before .before .before in
+    let told = a .answer2 .given in
+    let k = a .before .before .before .before .before .before .before .before in
     let s = began k in
-    call-accepted (given s) (texts-checked _ _) (lent s) _ _ _ (k .analyse-alone .result) (k .analyse-alone .ensures) (s .args .line) (s .args .value) (s .args .kind) (c .before .before .before .before .before .before .before .before .answer2 .given .0 .0) (search needs) _ _ (c .before .before .conclude-plan .ensures)
+    call-accepted (given s) (texts-checked _ _) (lent s) _ _ _ (k .analyse-alone .result) (k .analyse-alone .ensures) (s .args .line) (s .args .value) (s .args .kind) (told .0 .0) (told .1) _ _ (c .before .before .conclude-plan .ensures)
 
-pub write-plan-spec : {M : Type 1} → statement M
-write-plan-spec =
+pub write-plan-into-spec : {M : Type 1} → statement M
+write-plan-into-spec =
     tie.close
     (tie.spec
     (λ c κs. search needs)
