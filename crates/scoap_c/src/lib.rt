@@ -112,13 +112,15 @@ pub extern "C" fn scoap_qualifies(lib: &[u8], net: &[u8]) -> u64
     let mut netlist = [0u32; sizes::NETLIST];
     let mut numbers = [0u32; sizes::NUMBERS];
     let mut report = [0u8; sizes::REPORT_BYTES];
-    let answer = analysis::analyse(
+    let answer = analysis::analyse_into(
         lib,
         net,
         &mut library,
         &mut netlist,
         &mut numbers,
         &mut report,
+        0,
+        0,
     );
     match answer {
         Answer::Accepted(_s) => qualifying::qualifies(&library, &netlist) as u64,
