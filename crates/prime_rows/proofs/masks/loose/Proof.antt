@@ -8,7 +8,7 @@ use Rattle.prime_rows.proofs.masks.loose.Tie as tie
 
 returns : tie.Need-returns
 unfolding loose
-returns c = rw (eq-eqb _ _ (c .if1 .taken)) refl
+returns c = rw (eq-eqb (c .before .args .digit) 0 (c .if1 .taken)) refl
 
 returns-2 : tie.Need-returns-2
 unfolding loose
