@@ -8,7 +8,7 @@ use Prim.Native.Nat.{ℕ, zero, suc, _+_, _^_, _≤_, _<_}
 use native.Mathlib.Omega.{arith}
 use lib.Dec.{leb, ltb}
 use lib.ListN.{length, getD}
-use borrow.Author.Tests.{lt-ltb, le-ltb, le-leb, leb-true}
+use borrow.Author.Tests.{lt-ltb, le-leb, leb-true}
 use Rattle.sizes.specs.Places.{groupPlace}
 use Rattle.sizes.specs.Sizes as Size
 use Rattle.reading.specs.Each.{Each}
@@ -188,9 +188,3 @@ module _ (d : Cell) (cells : List Cell) (rest : List ℕ) (sound : Sound cells) 
     λ e. record { bits = tableAt table k; generated = generated-told e },
     λ t. generated-tells (t .bits) (t .generated) .1,
   )
-
--- The answer is false of a cell that the table has not.
-pub generated-outside : (cells : List Cell) (rest : List ℕ) (k : ℕ) → length cells ≤ k
-    → generatedAt (libraryWords cells ++ rest) k ≡ false
-unfolding generatedAt
-generated-outside cells rest k h = rw (library-count cells rest, le-ltb k (length cells) h) refl
