@@ -21,10 +21,11 @@ use Rattle.cell_library.specs.Library.{wordGroups}
 use Rattle.cell_library.specs.Sound.{SoundRow}
 use Rattle.netlist.specs.Netlist.{Gate, Statement, gatesOf, isInput}
 use Rattle.calculation.specs.Nodes.{Kind, combinational, sequential, kindNumber, set, observe, lineOf, costIndex, node}
+use Rattle.calculation.specs.Prices.{Pricing, Figures}
 use Rattle.calculation.specs.Ways.{cellOf, asked, needs, Role, setting, observing, purposeOf, wordOf, asks, visit, valueRoles, gateVisits, settingVisits, observingVisits}
 use Rattle.calculation.specs.Acceptance.{BothSound}
-use Rattle.calculation.specs.Calculation.{start, settingStage, observingStage, stages, Analysed, analysed}
-use Rattle.calculation.specs.Settled.{inOrder, Settled, FewSweeps}
+use Rattle.calculation.specs.Calculation.{startAt, settingStage, observingStage, stages, Analysed, analysedAt}
+use Rattle.calculation.specs.Settled.{inOrder, SettledAt, FewSweeps}
 use Rattle.calculation.proofs.Sweeping.{Apiece, apiece-once}
 use Rattle.calculation.proofs.Placing.{Placed, kind-small, node-inside, node-index, node-injective, firstNumber, start-length, start-at, start-bounded}
 use Rattle.calculation.proofs.Visiting.{
@@ -180,8 +181,8 @@ module _ (cells : List Cell) (ss : List Statement) (sound : BothSound cells ss) 
   visiting-placed : {k : Kind} {v : Visit} (t : Visiting Has k cells gs v) → Placed (purposeOf (t .gate) (t .role))
   visiting-placed t = purpose-placed sound (t .gate) (t .listed) (t .role) (t .allowed)
 
-  visiting-inside : {k : Kind} {v : Visit} → Visiting Has k cells gs v → v .node < length (start ss)
-  visiting-inside {k} t = rw (start-length ss, visiting-node t) (node-inside k (purposeOf (t .gate) (t .role)) (visiting-placed t))
+  visiting-inside : {k : Kind} {v : Visit} → Visiting Has k cells gs v → v .node < Size.numbers
+  visiting-inside {k} t = rw (visiting-node t) (node-inside k (purposeOf (t .gate) (t .role)) (visiting-placed t))
 
   visiting-index : {k : Kind} {v : Visit} (t : Visiting Has k cells gs v) → v .node % Size.costs ≡ costIndex k (purposeOf (t .gate) (t .role))
   visiting-index {k} t = rw (visiting-node t) (node-index k (purposeOf (t .gate) (t .role)) (visiting-placed t))
@@ -257,28 +258,6 @@ module _ (cells : List Cell) (ss : List Statement) (sound : BothSound cells ss) 
   gates-apiece k =
       setting-apiece k cells gs (λ g m role s. purpose-placed sound g m role (sets-has (cellOf cells g) role s)) (driven-once cells ss (sound .netlist))
 
-  -- The values of gates' outputs are never at the start: no gate's line is an input.
-  sets-first : (k : Kind) (g : Gate) (c : Cell) (role : Role) → isInput (g .line) ss ≡ false → Sets c role → firstNumber ss k (purposeOf g role) ≡ never
-  unfolding purposeOf pick
-  sets-first k g c (setting e) h s = rw h
-  sets-first k g c (observing i) h s = absurd s
-
-  start-above : (k : Kind) → Above (settingVisits k cells gs) (start ss)
-  start-above k = never-above (settingVisits k cells gs) (start ss) (λ v m. le-of-eq (sym (first v (setting-from k cells gs v m))))
-    where
-      first : (v : Visit) → Visiting Sets k cells gs v → at (start ss) (v .node) ≡ never
-      first v t =
-          rw (visiting-node t) (start-at ss k (purposeOf (t .gate) (t .role)) (visiting-placed (visiting-more sets-has t)))
-          ∙ sets-first k (t .gate) (cellOf cells (t .gate)) (t .role) (gate-no-input cells ss (sound .netlist) (t .gate) (t .listed)) (t .allowed)
-
-  setting-works : (k : Kind) → Works (settingStage k cells gs) (start ss)
-  setting-works k =
-      let vs : List Visit = settingVisits k cells gs in
-      let l : length (map (λ v. v .node) vs) ≡ 2 * length gs = length-map vs (λ v. v .node) ∙ setting-length k cells gs in
-      renewing-works vs (map (λ v. v .node) vs) (start ss) (λ n v. rw (← v .same) (Memᴰ·map (λ u. u .node) (v .listed))) (start-bounded ss)
-      (λ v m. visiting-inside (visiting-more sets-has (setting-from k cells gs v m))) (apiece-once vs (gates-apiece k)) (start-above k)
-      (settingStage k cells gs .bound) (omega arith)
-
   -- ---- CO and SO: every row leads through its gate's output
 
   asks-output : (k : Kind) (g : Gate) (c : Cell) (role : Role) (all : List Group) (r : Row) → Observes c role → SoundRow (wordOf k role) (c .pins) all r → List·Memᴰ C.observe (asks g c role r)
@@ -314,63 +293,88 @@ module _ (cells : List Cell) (ss : List Statement) (sound : BothSound cells ss) 
         record { among = leads-among k n w o; others = leads-others k n w o },
       )
 
-  observing-works : (k : Kind) → Works (observingStage k cells gs) (start ss)
-  observing-works k =
-      let l : length (outputs k) ≡ length gs = length-map gs (λ g. node k (observe (g .line))) in
-      leading-works (observingVisits k cells gs) (outputs k) (start ss) (observing-leads k) (start-bounded ss)
-      (λ v m. visiting-inside (visiting-more observes-has (observing-from k cells gs v m)))
-      (observingStage k cells gs .bound) (omega arith)
+  -- ---- at whatever prices
 
-  -- ---- the four runs
+  module _ (price : Pricing) (figures : Figures price ss) where
+    -- The values of gates' outputs are never at the start: no gate's line is an input.
+    sets-first : (k : Kind) (g : Gate) (c : Cell) (role : Role) → isInput (g .line) ss ≡ false → Sets c role → firstNumber price ss k (purposeOf g role) ≡ never
+    unfolding purposeOf pick
+    sets-first k g c (setting e) h s = rw h
+    sets-first k g c (observing i) h s = absurd s
 
-  pub works : AllWork (stages cells gs) (start ss)
-  works = (setting-works combinational, (setting-works sequential, (observing-works combinational, (observing-works sequential, tt))))
+    start-above : (k : Kind) → Above (settingVisits k cells gs) (startAt price ss)
+    start-above k = never-above (settingVisits k cells gs) (startAt price ss) (λ v m. le-of-eq (sym (first v (setting-from k cells gs v m))))
+      where
+        first : (v : Visit) → Visiting Sets k cells gs v → at (startAt price ss) (v .node) ≡ never
+        first v t =
+            rw (visiting-node t) (start-at price ss k (purposeOf (t .gate) (t .role)) (visiting-placed (visiting-more sets-has t)))
+            ∙ sets-first k (t .gate) (cellOf cells (t .gate)) (t .role) (gate-no-input cells ss (sound .netlist) (t .gate) (t .listed)) (t .allowed)
 
-  pub within : AllWithin (stages cells gs) (start ss)
-  within = stages-within (stages cells gs) (start ss) apart works
+    setting-works : (k : Kind) → Works (settingStage k cells gs) (startAt price ss)
+    setting-works k =
+        let vs : List Visit = settingVisits k cells gs in
+        let l : length (map (λ v. v .node) vs) ≡ 2 * length gs = length-map vs (λ v. v .node) ∙ setting-length k cells gs in
+        renewing-works vs (map (λ v. v .node) vs) (startAt price ss) (λ n v. rw (← v .same) (Memᴰ·map (λ u. u .node) (v .listed))) (start-bounded price ss figures)
+        (λ v m. rw (start-length price ss) (visiting-inside (visiting-more sets-has (setting-from k cells gs v m)))) (apiece-once vs (gates-apiece k)) (start-above k)
+        (settingStage k cells gs .bound) (omega arith)
 
-  -- No run runs dry ..
-  pub settled : Settled cells ss (analysed cells ss)
-  unfolding analysed runStage
-  settled =
-      let cc = within in
-      let sc = cc .1 _ _ (cc .0 .0) in
-      let co = sc .1 _ _ (sc .0 .0) in
-      let so = co .1 _ _ (co .0 .0) in
-      stage (cc .0 .0) (stage (sc .0 .0) (stage (co .0 .0) (stage (so .0 .0) (ended refl))))
+    observing-works : (k : Kind) → Works (observingStage k cells gs) (startAt price ss)
+    observing-works k =
+        let l : length (outputs k) ≡ length gs = length-map gs (λ g. node k (observe (g .line))) in
+        leading-works (observingVisits k cells gs) (outputs k) (startAt price ss) (observing-leads k) (start-bounded price ss figures)
+        (λ v m. rw (start-length price ss) (visiting-inside (visiting-more observes-has (observing-from k cells gs v m))))
+        (observingStage k cells gs .bound) (omega arith)
 
-  pub few-sweeps : FewSweeps (length gs) (analysed cells ss .counts)
-  unfolding analysed runStage
-  few-sweeps =
-      let cc = within in
-      let sc = cc .1 _ _ (cc .0 .0) in
-      let co = sc .1 _ _ (sc .0 .0) in
-      let so = co .1 _ _ (co .0 .0) in
-      record { cc = cc .0 .1; sc = sc .0 .1; co = co .0 .1; so = so .0 .1 }
+    -- ---- the four runs
 
-  -- .. and there is one such analysis.
-  pub settled-once : (a : Analysed) → Settled cells ss a → a ≡ analysed cells ss
-  settled-once a s =
-      let b : Analysed = analysed cells ss in
-      let e : (inOrder (a .counts) ≡ inOrder (b .counts)) × (a .numbers ≡ b .numbers) =
-      stages-once (stages cells gs) (start ss) (a .numbers) (b .numbers) (inOrder (a .counts)) (inOrder (b .counts)) s settled in
-      let c : a .counts .cc ≡ b .counts .cc = cc (e .0) in
-      let d : a .counts .sc ≡ b .counts .sc = cc (e .0) in
-      let f : a .counts .co ≡ b .counts .co = cc (e .0) in
-      let g : a .counts .so ≡ b .counts .so = cc (e .0) in
-      λ i. record { numbers = e .1 i; counts = record { cc = c i; sc = d i; co = f i; so = g i } }
+    pub works : AllWork (stages cells gs) (startAt price ss)
+    works = (setting-works combinational, (setting-works sequential, (observing-works combinational, (observing-works sequential, tt))))
 
-  -- ---- the numbers
+    pub within : AllWithin (stages cells gs) (startAt price ss)
+    within = stages-within (stages cells gs) (startAt price ss) apart works
 
-  left : (length (analysed cells ss .numbers) ≡ length (start ss)) × ((n : ℕ) → at (analysed cells ss .numbers) n ≤ at (start ss) n)
-  left = stages-left (stages cells gs) (start ss) (analysed cells ss .numbers) (inOrder (analysed cells ss .counts)) apart works settled
+    -- No run runs dry ..
+    pub settled : SettledAt price cells ss (analysedAt price cells ss)
+    unfolding analysedAt runStage
+    settled =
+        let cc = within in
+        let sc = cc .1 _ _ (cc .0 .0) in
+        let co = sc .1 _ _ (sc .0 .0) in
+        let so = co .1 _ _ (co .0 .0) in
+        stage (cc .0 .0) (stage (sc .0 .0) (stage (co .0 .0) (stage (so .0 .0) (ended refl))))
 
-  pub numbers-length : length (analysed cells ss .numbers) ≡ Size.numbers
-  numbers-length = left .0 ∙ start-length ss
+    pub few-sweeps : FewSweeps (length gs) (analysedAt price cells ss .counts)
+    unfolding analysedAt runStage
+    few-sweeps =
+        let cc = within in
+        let sc = cc .1 _ _ (cc .0 .0) in
+        let co = sc .1 _ _ (sc .0 .0) in
+        let so = co .1 _ _ (co .0 .0) in
+        record { cc = cc .0 .1; sc = sc .0 .1; co = co .0 .1; so = so .0 .1 }
 
-  pub numbers-bounded : Bounded (analysed cells ss .numbers)
-  numbers-bounded n = le-trans (left .1 n) (start-bounded ss n)
+    -- .. and there is one such analysis.
+    pub settled-once : (a : Analysed) → SettledAt price cells ss a → a ≡ analysedAt price cells ss
+    settled-once a s =
+        let b : Analysed = analysedAt price cells ss in
+        let e : (inOrder (a .counts) ≡ inOrder (b .counts)) × (a .numbers ≡ b .numbers) =
+        stages-once (stages cells gs) (startAt price ss) (a .numbers) (b .numbers) (inOrder (a .counts)) (inOrder (b .counts)) s settled in
+        let c : a .counts .cc ≡ b .counts .cc = cc (e .0) in
+        let d : a .counts .sc ≡ b .counts .sc = cc (e .0) in
+        let f : a .counts .co ≡ b .counts .co = cc (e .0) in
+        let g : a .counts .so ≡ b .counts .so = cc (e .0) in
+        λ i. record { numbers = e .1 i; counts = record { cc = c i; sc = d i; co = f i; so = g i } }
 
-  -- Every visit of the four runs is to a number of the table.
-  pub all-inside : Inside (allVisits (stages cells gs)) (start ss)
-  all-inside v m = visiting-inside (all-from cells gs v m .1)
+    -- ---- the numbers
+
+    left : (length (analysedAt price cells ss .numbers) ≡ length (startAt price ss)) × ((n : ℕ) → at (analysedAt price cells ss .numbers) n ≤ at (startAt price ss) n)
+    left = stages-left (stages cells gs) (startAt price ss) (analysedAt price cells ss .numbers) (inOrder (analysedAt price cells ss .counts)) apart works settled
+
+    pub numbers-length : length (analysedAt price cells ss .numbers) ≡ Size.numbers
+    numbers-length = left .0 ∙ start-length price ss
+
+    pub numbers-bounded : Bounded (analysedAt price cells ss .numbers)
+    numbers-bounded n = le-trans (left .1 n) (start-bounded price ss figures n)
+
+    -- Every visit of the four runs is to a number of the table.
+    pub all-inside : Inside (allVisits (stages cells gs)) (startAt price ss)
+    all-inside v m = rw (start-length price ss) (visiting-inside (all-from cells gs v m .1))

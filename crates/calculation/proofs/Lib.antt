@@ -6,4 +6,5 @@ pub mod Bounding
 pub mod Needing
 pub mod Planning
 pub mod Exactness
+pub mod Between
 pub mod Laws

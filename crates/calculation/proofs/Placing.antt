@@ -11,13 +11,15 @@ use lib.Seq.{getD-append-add}
 use Rattle.sizes.specs.Sizes as Size
 use Rattle.sizes.specs.Places.{linePlace}
 use Rattle.reading.specs.Choice.{pick}
-use Rattle.cost.specs.Cost.{never}
+use Rattle.cost.specs.Cost.{most, never}
 use Rattle.plans.specs.Sweep.{at, Bounded}
 use Rattle.netlist.specs.Netlist.{Statement, isInput, isOutput}
+use Rattle.cell_library.specs.Cells.{Cell}
 use Rattle.netlist.specs.Sound.{InRange}
 use Rattle.calculation.specs.Nodes.{Kind, combinational, sequential, kindNumber, Purpose, set, observe, lineOf, costIndex, node}
-use Rattle.calculation.specs.Calculation.{startLine, startLines, start}
-use Rattle.calculation.specs.Plans.{inputCost}
+use Rattle.calculation.specs.Prices.{Pricing, Figures, inputCost, pricesOf}
+use Rattle.calculation.specs.Acceptance.{BothSound}
+use Rattle.calculation.specs.Calculation.{startLine, startLines, startAt}
 
 -- A purpose that the table has a number for: a line from 1 to 1,000, and a value 0 or 1.
 abbrev pub Placed : Purpose → Type 0
@@ -77,71 +79,85 @@ node-injective j k p q g h e =
 
 -- ---- the start
 
-lines-length : (ss : List Statement) (n first : ℕ) → length (startLines ss n first) ≡ n * Size.costs
-unfolding startLines startLine
-lines-length ss zero first = refl
-lines-length ss (suc n) first = omega (arith, lines-length ss n (suc first))
-
-pub start-length : (ss : List Statement) → length (start ss) ≡ Size.numbers
-unfolding start
-start-length ss = lines-length ss Size.lines 1
-
-lines-at : (ss : List Statement) (n first d j : ℕ) → d < n → j < Size.costs → at (startLines ss n first) (d * Size.costs + j) ≡ getD (startLine ss (first + d)) j never
-unfolding at startLines startLine
-lines-at ss zero first d j h i = absurd (omega arith)
-lines-at ss (suc n) first zero j h i =
-    let z : zero * Size.costs + j ≡ j = omega arith in
-    let l : first ≡ first + zero = omega arith in
-    rw z (List·getD-append (startLine ss first) (startLines ss n (suc first)) never j i ∙ ap (λ (m : ℕ). getD (startLine ss m) j never) l)
-lines-at ss (suc n) first (suc d) j h i =
-    let next : suc d * Size.costs + j ≡ length (startLine ss first) + (d * Size.costs + j) = omega arith in
-    let l : suc first + d ≡ first + suc d = omega arith in
-    ap (λ (m : ℕ). getD (startLine ss first ++ startLines ss n (suc first)) m never) next
-    ∙ getD-append-add (startLine ss first) (startLines ss n (suc first)) (d * Size.costs + j) never
-    ∙ lines-at ss n (suc first) d j (omega arith) i
-    ∙ ap (λ (m : ℕ). getD (startLine ss m) j never) l
-
--- "inputs CC 1 and SC 0 for both values, all other controllabilities never. .. CO and SO start at 0 for outputs, never
--- elsewhere"
-abbrev pub firstNumber : List Statement → Kind → Purpose → ℕ
-firstNumber ss k (set l v) = pick (isInput l ss) (inputCost k) never
-firstNumber ss k (observe l) = pick (isOutput l ss) 0 never
-
-line-at : (ss : List Statement) (k : Kind) (p : Purpose) → Placed p → getD (startLine ss (lineOf p)) (costIndex k p) never ≡ firstNumber ss k p
-unfolding startLine inputCost
-line-at ss combinational (set l zero) h = refl
-line-at ss combinational (set l (suc zero)) h = refl
-line-at ss combinational (set l (suc (suc v))) h = absurd (omega (arith, h .1))
-line-at ss sequential (set l zero) h = refl
-line-at ss sequential (set l (suc zero)) h = refl
-line-at ss sequential (set l (suc (suc v))) h = absurd (omega (arith, h .1))
-line-at ss combinational (observe l) h = refl
-line-at ss sequential (observe l) h = refl
-
-pub start-at : (ss : List Statement) (k : Kind) (p : Purpose) → Placed p → at (start ss) (node k p) ≡ firstNumber ss k p
-unfolding start node
-start-at ss k p h =
-    let a : 1 ≤ lineOf p = line-least p h in
-    let b : lineOf p ≤ Size.lines = line-most p h in
-    let e : 1 + (lineOf p - 1) ≡ lineOf p = omega arith in
-    rw (lines-at ss Size.lines 1 (lineOf p - 1) (costIndex k p) (omega arith) (index-below k p h), e) (line-at ss k p h)
-
-pick-bound : (b : Bool) (a : ℕ) → a ≤ never → pick b a never ≤ never
+pick-bound : (b : Bool) (a : ℕ) → (b ≡ true → a ≤ most) → pick b a never ≤ never
 unfolding pick
-pick-bound true a h = h
+pick-bound true a h = omega (arith, h refl)
 pick-bound false a h = le-refl never
 
-lines-bounded : (ss : List Statement) (n first i : ℕ) → at (startLines ss n first) i ≤ never
-unfolding at startLines startLine
-lines-bounded ss zero first i = le-refl never
-lines-bounded ss (suc n) first zero = pick-bound (isInput first ss) 1 (omega arith)
-lines-bounded ss (suc n) first (suc zero) = pick-bound (isInput first ss) 1 (omega arith)
-lines-bounded ss (suc n) first (suc (suc zero)) = pick-bound (isInput first ss) 0 (omega arith)
-lines-bounded ss (suc n) first (suc (suc (suc zero))) = pick-bound (isInput first ss) 0 (omega arith)
-lines-bounded ss (suc n) first (suc (suc (suc (suc zero)))) = pick-bound (isOutput first ss) 0 (omega arith)
-lines-bounded ss (suc n) first (suc (suc (suc (suc (suc zero))))) = pick-bound (isOutput first ss) 0 (omega arith)
-lines-bounded ss (suc n) first (suc (suc (suc (suc (suc (suc i)))))) = lines-bounded ss n (suc first) i
+module _ (price : Pricing) (ss : List Statement) where
+  lines-length : (n first : ℕ) → length (startLines price ss n first) ≡ n * Size.costs
+  unfolding startLines startLine
+  lines-length zero first = refl
+  lines-length (suc n) first = omega (arith, lines-length n (suc first))
 
-pub start-bounded : (ss : List Statement) → Bounded (start ss)
-unfolding start
-start-bounded ss = lines-bounded ss Size.lines 1
+  pub start-length : length (startAt price ss) ≡ Size.numbers
+  unfolding startAt
+  start-length = lines-length Size.lines 1
+
+  lines-at : (n first d j : ℕ) → d < n → j < Size.costs → at (startLines price ss n first) (d * Size.costs + j) ≡ getD (startLine price ss (first + d)) j never
+  unfolding at startLines startLine
+  lines-at zero first d j h i = absurd (omega arith)
+  lines-at (suc n) first zero j h i =
+      let z : zero * Size.costs + j ≡ j = omega arith in
+      let l : first ≡ first + zero = omega arith in
+      rw z (List·getD-append (startLine price ss first) (startLines price ss n (suc first)) never j i ∙ ap (λ (m : ℕ). getD (startLine price ss m) j never) l)
+  lines-at (suc n) first (suc d) j h i =
+      let next : suc d * Size.costs + j ≡ length (startLine price ss first) + (d * Size.costs + j) = omega arith in
+      let l : suc first + d ≡ first + suc d = omega arith in
+      ap (λ (m : ℕ). getD (startLine price ss first ++ startLines price ss n (suc first)) m never) next
+      ∙ getD-append-add (startLine price ss first) (startLines price ss n (suc first)) (d * Size.costs + j) never
+      ∙ lines-at n (suc first) d j (omega arith) i
+      ∙ ap (λ (m : ℕ). getD (startLine price ss m) j never) l
+
+  -- "inputs CC 1 and SC 0 for both values, all other controllabilities never. .. CO and SO start at 0 for outputs, never
+  -- elsewhere"
+  abbrev pub firstNumber : Kind → Purpose → ℕ
+  firstNumber k (set l v) = pick (isInput l ss) (inputCost price k l) never
+  firstNumber k (observe l) = pick (isOutput l ss) 0 never
+
+  line-at : (k : Kind) (p : Purpose) → Placed p → getD (startLine price ss (lineOf p)) (costIndex k p) never ≡ firstNumber k p
+  unfolding startLine inputCost
+  line-at combinational (set l zero) h = refl
+  line-at combinational (set l (suc zero)) h = refl
+  line-at combinational (set l (suc (suc v))) h = absurd (omega (arith, h .1))
+  line-at sequential (set l zero) h = refl
+  line-at sequential (set l (suc zero)) h = refl
+  line-at sequential (set l (suc (suc v))) h = absurd (omega (arith, h .1))
+  line-at combinational (observe l) h = refl
+  line-at sequential (observe l) h = refl
+
+  pub start-at : (k : Kind) (p : Purpose) → Placed p → at (startAt price ss) (node k p) ≡ firstNumber k p
+  unfolding startAt node
+  start-at k p h =
+      let a : 1 ≤ lineOf p = line-least p h in
+      let b : lineOf p ≤ Size.lines = line-most p h in
+      let e : 1 + (lineOf p - 1) ≡ lineOf p = omega arith in
+      rw (lines-at Size.lines 1 (lineOf p - 1) (costIndex k p) (omega arith) (index-below k p h), e) (line-at k p h)
+
+  -- An input's cost is a figure in both kinds.
+  pub cost-figure : Figures price ss → (k : Kind) (l : ℕ) → isInput l ss ≡ true → inputCost price k l ≤ most
+  unfolding inputCost
+  cost-figure f combinational l e = f l e
+  cost-figure f sequential l e = omega arith
+
+  lines-bounded : Figures price ss → (n first i : ℕ) → at (startLines price ss n first) i ≤ never
+  unfolding at startLines startLine
+  lines-bounded f zero first i = le-refl never
+  lines-bounded f (suc n) first zero = pick-bound (isInput first ss) _ (cost-figure f combinational first)
+  lines-bounded f (suc n) first (suc zero) = pick-bound (isInput first ss) _ (cost-figure f combinational first)
+  lines-bounded f (suc n) first (suc (suc zero)) = pick-bound (isInput first ss) _ (cost-figure f sequential first)
+  lines-bounded f (suc n) first (suc (suc (suc zero))) = pick-bound (isInput first ss) _ (cost-figure f sequential first)
+  lines-bounded f (suc n) first (suc (suc (suc (suc zero)))) = pick-bound (isOutput first ss) 0 (λ e. omega arith)
+  lines-bounded f (suc n) first (suc (suc (suc (suc (suc zero))))) = pick-bound (isOutput first ss) 0 (λ e. omega arith)
+  lines-bounded f (suc n) first (suc (suc (suc (suc (suc (suc i)))))) = lines-bounded f n (suc first) i
+
+  pub start-bounded : Figures price ss → Bounded (startAt price ss)
+  unfolding startAt
+  start-bounded f = lines-bounded f Size.lines 1
+
+-- ---- the prices of the netlist itself
+
+-- .. are figures.
+pub own-figures : {cells : List Cell} {ss : List Statement} → BothSound cells ss → Figures (pricesOf ss) ss
+unfolding pricesOf
+own-figures sound l e = omega arith

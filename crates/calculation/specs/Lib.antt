@@ -1,7 +1,9 @@
 pub mod Nodes
+pub mod Prices
 pub mod Ways
 pub mod Calculation
 pub mod Plans
 pub mod Settled
 pub mod Acceptance
 pub mod Changes
+pub mod Between

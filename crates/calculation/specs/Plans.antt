@@ -3,19 +3,14 @@
 -- Assumes nothing.
 use mathlib.Core.Bool.{true}
 use mathlib.Core.List.{List, [], _∷_, List·Memᴰ}
-use mathlib.Core.Logic.{_↔_}
 use mathlib.Core.Path.{_≡_}
-use Prim.Native.Nat.{ℕ, _+_, _≤_, _<_}
-use Rattle.cost.specs.Cost.{most, over, never}
+use Prim.Native.Nat.{ℕ, _+_, _≤_}
+use Rattle.plans.specs.Exact.{Stands}
 use Rattle.cell_library.specs.Cells.{Row, Cell, Column}
 use Rattle.netlist.specs.Netlist.{Gate, Statement, gatesOf, isInput, isOutput}
-use Rattle.calculation.specs.Nodes.{Kind, combinational, sequential, Purpose, set, observe}
+use Rattle.calculation.specs.Nodes.{Kind, Purpose, set, observe}
+use Rattle.calculation.specs.Prices.{Pricing, inputCost, pricesOf}
 use Rattle.calculation.specs.Ways.{cellOf, pinLine, asked, setting, observing, groupOf, asks, isWay}
-
--- "An input is set to either value at combinational cost 1, sequential cost 0."
-unfoldable pub inputCost : Kind → ℕ
-inputCost combinational = 1
-inputCost sequential = 0
 
 module _ (cells : List Cell) (ss : List Statement) (k : Kind) where
   mutual
@@ -47,25 +42,26 @@ module _ (cells : List Cell) (ss : List Statement) (k : Kind) where
       also : {g : Gate} {c : Column} {cs : List Column} → Plan (asked g c) → Plans g cs → Plans g (c ∷ cs)
 
 -- "its cost is the sum of those plans plus the depth"; "costs and depth add"; "The cost of a plan is the exact sum, without a
--- ceiling."
+-- ceiling.": at whatever prices of the inputs.
 unfoldable mutual
-  pub cost : {cells : List Cell} {ss : List Statement} {k : Kind} {p : Purpose} → Plan cells ss k p → ℕ
-  cost {k = k} (input h e) = inputCost k
-  cost (row g m e r q u ps) = r .depth + costs ps
-  cost (output e) = 0
-  cost (through g m i b h e r q ps) = r .depth + costs ps
+  pub costAt : Pricing → {cells : List Cell} {ss : List Statement} {k : Kind} {p : Purpose} → Plan cells ss k p → ℕ
+  costAt price {k = k} (input {l = l} h e) = inputCost price k l
+  costAt price (row g m e r q u ps) = r .depth + costsAt price ps
+  costAt price (output e) = 0
+  costAt price (through g m i b h e r q ps) = r .depth + costsAt price ps
 
-  pub costs : {cells : List Cell} {ss : List Statement} {k : Kind} {g : Gate} {cs : List Column} → Plans cells ss k g cs → ℕ
-  costs done = 0
-  costs (also p ps) = cost p + costs ps
+  pub costsAt : Pricing → {cells : List Cell} {ss : List Statement} {k : Kind} {g : Gate} {cs : List Column} → Plans cells ss k g cs → ℕ
+  costsAt price done = 0
+  costsAt price (also p ps) = costAt price p + costsAt price ps
+
+-- At the prices of the netlist.
+abbrev pub cost : {cells : List Cell} {ss : List Statement} {k : Kind} {p : Purpose} → Plan cells ss k p → ℕ
+cost {ss = ss} q = costAt (pricesOf ss) q
 
 -- Demand 3, of one number x for one purpose, "each against every plan for the same line and the same purpose, in the same
 -- terms, combinational or sequential".
-pub record Exact (cells : List Cell) (ss : List Statement) (k : Kind) (p : Purpose) (x : ℕ) : Type 0 where
-  -- "A figure up to 999,999,999 stands exactly when some such plan costs just that and none costs less."
-  pub figure : (n : ℕ) → n ≤ most
-      → (x ≡ n) ↔ (((q : Plan cells ss k p) × (cost q ≡ n)) × ((q : Plan cells ss k p) → n ≤ cost q))
-  -- ""Over" stands exactly when such plans exist and every one of them costs more than 999,999,999."
-  pub isOver : (x ≡ over) ↔ (Plan cells ss k p × ((q : Plan cells ss k p) → most < cost q))
-  -- ""Never" stands exactly when there is no such plan."
-  pub isNever : (x ≡ never) ↔ (Plan cells ss k p → ⊥)
+abbrev pub ExactAt : Pricing → List Cell → List Statement → Kind → Purpose → ℕ → Type 0
+ExactAt price cells ss k p x = Stands (Plan cells ss k p) (λ q. costAt price q) x
+
+abbrev pub Exact : List Cell → List Statement → Kind → Purpose → ℕ → Type 0
+Exact cells ss k p x = ExactAt (pricesOf ss) cells ss k p x

@@ -7,7 +7,8 @@ use Rattle.plans.specs.Stages.{Stages}
 use Rattle.cell_library.specs.Cells.{Cell}
 use Rattle.netlist.specs.Netlist.{Statement, gatesOf}
 use Rattle.calculation.specs.declared.Counts.{Counts}
-use Rattle.calculation.specs.Calculation.{start, stages, Analysed}
+use Rattle.calculation.specs.Prices.{Pricing, pricesOf}
+use Rattle.calculation.specs.Calculation.{startAt, stages, Analysed}
 
 -- The four counts in the order of the runs.
 abbrev pub inOrder : Counts → List ℕ
@@ -15,8 +16,11 @@ inOrder c = c .cc ∷ c .sc ∷ c .co ∷ c .so ∷ []
 
 -- "Sweeps stop after the first that changes nothing; it is counted. CC and SC run separately. Then CO and SO". There is one
 -- such analysis, and `analysed` is it (`settled` and `settled-once` of proofs/Laws.antt).
+abbrev pub SettledAt : Pricing → List Cell → List Statement → Analysed → Type 0
+SettledAt price cells ss a = Stages (stages cells (gatesOf ss)) (startAt price ss) (inOrder (a .counts)) (a .numbers)
+
 abbrev pub Settled : List Cell → List Statement → Analysed → Type 0
-Settled cells ss a = Stages (stages cells (gatesOf ss)) (start ss) (inOrder (a .counts)) (a .numbers)
+Settled cells ss a = SettledAt (pricesOf ss) cells ss a
 
 -- "With G gates, CC and SC take at most 2G + 1 sweeps each, CO and SO at most G + 1."
 pub record FewSweeps (gates : ℕ) (c : Counts) : Type 0 where

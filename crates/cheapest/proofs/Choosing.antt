@@ -22,10 +22,12 @@ use Rattle.cell_library.specs.Cells.{Row, Group, Cell}
 use Rattle.netlist.specs.Netlist.{Gate, Statement, gatesOf}
 use Rattle.netlist.specs.Sound.{InRange, DrivenOnce}
 use Rattle.netlist.proofs.Laws.{driven-once}
+use Rattle.calculation.specs.Prices.{pricesOf}
 use Rattle.calculation.specs.Nodes.{Kind, kindNumber, Purpose, set, observe, lineOf, node}
 use Rattle.calculation.specs.Ways.{cellOf, needs, Role, setting, observing, purposeOf, wayOf, waysOf, visit}
 use Rattle.calculation.specs.Acceptance.{BothSound}
 use Rattle.calculation.specs.Calculation.{start}
+use Rattle.calculation.proofs.Laws.{own-figures}
 use Rattle.calculation.proofs.Placing.{Placed, kind-small, node-injective, start-bounded}
 use Rattle.calculation.proofs.Visiting.{Sets, getD-listed, setting-from, sets-has}
 use Rattle.calculation.proofs.Accepting.{purpose-placed}
@@ -78,7 +80,7 @@ module _ (cells : List Cell) (ss : List Statement) (sound : BothSound cells ss) 
       subst (λ (t : Trace). markAt (t .marks) n ≡ some m → at (t .numbers) n ≤ most → SettledBy (visits cells ss sound k) (start ss) t n m)
       (sym (trace-lower cells ss sound k))
       (λ e h.
-      settled-row (visits cells ss sound k) (most-sweeps cells ss sound k) (start ss) (start-bounded ss) (visits-inside cells ss sound k) (rests cells ss sound k) n m e
+      settled-row (visits cells ss sound k) (most-sweeps cells ss sound k) (start ss) (start-bounded (pricesOf ss) ss (own-figures sound)) (visits-inside cells ss sound k) (rests cells ss sound k) n m e
       (rw (traced-numbers lower (visits cells ss sound k) (most-sweeps cells ss sound k) (start ss)) at h))
 
   pub unmarked : (n : ℕ) → markAt (trace .marks) n ≡ none → at (trace .numbers) n ≡ at (start ss) n
@@ -87,7 +89,7 @@ module _ (cells : List Cell) (ss : List Statement) (sound : BothSound cells ss) 
       (sym (trace-lower cells ss sound k))
       (λ e.
       ap (λ (xs : List ℕ). at xs n) (traced-numbers lower (visits cells ss sound k) (most-sweeps cells ss sound k) (start ss))
-      ∙ unmarked-stood (visits cells ss sound k) (most-sweeps cells ss sound k) (start ss) (start-bounded ss) (visits-inside cells ss sound k) n e)
+      ∙ unmarked-stood (visits cells ss sound k) (most-sweeps cells ss sound k) (start ss) (start-bounded (pricesOf ss) ss (own-figures sound)) (visits-inside cells ss sound k) n e)
 
   -- The row that a mark of a line at a value tells.
   pub record Chosen (l v : ℕ) (m : Mark) : Type 0 where

@@ -19,11 +19,12 @@ use Rattle.plans.specs.Trace.{Mark, Trace, markAt, SettledBy}
 use Rattle.cell_library.specs.Cells.{Row, Group, Cell, Column, pin, output}
 use Rattle.cell_library.specs.Cells as C
 use Rattle.netlist.specs.Netlist.{Gate, Statement, gatesOf, isInput}
+use Rattle.calculation.specs.Prices.{inputCost, pricesOf}
 use Rattle.calculation.specs.Nodes.{Kind, kindNumber, Purpose, set, node}
 use Rattle.calculation.specs.Ways.{cellOf, pinLine, asked, needs, setting, groupOf, asks, isWay, wayOf}
 use Rattle.calculation.specs.Acceptance.{BothSound}
 use Rattle.calculation.specs.Calculation.{start}
-use Rattle.calculation.specs.Plans.{inputCost, Plan, Plan.input, Plan.row, Plans, Plans.done, Plans.also, cost, costs}
+use Rattle.calculation.specs.Plans.{Plan, Plan.input, Plan.row, Plans, Plans.done, Plans.also, costAt, costsAt, cost}
 use Rattle.calculation.proofs.Placing.{Placed, start-at}
 use Rattle.calculation.proofs.Visiting.{getD-listed, MayName, asks-named, usable-from}
 use Rattle.calculation.proofs.Accepting.{asked-placed}
@@ -121,7 +122,7 @@ module _ (cells : List Cell) (ss : List Statement) (sound : BothSound cells ss) 
   record ShownAll (limit : ℕ) (g : Gate) (cs : List Column) : Type 0 where
     plans : Plans cells ss k g cs
     lowered : AllLastLowered marks plans
-    total : costs plans ≡ sums xs (needs k g cs)
+    total : costsAt (pricesOf ss) plans ≡ sums xs (needs k g cs)
     tree : (more depth : ℕ) → limit ≤ more → joined (treeText k cells gs marks more depth) (needs k g cs) ≡ plansText depth plans
     written : (before depth : ℕ) → limit ≤ before → columnsCode before depth g cs ≡ plansText depth plans
 
@@ -140,8 +141,8 @@ module _ (cells : List Cell) (ss : List Statement) (sound : BothSound cells ss) 
     -- ---- an input
 
     module _ (l v : ℕ) (placed : Placed (set l v)) (stood : markAt marks (node k (set l v)) ≡ none) where
-      input-shown : isInput l ss ≡ true → at xs (node k (set l v)) ≡ inputCost k → Shown l v
-      unfolding LastLowered cost planText treeText nodeText
+      input-shown : isInput l ss ≡ true → at xs (node k (set l v)) ≡ inputCost (pricesOf ss) k l → Shown l v
+      unfolding LastLowered costAt planText treeText nodeText
       input-shown e c =
           record {
             plan = input (placed .1) e;
@@ -155,8 +156,8 @@ module _ (cells : List Cell) (ss : List Statement) (sound : BothSound cells ss) 
           by-tree zero depth h = absurd (omega arith)
           by-tree (suc more) depth h = rw (stood, node-line k l v placed, node-value k l v placed) refl
 
-      start-is : at xs (node k (set l v)) ≡ pick (isInput l ss) (inputCost k) never
-      start-is = unmarked cells ss sound k (node k (set l v)) stood ∙ start-at ss k (set l v) placed
+      start-is : at xs (node k (set l v)) ≡ pick (isInput l ss) (inputCost (pricesOf ss) k l) never
+      start-is = unmarked cells ss sound k (node k (set l v)) stood ∙ start-at (pricesOf ss) ss k (set l v) placed
 
       from-start : at xs (node k (set l v)) ≤ most → (b : Bool) → isInput l ss ≡ b → Shown l v
       unfolding pick
@@ -170,7 +171,7 @@ module _ (cells : List Cell) (ss : List Statement) (sound : BothSound cells ss) 
       all-shown : (cs : List Column) → ((c : Column) → List·Memᴰ c cs → MayName (cellOf cells g .pins) (setting 0) c)
           → ((c : Column) → List·Memᴰ c cs → visitOf (markAt marks (node k (asked g c))) < limit)
           → sums xs (needs k g cs) ≤ most → ShownAll limit g cs
-      unfolding AllLastLowered costs plansText needs sums joined asked columnsCode
+      unfolding AllLastLowered costsAt plansText needs sums joined asked columnsCode
       all-shown [] named early h =
           record { plans = done; lowered = tt; total = refl; tree = λ more depth q. refl; written = λ before depth q. refl }
       all-shown (output v ∷ cs) named early h = absurd (named (output v) (List·Memᴰ·head refl))
@@ -241,7 +242,7 @@ module _ (cells : List Cell) (ss : List Statement) (sound : BothSound cells ss) 
           (getD-listed (wayRows k cells (c .gate) v) (m .place) noRow (c .within))
 
       row-shown : Shown l v
-      unfolding LastLowered cost planText treeText visitOf
+      unfolding LastLowered costAt planText treeText visitOf
       row-shown =
           record {
             plan = row (c .gate) (c .listed) (c .drives) r (among .0) (among .1) (below .plans);

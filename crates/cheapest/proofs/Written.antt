@@ -25,10 +25,12 @@ use Rattle.netlist.specs.Sound.{InRange}
 use Rattle.netlist.proofs.Laws.{driven-once, gate-sound}
 use Rattle.cell_library.proofs.Places.{cell-heading}
 use Rattle.netlist.proofs.Places.{netlist-count}
+use Rattle.calculation.specs.Prices.{pricesOf}
 use Rattle.calculation.specs.Nodes.{Kind, combinational, sequential, kindNumber, set, node}
 use Rattle.calculation.specs.Ways.{noCell, cellOf, pinLine, Role, setting, groupOf, groupIndex, wordOf, bothValues, oneWire, asks, isWay, usable}
 use Rattle.calculation.specs.Acceptance.{BothSound}
 use Rattle.calculation.specs.Calculation.{analysed}
+use Rattle.calculation.proofs.Laws.{own-figures}
 use Rattle.calculation.proofs.Placing.{Placed, node-inside}
 use Rattle.calculation.proofs.Bounding.{numbers-length}
 use Rattle.plans.specs.Sweep.{at}
@@ -336,7 +338,7 @@ module _ (cells : List Cell) (ss : List Statement) (sound : BothSound cells ss) 
     cheapest l v placed small =
         let n = node k (set l v) in
         let entry : at (analysed cells ss .numbers) n ≡ getD (analysed cells ss .numbers) n 0 =
-        at-getD (analysed cells ss .numbers) n 0 (rw (numbers-length cells ss sound) (node-inside k (set l v) placed)) in
+        at-getD (analysed cells ss .numbers) n 0 (rw (numbers-length cells ss sound (pricesOf ss) (own-figures sound)) (node-inside k (set l v) placed)) in
         let same : at (trace cells ss sound k .numbers) n ≡ getD (analysed cells ss .numbers) n 0 = sym (reported cells ss sound l v placed k) ∙ entry in
         let s = P.shown cells ss sound k code codes (suc (visitOf (markAt (trace cells ss sound k .marks) n))) l v placed (rw same small) (omega arith) in
         let text = s .tree (suc (visitOf (markAt (trace cells ss sound k .marks) n))) 0 (omega arith) in (

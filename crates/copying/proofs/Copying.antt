@@ -36,7 +36,8 @@ use Rattle.netlist.specs.Sound.{Apart}
 use Rattle.netlist.proofs.Causes.{lineBad-good, member-append, member-more, mark-cause, taken}
 use Rattle.netlist.proofs.Opening.{declared-read, needed-mentioned, where-same}
 use Rattle.netlist.proofs.Admitting.{admitted-more, admitted-refused}
-use Rattle.calculation.specs.Calculation.{startLine, startLines, start, analysed}
+use Rattle.calculation.specs.Prices.{inputCost, pricesOf}
+use Rattle.calculation.specs.Calculation.{startLine, startLines, startAt, analysedAt, analysed}
 use Rattle.copying.specs.Copy.{openLine, openLines, copyOf, opens, declaredToo}
 use Rattle.copying.specs.Kept.{Kept, CopyKeeps}
 use Rattle.copying.proofs.Splitting.{Good, lines-append, Unmarked, split-marked, split-whole, line-first}
@@ -364,8 +365,8 @@ module _ (ss : List Statement) where
   unfolding isMarked markedLines declaredToo
   marked-too m h l = rw (opens-silent (linesMarked m) h ss ls)
 
-  lines-too : (n first : ℕ) → startLines (declaredToo ss) n first ≡ startLines ss n first
-  unfolding startLines startLine
+  lines-too : (n first : ℕ) → startLines (pricesOf (declaredToo ss)) (declaredToo ss) n first ≡ startLines (pricesOf ss) ss n first
+  unfolding startLines startLine inputCost pricesOf
   lines-too zero first = refl
   lines-too (suc n) first =
       rw (
@@ -375,7 +376,7 @@ module _ (ss : List Statement) where
       )
 
   numbers-too : (cells : List Cell) → analysed cells (declaredToo ss) ≡ analysed cells ss
-  unfolding analysed start
+  unfolding analysedAt startAt
   numbers-too cells =
       let gates : gatesOf (declaredToo ss) ≡ gatesOf ss = unfold gatesOf declaredToo in
       opens-silent gatesIn (λ k. unfold gatesIn in refl) ss ls

@@ -17,10 +17,12 @@ use Rattle.cell_library.specs.Cells.{Cell}
 use Rattle.netlist.specs.Netlist.{Statement, mentioned}
 use Rattle.netlist.specs.Layout.{netlistWords, mentionWord}
 use Rattle.netlist.proofs.Places.{mention-word}
+use Rattle.calculation.specs.Prices.{pricesOf}
 use Rattle.calculation.specs.Calculation.{analysed}
 use Rattle.sweep.specs.Ready.{Holds, Calculated}
 use Rattle.calculation.specs.Acceptance.{BothSound}
 use Rattle.calculation.specs.declared.Counts.{Counts}
+use Rattle.calculation.proofs.Laws.{own-figures}
 use Rattle.calculation.proofs.Laws.{numbers-length}
 use Rattle.report.specs.Report.{reportBytes, reportAfter, written}
 use Rattle.report.specs.Answer.{marked, writtenRead, Reported}
@@ -50,7 +52,7 @@ same-report cells ss sound past rest =
     let a = analysed cells ss in
     report-same (marked (netlistWords ss ++ past)) (λ l. mentioned l ss) (a .numbers ++ rest) (a .numbers) (a .counts)
     (λ l x y. marks ss past l x y)
-    (λ i h. List·getD-append (a .numbers) rest 0 i (rw (numbers-length cells ss sound) h))
+    (λ i h. List·getD-append (a .numbers) rest 0 i (rw (numbers-length cells ss sound (pricesOf ss) (own-figures sound)) h))
 
 -- what `conclude` answers, from whether the report fits
 module _ (cells : List Cell) (ss : List Statement) (before : List ℕ) where

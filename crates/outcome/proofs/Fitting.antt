@@ -20,8 +20,10 @@ use Rattle.cell_library.specs.Library.{library}
 use Rattle.cell_library.proofs.Bounds.{library-within}
 use Rattle.cell_library.proofs.Laws.{library-sound}
 use Rattle.netlist.specs.Netlist.{Statement, mentioned, gatesOf}
+use Rattle.calculation.specs.Prices.{pricesOf}
 use Rattle.calculation.specs.Acceptance.{BothSound}
 use Rattle.calculation.specs.Calculation.{analysed}
+use Rattle.calculation.proofs.Laws.{own-figures}
 use Rattle.calculation.proofs.Laws.{few-sweeps}
 use Rattle.report.specs.Report.{longestReport}
 use Rattle.report.proofs.Laws.{report-length}
@@ -35,7 +37,7 @@ module _ (cells : List Cell) (ss : List Statement) (sound : BothSound cells ss) 
   unfolding reportOf
   report-short =
       let a = analysed cells ss in
-      report-length (λ l. mentioned l ss) (a .numbers) (a .counts) (length (gatesOf ss)) (sound .netlist .few) (few-sweeps cells ss sound)
+      report-length (λ l. mentioned l ss) (a .numbers) (a .counts) (length (gatesOf ss)) (sound .netlist .few) (few-sweeps cells ss sound (pricesOf ss) (own-figures sound))
 
   concludes-fitting : (space : ℕ) → longestReport ≤ space → conclude cells ss space ≡ read (concluded cells ss)
   unfolding conclude weigh _>>_ pick

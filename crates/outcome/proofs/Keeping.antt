@@ -16,12 +16,14 @@ use Rattle.cost.specs.Cost.{never}
 use Rattle.cell_library.specs.Cells.{Cell}
 use Rattle.netlist.specs.Netlist.{Statement, mentioned, gatesOf}
 use Rattle.netlist.specs.Sound.{InRange}
+use Rattle.calculation.specs.Prices.{pricesOf}
 use Rattle.calculation.specs.Nodes.{Kind, combinational, sequential, Purpose, set, observe, lineOf, node}
 use Rattle.calculation.specs.Calculation.{analysed}
 use Rattle.calculation.specs.Settled.{Settled, FewSweeps}
 use Rattle.calculation.specs.Plans.{Exact}
 use Rattle.calculation.specs.Acceptance.{BothSound}
 use Rattle.calculation.specs.declared.Counts.{Counts}
+use Rattle.calculation.proofs.Laws.{own-figures}
 use Rattle.calculation.proofs.Laws.{exact, settled, settled-once, few-sweeps, unmentioned, entry-bounded, numbers-length, node-inside, Placed}
 use Rattle.report.specs.Report.{reportBytes}
 use Rattle.report.proofs.Laws.{report-same}
@@ -110,7 +112,7 @@ module _ (g : Given) (checked : Checked g) (before after : Lent) (said : Read Su
     entry-at : (i : ℕ) → i < Size.numbers → getD (after .numbers) i 0 ≡ getD (analysed cells ss .numbers) i 0
     entry-at i h =
         ap (λ (y : List ℕ). getD y i 0) (z .numbers)
-        ∙ List·getD-append (analysed cells ss .numbers) (drop Size.numbers (before .numbers)) 0 i (rw (numbers-length cells ss sound) h)
+        ∙ List·getD-append (analysed cells ss .numbers) (drop Size.numbers (before .numbers)) 0 i (rw (numbers-length cells ss sound (pricesOf ss) (own-figures sound)) h)
 
     counts-are : s .counts ≡ analysed cells ss .counts
     unfolding summary
@@ -118,7 +120,7 @@ module _ (g : Given) (checked : Checked g) (before after : Lent) (said : Read Su
 
     numbers-are : take Size.numbers (after .numbers) ≡ analysed cells ss .numbers
     numbers-are =
-        rw (z .numbers) (take-at (analysed cells ss .numbers) (drop Size.numbers (before .numbers)) Size.numbers (numbers-length cells ss sound))
+        rw (z .numbers) (take-at (analysed cells ss .numbers) (drop Size.numbers (before .numbers)) Size.numbers (numbers-length cells ss sound (pricesOf ss) (own-figures sound)))
 
     stands : standing after s ≡ analysed cells ss
     stands = λ i. record { numbers = numbers-are i; counts = counts-are i }
@@ -126,23 +128,23 @@ module _ (g : Given) (checked : Checked g) (before after : Lent) (said : Read Su
     unmentioned-at : (l i : ℕ) → 1 ≤ l → l ≤ Size.lines → i < Size.costs → mentioned l ss ≡ false → getD (after .numbers) (linePlace l + i) 0 ≡ never
     unmentioned-at l i a b h e =
         by-purpose (λ (n : ℕ). getD (after .numbers) n 0 ≡ never) l a b
-        (λ k p q same. entry-at (node k p) (node-inside k p q) ∙ unmentioned cells ss sound k p q (rw same e)) i h
+        (λ k p q same. entry-at (node k p) (node-inside k p q) ∙ unmentioned cells ss sound (pricesOf ss) (own-figures sound) k p q (rw same e)) i h
 
     calculates : Calculated g before after said cells ss s
     calculates =
         record {
           numbers = numbers-are;
           counts = counts-are;
-          settled = subst (Settled cells ss) (sym stands) (settled cells ss sound);
-          settledOnce = λ a t. settled-once cells ss sound a t ∙ sym stands;
-          fewSweeps = subst (FewSweeps (length (gatesOf ss))) (sym counts-are) (few-sweeps cells ss sound);
-          costs = λ i h. rw (entry-at i h) (entry-bounded cells ss sound i);
+          settled = subst (Settled cells ss) (sym stands) (settled cells ss sound (pricesOf ss) (own-figures sound));
+          settledOnce = λ a t. settled-once cells ss sound (pricesOf ss) (own-figures sound) a t ∙ sym stands;
+          fewSweeps = subst (FewSweeps (length (gatesOf ss))) (sym counts-are) (few-sweeps cells ss sound (pricesOf ss) (own-figures sound));
+          costs = λ i h. rw (entry-at i h) (entry-bounded cells ss sound (pricesOf ss) (own-figures sound) i);
           unmentioned = unmentioned-at;
         }
 
     exact-at : (k : Kind) (p : Purpose) → Reported p → Exact cells ss k p (getD (after .numbers) (node k p) 0)
     exact-at k p r =
-        subst (λ (y : ℕ). Exact cells ss k p y) (sym (entry-at (node k p) (node-inside k p (placed p r)))) (exact cells ss sound k p (placed p r))
+        subst (λ (y : ℕ). Exact cells ss k p y) (sym (entry-at (node k p) (node-inside k p (placed p r)))) (exact cells ss sound (pricesOf ss) (own-figures sound) k p (placed p r))
 
     report-is : reportOf ss (analysed cells ss) ≡ standingReport ss after s
     unfolding reportOf

@@ -20,9 +20,11 @@ use Rattle.writer.specs.Put.{Put}
 use Rattle.writer.proofs.Steps.{put-front}
 use Rattle.cell_library.specs.Cells.{Cell}
 use Rattle.netlist.specs.Netlist.{Statement}
+use Rattle.calculation.specs.Prices.{pricesOf}
 use Rattle.calculation.specs.Nodes.{Kind, combinational, sequential, kindNumber, set, node}
 use Rattle.calculation.specs.Calculation.{analysed}
 use Rattle.calculation.specs.Acceptance.{BothSound}
+use Rattle.calculation.proofs.Laws.{own-figures}
 use Rattle.calculation.proofs.Laws.{numbers-length}
 use Rattle.gates.proofs.Naming.{set-node}
 use Rattle.cheapest.specs.Text.{cheapestText}
@@ -78,7 +80,7 @@ module _ (cells : List Cell) (ss : List Statement) (sound : BothSound cells ss) 
       let i = in-range l v kind t in
       rw t
       (List·getD-append (analysed cells ss .numbers) rest 0 (settingPlace kind l v)
-      (rw (numbers-length cells ss sound) (omega (arith, i .least, i .most, i .value, i .kinds)))))
+      (rw (numbers-length cells ss sound (pricesOf ss) (own-figures sound)) (omega (arith, i .least, i .most, i .value, i .kinds)))))
       (λ t. rw t refl)
 
 -- ---- answers are told apart

@@ -22,71 +22,87 @@ use Rattle.plans.specs.System.{
   cost,
   costs,
 }
-use Rattle.plans.specs.Exact.{Exact, SomeCosts, NoneBelow, Attained}
+use Rattle.plans.specs.Exact.{Stands, AttainedBy}
+use Rattle.plans.proofs.Exactness.{stands}
 use Rattle.plans.specs.Statements.{PlanWithin, PlanAtAnyPrices, AttainedMore, ExactWithin, MoreWays, MorePrices, ExactOnce}
 
--- ---- an exact number is attained, and no plan costs less
+-- ---- a number that stands is attained, and no plan costs less
 
-module _ (S : System) (n x : ℕ) (e : Exact S n x) where
+module _ {P : Type 0} (c : P → ℕ) (x : ℕ) (e : Stands P c x) where
   -- Were it above never, no plan would cost any figure, ..
-  none-upto : never < x → (k : ℕ) → k ≤ over → (p : Plan S n) → k ≤ cost p
+  none-upto : never < x → (k : ℕ) → k ≤ over → (p : P) → k ≤ c p
   none-upto h zero l p = omega arith
-  none-upto h (suc k) l p = test (ℕ-discrete (cost p) k) (none-upto h k (omega arith))
+  none-upto h (suc k) l p = test (ℕ-discrete (c p) k) (none-upto h k (omega arith))
     where
-      test : Dec (cost p ≡ k) → NoneBelow S n k → suc k ≤ cost p
-      test (yes f) below = absurd (omega (arith, e .small k (omega arith) .1 ((p, f), below)))
+      test : Dec (c p ≡ k) → ((q : P) → k ≤ c q) → suc k ≤ c p
+      test (yes f) below = absurd (omega (arith, e .figure k (omega arith) .1 ((p, f), below)))
       test (no f) below = omega (arith, below p)
 
   -- .. so that there would be none, and the number would be never.
-  exact-cost : never < x → ⊥
-  exact-cost h =
-      let none : Plan S n → ⊥ = λ p. omega (arith, e .great .1 (p, λ q. none-upto h over (le-refl over) q)) in
-      omega (arith, e .missing .1 none)
-
-  exact-cases : (x ≤ most) ⊎ ((x ≡ over) ⊎ (x ≡ never))
-  exact-cases = split (decLe x most) (ℕ-discrete x over) (ℕ-discrete x never)
+  pub stands-cost : x ≤ never
+  stands-cost = split (decLe x never)
     where
-      split : Dec (x ≤ most) → Dec (x ≡ over) → Dec (x ≡ never) → (x ≤ most) ⊎ ((x ≡ over) ⊎ (x ≡ never))
-      split (yes a) b c = inl a
-      split (no a) (yes b) c = inr (inl b)
-      split (no a) (no b) (yes c) = inr (inr c)
-      split (no a) (no b) (no c) = absurd (exact-cost (omega arith))
+      split : Dec (x ≤ never) → x ≤ never
+      split (yes h) = h
+      split (no h) =
+          let none : P → ⊥ = λ p. omega (arith, e .isOver .1 (p, λ q. none-upto (omega arith) over (le-refl over) q)) in
+          omega (arith, e .isNever .1 none)
 
-  pub exact-attained : Attained S n x
+  stands-cases : (x ≤ most) ⊎ ((x ≡ over) ⊎ (x ≡ never))
+  stands-cases = split (decLe x most) (ℕ-discrete x over)
+    where
+      split : Dec (x ≤ most) → Dec (x ≡ over) → (x ≤ most) ⊎ ((x ≡ over) ⊎ (x ≡ never))
+      split (yes a) b = inl a
+      split (no a) (yes b) = inr (inl b)
+      split (no a) (no b) = inr (inr (omega (arith, stands-cost)))
+
+  pub stands-attained : AttainedBy P c x
   unfolding capped
-  exact-attained = split exact-cases
+  stands-attained = split stands-cases
     where
-      split : (x ≤ most) ⊎ ((x ≡ over) ⊎ (x ≡ never)) → Attained S n x
-      split (inl a) = let t : SomeCosts S n x × NoneBelow S n x = e .small x a .0 refl in inr (t .0 .0, omega (arith, t .0 .1))
+      split : (x ≤ most) ⊎ ((x ≡ over) ⊎ (x ≡ never)) → AttainedBy P c x
+      split (inl a) =
+          let t : ((p : P) × (c p ≡ x)) × ((p : P) → x ≤ c p) = e .figure x a .0 refl in
+          inr (t .0 .0, omega (arith, t .0 .1))
       split (inr (inl a)) =
-          let t : Plan S n × ((p : Plan S n) → most < cost p) = e .great .0 a in
+          let t : P × ((p : P) → most < c p) = e .isOver .0 a in
           inr (t .0, omega (arith, t .1 (t .0)))
       split (inr (inr a)) = inl a
 
-  pub exact-below : (p : Plan S n) → x ≤ capped (cost p)
+  pub stands-below : (p : P) → x ≤ capped (c p)
   unfolding capped
-  exact-below p = split exact-cases
+  stands-below p = split stands-cases
     where
-      split : (x ≤ most) ⊎ ((x ≡ over) ⊎ (x ≡ never)) → x ≤ capped (cost p)
-      split (inl a) = omega (arith, e .small x a .0 refl .1 p)
-      split (inr (inl a)) = omega (arith, e .great .0 a .1 p)
-      split (inr (inr a)) = absurd (e .missing .0 a p)
+      split : (x ≤ most) ⊎ ((x ≡ over) ⊎ (x ≡ never)) → x ≤ capped (c p)
+      split (inl a) = omega (arith, e .figure x a .0 refl .1 p)
+      split (inr (inl a)) = omega (arith, e .isOver .0 a .1 p)
+      split (inr (inr a)) = absurd (e .isNever .0 a p)
 
-attained-least : (S : System) (n x y : ℕ) → Attained S n x → y ≤ never → ((p : Plan S n) → y ≤ capped (cost p)) → y ≤ x
-attained-least S n x y (inl e) h b = omega arith
-attained-least S n x y (inr t) h b = omega (arith, b (t .0))
-
-exact-never : (S : System) (n x : ℕ) → Exact S n x → x ≤ never
-exact-never S n x e = split (decLe x never)
+-- Where each of one's plans has one of the other's that costs no more, the other's number is no higher.
+pub stands-least : {P Q : Type 0} (c : P → ℕ) (d : Q → ℕ) → ((p : P) → (q : Q) × (d q ≤ c p))
+    → (x y : ℕ) → Stands P c x → Stands Q d y → y ≤ x
+unfolding capped
+stands-least {P} {Q} c d carry x y e f = split (stands-attained c x e)
   where
-    split : Dec (x ≤ never) → x ≤ never
-    split (yes h) = h
-    split (no h) = absurd (exact-cost S n x e (omega arith))
+    split : AttainedBy P c x → y ≤ x
+    split (inl a) = omega (arith, stands-cost d y f)
+    split (inr t) =
+        let q : (q : Q) × (d q ≤ c (t .0)) = carry (t .0) in
+        omega (arith, stands-below d y f (q .0), t .1, q .1)
+
+-- Where each has one of the other's at the same cost, what stands of one stands of the other.
+pub stands-carried : {P Q : Type 0} (c : P → ℕ) (d : Q → ℕ) → ((p : P) → (q : Q) × (d q ≡ c p)) → ((q : Q) → (p : P) × (c p ≡ d q))
+    → (x : ℕ) → Stands P c x → Stands Q d x
+stands-carried {P} {Q} c d to from x e = stands d x (there (stands-attained c x e)) (λ q. rw (← from q .1) (stands-below c x e (from q .0)))
+  where
+    there : AttainedBy P c x → AttainedBy Q d x
+    there (inl a) = inl a
+    there (inr t) = inr (to (t .0) .0, t .1 ∙ ap capped (sym (to (t .0) .1)))
 
 pub exact-once : ExactOnce
 exact-once S n x y e f =
-    let a : y ≤ x = attained-least S n x y (exact-attained S n x e) (exact-never S n y f) (exact-below S n y f) in
-    let b : x ≤ y = attained-least S n y x (exact-attained S n y f) (exact-never S n x e) (exact-below S n x e) in
+    let a : y ≤ x = stands-least (λ p. cost p) (λ p. cost p) (λ p. (p, le-refl (cost p))) x y e f in
+    let b : x ≤ y = stands-least (λ p. cost p) (λ p. cost p) (λ p. (p, le-refl (cost p))) y x f e in
     omega arith
 
 -- ---- two systems
@@ -137,14 +153,7 @@ attained-more S T prices ways n x (inr t) =
     inr (q .0, t .1 ∙ ap capped (sym (q .1)))
 
 pub exact-within : ExactWithin
-unfolding capped
-exact-within S T h n x y e f = split (exact-attained S n x e)
-  where
-    split : Attained S n x → y ≤ x
-    split (inl a) = omega (arith, exact-never T n y f)
-    split (inr t) =
-        let q : (q : Plan T n) × (cost q ≤ cost (t .0)) = plan-within S T h n (t .0) in
-        omega (arith, exact-below T n y f (q .0), t .1, q .1)
+exact-within S T h n x y e f = stands-least (λ p. cost p) (λ p. cost p) (plan-within S T h n) x y e f
 
 pub more-ways : MoreWays
 more-ways S T p v n x y e f =

@@ -27,7 +27,7 @@ use Rattle.plans.specs.System.{
   costs,
 }
 use Rattle.plans.specs.Sweep.{at, sums, way, least, Rule, renew, lower, sweep, sweeps}
-use Rattle.plans.specs.Exact.{Exact, SomeCosts, NoneBelow, Attained}
+use Rattle.plans.specs.Exact.{Stands, Exact, AttainedBy, Attained}
 use Rattle.plans.proofs.Table.{at-set-same, at-set-other}
 use Rattle.plans.proofs.Falling.{lesser-case, least-of, LeastOf, least-bound}
 
@@ -138,56 +138,63 @@ module _ (S : System) (xs : List ℕ) (closed : Closed S xs) where
 
 -- ---- exact
 
-module _ (S : System) (n x : ℕ) (attained : Attained S n x) (bound : (p : Plan S n) → x ≤ capped (cost p)) where
-  small-stands : (k : ℕ) → k ≤ most → x ≡ k → SomeCosts S n k × NoneBelow S n k
-  small-stands k h e = (from attained, below)
-    where
-      from : Attained S n x → SomeCosts S n k
-      from (inl f) = absurd (omega arith)
-      from (inr t) = (t .0, unfold capped in omega arith)
+-- A number that is attained and above no plan's cost stands, whatever the plans are.
+module _ {P : Type 0} (c : P → ℕ) (x : ℕ) (attained : AttainedBy P c x) (bound : (p : P) → x ≤ capped (c p)) where
+  abbrev Least : ℕ → Type 0
+  Least k = ((p : P) × (c p ≡ k)) × ((p : P) → k ≤ c p)
 
-      below : NoneBelow S n k
+  figure-stands : (k : ℕ) → k ≤ most → x ≡ k → Least k
+  figure-stands k h e = (from attained, below)
+    where
+      from : AttainedBy P c x → (p : P) × (c p ≡ k)
+      from (inl f) = absurd (omega arith)
+      from (inr t) = (t .0, unfold capped in omega (arith, t .1))
+
+      below : (p : P) → k ≤ c p
       below p = unfold capped in omega (arith, bound p)
 
-  small-only : (k : ℕ) → k ≤ most → SomeCosts S n k × NoneBelow S n k → x ≡ k
+  figure-only : (k : ℕ) → k ≤ most → Least k → x ≡ k
   unfolding capped
-  small-only k h c = from attained
+  figure-only k h l = from attained
     where
-      from : Attained S n x → x ≡ k
-      from (inl f) = absurd (omega (arith, bound (c .0 .0)))
-      from (inr t) = omega (arith, bound (c .0 .0), c .1 (t .0))
+      from : AttainedBy P c x → x ≡ k
+      from (inl f) = absurd (omega (arith, bound (l .0 .0), l .0 .1))
+      from (inr t) = omega (arith, bound (l .0 .0), l .0 .1, l .1 (t .0), t .1)
 
-  great-stands : x ≡ over → Plan S n × ((p : Plan S n) → most < cost p)
+  over-stands : x ≡ over → P × ((p : P) → most < c p)
   unfolding capped
-  great-stands e = (from attained, λ p. omega (arith, bound p))
+  over-stands e = (from attained, λ p. omega (arith, bound p))
     where
-      from : Attained S n x → Plan S n
+      from : AttainedBy P c x → P
       from (inl f) = absurd (omega arith)
       from (inr t) = t .0
 
-  great-only : Plan S n × ((p : Plan S n) → most < cost p) → x ≡ over
+  over-only : P × ((p : P) → most < c p) → x ≡ over
   unfolding capped
-  great-only c = from attained
+  over-only l = from attained
     where
-      from : Attained S n x → x ≡ over
-      from (inl f) = absurd (omega (arith, bound (c .0)))
-      from (inr t) = omega (arith, c .1 (t .0))
+      from : AttainedBy P c x → x ≡ over
+      from (inl f) = absurd (omega (arith, bound (l .0)))
+      from (inr t) = omega (arith, l .1 (t .0), t .1)
 
-  missing-stands : x ≡ never → Plan S n → ⊥
+  never-stands : x ≡ never → P → ⊥
   unfolding capped
-  missing-stands e p = omega (arith, bound p)
+  never-stands e p = omega (arith, bound p)
 
-  missing-only : (Plan S n → ⊥) → x ≡ never
-  missing-only h = from attained
+  never-only : (P → ⊥) → x ≡ never
+  never-only h = from attained
     where
-      from : Attained S n x → x ≡ never
+      from : AttainedBy P c x → x ≡ never
       from (inl f) = f
       from (inr t) = absurd (h (t .0))
 
-  pub exact : Exact S n x
-  exact =
+  pub stands : Stands P c x
+  stands =
       record {
-        small = λ k h. (small-stands k h, small-only k h);
-        great = (great-stands, great-only);
-        missing = (missing-stands, missing-only);
+        figure = λ k h. (figure-stands k h, figure-only k h);
+        isOver = (over-stands, over-only);
+        isNever = (never-stands, never-only);
       }
+
+pub exact : (S : System) (n x : ℕ) → Attained S n x → ((p : Plan S n) → x ≤ capped (cost p)) → Exact S n x
+exact S n x attained bound = stands (λ p. cost p) x attained bound

@@ -38,7 +38,7 @@ pub use Rattle.plans.proofs.Idling.{idles-rest, asleep-skipped, skipped
 -- ---- runs one after the other, as specs/Stages.antt states them
 pub use Rattle.plans.proofs.Staging.{ranked-apart, stages-within, stages-once, stages-left, stages-exact, first-start}
 -- ---- what a reader may ask of exact numbers, and what requests K10, K11 and K14 rest on
-pub use Rattle.plans.proofs.Comparing.{exact-once, plan-within, plan-at-any-prices, attained-more, exact-within, more-ways, more-prices}
+pub use Rattle.plans.proofs.Comparing.{stands-least, stands-carried, exact-once, plan-within, plan-at-any-prices, attained-more, exact-within, more-ways, more-prices}
 -- ---- what request K3 rests on
 pub use Rattle.plans.proofs.Tracing.{first-least, traced-numbers, traces-agree, unmarked-stood, settled-row}
 

@@ -1,4 +1,4 @@
--- What the numbers are held against: demand 3 of the minutes, for one node.
+-- What the numbers are held against: demand 3 of the minutes, for plans of any kind, and for one node.
 -- Assumes nothing.
 use mathlib.Core.List.{List}
 use mathlib.Core.Logic.{_↔_, _⊎_}
@@ -9,26 +9,25 @@ use Rattle.cost.specs.Cost.{most, over, never, capped}
 use Rattle.plans.specs.System.{System, Plan, cost}
 use Rattle.plans.specs.Sweep.{at}
 
--- Some plan of the node costs just k.
-abbrev pub SomeCosts : System → ℕ → ℕ → Type 0
-SomeCosts S n k = (p : Plan S n) × (cost p ≡ k)
-
--- No plan of the node costs less than k.
-abbrev pub NoneBelow : System → ℕ → ℕ → Type 0
-NoneBelow S n k = (p : Plan S n) → k ≤ cost p
+-- Demand 3, of a number `x` and plans of any kind for one purpose, each with its cost.
+pub record Stands (P : Type 0) (c : P → ℕ) (x : ℕ) : Type 0 where
+  -- "A figure up to 999,999,999 stands exactly when some such plan costs just that and none costs less."
+  pub figure : (k : ℕ) → k ≤ most → (x ≡ k) ↔ (((p : P) × (c p ≡ k)) × ((p : P) → k ≤ c p))
+  -- "'Over' stands exactly when such plans exist and every one of them costs more than 999,999,999."
+  pub isOver : (x ≡ over) ↔ (P × ((p : P) → most < c p))
+  -- "'Never' stands exactly when there is no such plan."
+  pub isNever : (x ≡ never) ↔ (P → ⊥)
 
 -- The number `x` is that of the node `n`.
-pub record Exact (S : System) (n x : ℕ) : Type 0 where
-  -- "A figure up to 999,999,999 stands exactly when some such plan costs just that and none costs less."
-  pub small : (k : ℕ) → k ≤ most → (x ≡ k) ↔ (SomeCosts S n k × NoneBelow S n k)
-  -- "'Over' stands exactly when such plans exist and every one of them costs more than 999,999,999."
-  pub great : (x ≡ over) ↔ (Plan S n × ((p : Plan S n) → most < cost p))
-  -- "'Never' stands exactly when there is no such plan."
-  pub missing : (x ≡ never) ↔ (Plan S n → ⊥)
+abbrev pub Exact : System → ℕ → ℕ → Type 0
+Exact S n x = Stands (Plan S n) (λ p. cost p) x
 
--- A number that some plan attains: it is never, or the cost of a plan of the node, capped.
+-- A number that some of these plans attains: it is never, or the cost of a plan, capped.
+abbrev pub AttainedBy : (P : Type 0) → (P → ℕ) → ℕ → Type 0
+AttainedBy P c x = (x ≡ never) ⊎ ((p : P) × (x ≡ capped (c p)))
+
 abbrev pub Attained : System → ℕ → ℕ → Type 0
-Attained S n x = (x ≡ never) ⊎ ((p : Plan S n) × (x ≡ capped (cost p)))
+Attained S n x = AttainedBy (Plan S n) (λ p. cost p) x
 
 -- Each number of the table is attained, and none is above its price: so it is at the start that document 01 gives
 -- (`first-start` of proofs/Laws.antt), and so it stays.

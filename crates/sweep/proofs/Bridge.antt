@@ -16,10 +16,11 @@ use Rattle.cell_library.specs.Layout.{libraryWords}
 use Rattle.netlist.specs.Netlist.{Gate, Statement, gatesOf, isInput, isOutput, isOpen, claimed}
 use Rattle.netlist.specs.Layout.{netlistWords, driverWord, outputWord}
 use Rattle.netlist.proofs.Places.{netlist-count, driver-word, output-word}
+use Rattle.calculation.specs.Prices.{inputCost, pricesOf}
 use Rattle.calculation.specs.Nodes.{Kind, kindNumber}
 use Rattle.calculation.specs.Ways.{cellOf, setting, observing, groupIndex, visit, valueRoles, pinRoles, settingVisits, observingVisits}
 use Rattle.calculation.specs.Ways as W
-use Rattle.calculation.specs.Calculation.{startLine, startLines, start}
+use Rattle.calculation.specs.Calculation.{startLine, startLines, startAt, start}
 use Rattle.calculation.specs.Acceptance.{BothSound}
 use Rattle.gates.specs.Tables.{byRole, gateVisit}
 use Rattle.gates.proofs.Bridge.{noGate, pins-number, visit-is}
@@ -142,8 +143,8 @@ module _ (cells : List Cell) (ss : List Statement) (sound : BothSound cells ss) 
   output-price true x = refl
   output-price false x = refl
 
-  line-start : (l : ℕ) → 1 ≤ l → l ≤ Size.lines → lineStart netlist l ≡ startLine ss l
-  unfolding lineStart startLine driverWord outputWord
+  line-start : (l : ℕ) → 1 ≤ l → l ≤ Size.lines → lineStart netlist l ≡ startLine (pricesOf ss) ss l
+  unfolding inputCost pricesOf lineStart startLine driverWord outputWord
   line-start l b h =
       rw (
         driver-word ss past l b h,
@@ -153,11 +154,11 @@ module _ (cells : List Cell) (ss : List Statement) (sound : BothSound cells ss) 
         output-price (isOutput l ss) 0,
       )
 
-  lines-start : (n first : ℕ) → 1 ≤ first → first + n ≤ Size.lines + 1 → linesStart netlist n first ≡ startLines ss n first
+  lines-start : (n first : ℕ) → 1 ≤ first → first + n ≤ Size.lines + 1 → linesStart netlist n first ≡ startLines (pricesOf ss) ss n first
   unfolding linesStart startLines
   lines-start zero first b h = refl
   lines-start (suc n) first b h = ap₂ (λ (l m : List ℕ). l ++ m) (line-start first b (omega arith)) (lines-start n (suc first) (omega arith) (omega arith))
 
   pub start-is : linesStart netlist Size.lines 1 ≡ start ss
-  unfolding start
+  unfolding startAt
   start-is = lines-start Size.lines 1 (omega arith) (omega arith)

@@ -16,10 +16,12 @@ use Rattle.plans.specs.Statements.{SettlesWithin}
 use Rattle.plans.proofs.Laws.{settles-length}
 use Rattle.cell_library.specs.Cells.{Cell}
 use Rattle.netlist.specs.Netlist.{Statement, gatesOf}
+use Rattle.calculation.specs.Prices.{pricesOf}
 use Rattle.calculation.specs.Nodes.{Kind, combinational, sequential, kindNumber}
 use Rattle.calculation.specs.Ways.{settingVisits, observingVisits}
 use Rattle.calculation.specs.Changes.{changes}
 use Rattle.calculation.specs.Calculation.{analysed, start, stages}
+use Rattle.calculation.proofs.Laws.{own-figures}
 use Rattle.calculation.proofs.Laws.{kind-small, changes-lower, changes-renew}
 use Rattle.calculation.proofs.Laws.{gates-apiece, within, settled-once}
 use Rattle.gates.specs.Tables.{byRole}
@@ -114,7 +116,7 @@ module _ {library netlist : List ℕ} {cells : List Cell} {ss : List Statement} 
 
       -- Each of the runs settles within its bound, on whatever those before it leave.
       ends : AllWithin (stages cells (gatesOf ss)) x0
-      ends = rw at-start (within cells ss (h .sound))
+      ends = rw at-start (within cells ss (h .sound) (pricesOf ss) (own-figures (h .sound)))
 
       pub cc-fits : FreshFits 0 0 library netlist first next driver tied x0
       cc-fits = set-fits combinational start-length (ends .0) (ends .2)
@@ -159,4 +161,4 @@ module _ {library netlist : List ℕ} {cells : List Cell} {ss : List Statement} 
             calculated {x4} {so} rso =
                 let all : Stages (stages cells (gatesOf ss)) x0 (cc ∷ sc ∷ co ∷ so ∷ []) x4 =
                 stage settled-cc (stage settled-sc (stage settled-co (stage (observe-settled sequential rso) (ended refl)))) in
-                settled-once cells ss (h .sound) (record { numbers = x4; counts = record { cc = cc; sc = sc; co = co; so = so } }) (rw at-start at all)
+                settled-once cells ss (h .sound) (pricesOf ss) (own-figures (h .sound)) (record { numbers = x4; counts = record { cc = cc; sc = sc; co = co; so = so } }) (rw at-start at all)

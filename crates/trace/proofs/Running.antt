@@ -16,6 +16,7 @@ use Rattle.plans.proofs.Laws.{traced-numbers}
 use Rattle.cell_library.specs.Cells.{Cell}
 use Rattle.netlist.specs.Netlist.{Statement, gatesOf}
 use Rattle.netlist.proofs.Places.{netlist-count}
+use Rattle.calculation.specs.Prices.{pricesOf}
 use Rattle.calculation.specs.Nodes.{Kind, kindNumber}
 use Rattle.calculation.specs.Calculation.{start}
 use Rattle.calculation.proofs.Placing.{start-length}
@@ -109,7 +110,7 @@ module _ (kind : ℕ) (library netlist : List ℕ) where
     ends-all numbers marks s = subst (λ (t : Trace). AllNoted kind library netlist (t .marks) marks) all-is (s .noted)
 
     inside : (xs : List ℕ) → length xs ≡ Size.numbers → Inside run-visits xs
-    inside xs long v m = rw (long, ← start-length ss) (visits-inside cells ss (h .sound) k v (rw visits-are at m))
+    inside xs long v m = rw (long, ← start-length (pricesOf ss) ss) (visits-inside cells ss (h .sound) k v (rw visits-are at m))
 
     -- A sweep that changed nothing was the last that matters.
     pub ends-early : (done more : ℕ) → suc done + more ≡ 2 * getD netlist 0 0 + 1 → (numbers marks numbers′ marks′ : List ℕ) → length numbers′ ≡ Size.numbers → numbers′ ≡ numbers

@@ -16,11 +16,13 @@ use Rattle.plans.proofs.Laws.{rules-agree, traces-agree, traced-numbers, settle
 use Rattle.cell_library.specs.Cells.{Cell, Column, pin, output}
 use Rattle.cell_library.specs.Cells as C
 use Rattle.netlist.specs.Netlist.{Gate, Statement, gatesOf}
+use Rattle.calculation.specs.Prices.{pricesOf}
 use Rattle.calculation.specs.Nodes.{Kind, combinational, sequential, Purpose, set, observe, node}
 use Rattle.calculation.specs.Ways.{cellOf, pinLine, asked, Role, setting, observing, purposeOf, settingVisits, observingVisits, asks}
 use Rattle.calculation.specs.Acceptance.{BothSound}
 use Rattle.calculation.specs.Calculation.{start, settingStage, stages, analysed}
 use Rattle.calculation.specs.Settled.{Settled}
+use Rattle.calculation.proofs.Laws.{own-figures}
 use Rattle.calculation.proofs.Placing.{Placed, node-inside, node-injective, start-length}
 use Rattle.calculation.proofs.Visiting.{Sets, Observes, MayName, visiting-node, Offer, offer, offer-need, setting-from, observing-from, sets-has, observes-has, asks-named}
 use Rattle.calculation.proofs.Accepting.{purpose-placed, asked-placed}
@@ -42,8 +44,8 @@ module _ (cells : List Cell) (ss : List Statement) (sound : BothSound cells ss) 
   left-same vs xs = record { long = refl; below = λ n. le-refl (at xs n); kept = λ n v. refl }
 
   stage-works : (k : Kind) → Works (settingStage k cells gs) (start ss)
-  stage-works combinational = works cells ss sound .0
-  stage-works sequential = works cells ss sound .1 .0
+  stage-works combinational = works cells ss sound (pricesOf ss) (own-figures sound) .0
+  stage-works sequential = works cells ss sound (pricesOf ss) (own-figures sound) .1 .0
 
   module _ (k : Kind) where
     abbrev pub visits : List Visit
@@ -113,7 +115,7 @@ module _ (cells : List Cell) (ss : List Statement) (sound : BothSound cells ss) 
     pub visits-inside : Inside visits (start ss)
     visits-inside v m =
         let t = setting-from k cells gs v m in
-        rw (start-length ss, visiting-node t) (node-inside k (purposeOf (t .gate) (t .role)) (purpose-placed sound (t .gate) (t .listed) (t .role) (sets-has (cellOf cells (t .gate)) (t .role) (t .allowed))))
+        rw (start-length (pricesOf ss) ss, visiting-node t) (node-inside k (purposeOf (t .gate) (t .role)) (purpose-placed sound (t .gate) (t .listed) (t .role) (sets-has (cellOf cells (t .gate)) (t .role) (t .allowed))))
 
     own-purpose : (g : Gate) → List·Memᴰ g gs → (role : Role) → Sets (cellOf cells g) role → Own (node k (purposeOf g role))
     unfolding purposeOf
@@ -187,5 +189,5 @@ module _ (cells : List Cell) (ss : List Statement) (sound : BothSound cells ss) 
 
     pub reported : (k : Kind) → at (analysed cells ss .numbers) (node k (set l v)) ≡ at (settingTrace k cells ss .numbers) (node k (set l v))
     reported k =
-        alone k (analysed cells ss .numbers) _ (settled cells ss sound)
+        alone k (analysed cells ss .numbers) _ (settled cells ss sound (pricesOf ss) (own-figures sound))
         ∙ ap (λ (ws : List ℕ). at ws (node k (set l v))) (same-numbers k ∙ sym (trace-numbers k))

@@ -5,7 +5,8 @@ use lib.ListN.{length, drop}
 use borrow.Author.Needs.{needs}
 use Rattle.sizes.specs.Sizes as Size
 use Rattle.calculation.specs.Calculation.{Analysed}
-use Rattle.calculation.proofs.Laws.{numbers-length}
+use Rattle.calculation.specs.Prices.{pricesOf}
+use Rattle.calculation.proofs.Laws.{numbers-length, own-figures}
 use Rattle.sweep.proofs.calculate.Statement.{statement}
 use Rattle.sweep.proofs.calculate.Tie as tie
 
@@ -24,7 +25,7 @@ calculate-spec =
     let x = c .before .before in
     let p = began x .pre in
     let e = x .analyse .ensures (p .cells) (p .statements) (p .holds) in
-    (ap (λ (a : Analysed). length (a .numbers)) e ∙ numbers-length (p .cells) (p .statements) (p .holds .sound), p .room))
+    (ap (λ (a : Analysed). length (a .numbers)) e ∙ numbers-length (p .cells) (p .statements) (p .holds .sound) (pricesOf (p .statements)) (own-figures (p .holds .sound)), p .room))
     (λ c. search needs)
     (λ c cells ss h.
     let o = c .before .before in
