@@ -178,10 +178,10 @@ module _ (cells : List Cell) (ss : List Statement) (sound : BothSound cells ss) 
   abbrev gs : List Gate
   gs = gatesOf ss
 
-  visiting-placed : {k : Kind} {v : Visit} (t : Visiting Has k cells gs v) → Placed (purposeOf (t .gate) (t .role))
+  pub visiting-placed : {k : Kind} {v : Visit} (t : Visiting Has k cells gs v) → Placed (purposeOf (t .gate) (t .role))
   visiting-placed t = purpose-placed sound (t .gate) (t .listed) (t .role) (t .allowed)
 
-  visiting-inside : {k : Kind} {v : Visit} → Visiting Has k cells gs v → v .node < Size.numbers
+  pub visiting-inside : {k : Kind} {v : Visit} → Visiting Has k cells gs v → v .node < Size.numbers
   visiting-inside {k} t = rw (visiting-node t) (node-inside k (purposeOf (t .gate) (t .role)) (visiting-placed t))
 
   visiting-index : {k : Kind} {v : Visit} (t : Visiting Has k cells gs v) → v .node % Size.costs ≡ costIndex k (purposeOf (t .gate) (t .role))
@@ -199,23 +199,23 @@ module _ (cells : List Cell) (ss : List Statement) (sound : BothSound cells ss) 
 
   -- ---- the stages are apart
 
-  setting-visited : (k : Kind) (n : ℕ) → Visited (settingVisits k cells gs) n → (2 * kindNumber k ≤ n % Size.costs) × (n % Size.costs < 2 * kindNumber k + 2)
+  pub setting-visited : (k : Kind) (n : ℕ) → Visited (settingVisits k cells gs) n → (2 * kindNumber k ≤ n % Size.costs) × (n % Size.costs < 2 * kindNumber k + 2)
   setting-visited k n v =
       let t : Visiting Sets k cells gs (v .visit) = setting-from k cells gs (v .visit) (v .listed) in
       rw (← v .same, visiting-index (visiting-more sets-has t)) (sets-index k (t .gate) (cellOf cells (t .gate)) (t .role) (t .allowed))
 
-  setting-needed : (k : Kind) (n : ℕ) → Needed (settingVisits k cells gs) n → n % Size.costs < 2 * kindNumber k + 2
+  pub setting-needed : (k : Kind) (n : ℕ) → Needed (settingVisits k cells gs) n → n % Size.costs < 2 * kindNumber k + 2
   setting-needed k n d =
       let o : Offer Sets k cells gs (d .node) (d .way) = offer (d .offers) (setting-from k cells gs (d .offers .visit) (d .offers .listed)) in
       let f = need-index o n (d .among) in
       rw (f .3) (setting-asks k (o .gate) (cellOf cells (o .gate)) (cellOf cells (o .gate) .pins) (o .role) (f .0) (o .allowed) (f .1))
 
-  observing-visited : (k : Kind) (n : ℕ) → Visited (observingVisits k cells gs) n → n % Size.costs ≡ 4 + kindNumber k
+  pub observing-visited : (k : Kind) (n : ℕ) → Visited (observingVisits k cells gs) n → n % Size.costs ≡ 4 + kindNumber k
   observing-visited k n v =
       let t : Visiting Observes k cells gs (v .visit) = observing-from k cells gs (v .visit) (v .listed) in
       rw (← v .same, visiting-index (visiting-more observes-has t)) (observes-index k (t .gate) (cellOf cells (t .gate)) (t .role) (t .allowed))
 
-  observing-needed : (k : Kind) (n : ℕ) → Needed (observingVisits k cells gs) n → n % Size.costs < 4 + kindNumber k + 1
+  pub observing-needed : (k : Kind) (n : ℕ) → Needed (observingVisits k cells gs) n → n % Size.costs < 4 + kindNumber k + 1
   observing-needed k n d =
       let o : Offer Observes k cells gs (d .node) (d .way) = offer (d .offers) (observing-from k cells gs (d .offers .visit) (d .offers .listed)) in
       let f = need-index o n (d .among) in
@@ -258,6 +258,14 @@ module _ (cells : List Cell) (ss : List Statement) (sound : BothSound cells ss) 
   gates-apiece k =
       setting-apiece k cells gs (λ g m role s. purpose-placed sound g m role (sets-has (cellOf cells g) role s)) (driven-once cells ss (sound .netlist))
 
+  setting-works : (xs : List ℕ) → length xs ≡ Size.numbers → Bounded xs → (k : Kind) → Above (settingVisits k cells gs) xs → Works (settingStage k cells gs) xs
+  setting-works xs long bounded k above =
+      let vs : List Visit = settingVisits k cells gs in
+      let l : length (map (λ v. v .node) vs) ≡ 2 * length gs = length-map vs (λ v. v .node) ∙ setting-length k cells gs in
+      renewing-works vs (map (λ v. v .node) vs) xs (λ n v. rw (← v .same) (Memᴰ·map (λ u. u .node) (v .listed))) bounded
+      (λ v m. rw long (visiting-inside (visiting-more sets-has (setting-from k cells gs v m)))) (apiece-once vs (gates-apiece k)) above
+      (settingStage k cells gs .bound) (omega arith)
+
   -- ---- CO and SO: every row leads through its gate's output
 
   asks-output : (k : Kind) (g : Gate) (c : Cell) (role : Role) (all : List Group) (r : Row) → Observes c role → SoundRow (wordOf k role) (c .pins) all r → List·Memᴰ C.observe (asks g c role r)
@@ -293,42 +301,47 @@ module _ (cells : List Cell) (ss : List Statement) (sound : BothSound cells ss) 
         record { among = leads-among k n w o; others = leads-others k n w o },
       )
 
+  pub observing-works : (xs : List ℕ) → length xs ≡ Size.numbers → Bounded xs → (k : Kind) → Works (observingStage k cells gs) xs
+  observing-works xs long bounded k =
+      let l : length (outputs k) ≡ length gs = length-map gs (λ g. node k (observe (g .line))) in
+      leading-works (observingVisits k cells gs) (outputs k) xs (observing-leads k) bounded
+      (λ v m. rw long (visiting-inside (visiting-more observes-has (observing-from k cells gs v m))))
+      (observingStage k cells gs .bound) (omega arith)
+
+  -- From any numbers whose visited values are at least their sums the four runs end within their bounds.
+  pub works-from : (xs : List ℕ) → length xs ≡ Size.numbers → Bounded xs → ((k : Kind) → Above (settingVisits k cells gs) xs) → AllWork (stages cells gs) xs
+  works-from xs long bounded above = (
+    setting-works xs long bounded combinational (above combinational),
+    (
+      setting-works xs long bounded sequential (above sequential),
+      (observing-works xs long bounded combinational, (observing-works xs long bounded sequential, tt)),
+    ),
+  )
+
   -- ---- at whatever prices
 
   module _ (price : Pricing) (figures : Figures price ss) where
     -- The values of gates' outputs are never at the start: no gate's line is an input.
-    sets-first : (k : Kind) (g : Gate) (c : Cell) (role : Role) → isInput (g .line) ss ≡ false → Sets c role → firstNumber price ss k (purposeOf g role) ≡ never
+    pub sets-first : (k : Kind) (g : Gate) (c : Cell) (role : Role) → isInput (g .line) ss ≡ false → Sets c role → firstNumber price ss k (purposeOf g role) ≡ never
     unfolding purposeOf pick
     sets-first k g c (setting e) h s = rw h
     sets-first k g c (observing i) h s = absurd s
 
+    -- .. so that each visited one is never.
+    pub sets-never : (k : Kind) (v : Visit) → List·Memᴰ v (settingVisits k cells gs) → at (startAt price ss) (v .node) ≡ never
+    sets-never k v m =
+        let t : Visiting Sets k cells gs v = setting-from k cells gs v m in
+        ap (at (startAt price ss)) (visiting-node t)
+        ∙ start-at price ss k (purposeOf (t .gate) (t .role)) (visiting-placed (visiting-more sets-has t))
+        ∙ sets-first k (t .gate) (cellOf cells (t .gate)) (t .role) (gate-no-input cells ss (sound .netlist) (t .gate) (t .listed)) (t .allowed)
+
     start-above : (k : Kind) → Above (settingVisits k cells gs) (startAt price ss)
-    start-above k = never-above (settingVisits k cells gs) (startAt price ss) (λ v m. le-of-eq (sym (first v (setting-from k cells gs v m))))
-      where
-        first : (v : Visit) → Visiting Sets k cells gs v → at (startAt price ss) (v .node) ≡ never
-        first v t =
-            rw (visiting-node t) (start-at price ss k (purposeOf (t .gate) (t .role)) (visiting-placed (visiting-more sets-has t)))
-            ∙ sets-first k (t .gate) (cellOf cells (t .gate)) (t .role) (gate-no-input cells ss (sound .netlist) (t .gate) (t .listed)) (t .allowed)
-
-    setting-works : (k : Kind) → Works (settingStage k cells gs) (startAt price ss)
-    setting-works k =
-        let vs : List Visit = settingVisits k cells gs in
-        let l : length (map (λ v. v .node) vs) ≡ 2 * length gs = length-map vs (λ v. v .node) ∙ setting-length k cells gs in
-        renewing-works vs (map (λ v. v .node) vs) (startAt price ss) (λ n v. rw (← v .same) (Memᴰ·map (λ u. u .node) (v .listed))) (start-bounded price ss figures)
-        (λ v m. rw (start-length price ss) (visiting-inside (visiting-more sets-has (setting-from k cells gs v m)))) (apiece-once vs (gates-apiece k)) (start-above k)
-        (settingStage k cells gs .bound) (omega arith)
-
-    observing-works : (k : Kind) → Works (observingStage k cells gs) (startAt price ss)
-    observing-works k =
-        let l : length (outputs k) ≡ length gs = length-map gs (λ g. node k (observe (g .line))) in
-        leading-works (observingVisits k cells gs) (outputs k) (startAt price ss) (observing-leads k) (start-bounded price ss figures)
-        (λ v m. rw (start-length price ss) (visiting-inside (visiting-more observes-has (observing-from k cells gs v m))))
-        (observingStage k cells gs .bound) (omega arith)
+    start-above k = never-above (settingVisits k cells gs) (startAt price ss) (λ v m. le-of-eq (sym (sets-never k v m)))
 
     -- ---- the four runs
 
     pub works : AllWork (stages cells gs) (startAt price ss)
-    works = (setting-works combinational, (setting-works sequential, (observing-works combinational, (observing-works sequential, tt))))
+    works = works-from (startAt price ss) (start-length price ss) (start-bounded price ss figures) start-above
 
     pub within : AllWithin (stages cells gs) (startAt price ss)
     within = stages-within (stages cells gs) (startAt price ss) apart works

@@ -32,7 +32,7 @@ use Rattle.calculation.proofs.Planning.{system, start-first, generally,
 
 module _ (cells : List Cell) (ss : List Statement) (sound : BothSound cells ss) (price : Pricing) (figures : Figures price ss) where
   -- The theorem of crate `plans` at this netlist.
-  generally-exact : (n : ℕ) → GeneralExact.Exact (system price cells ss) n (at (analysedAt price cells ss .numbers) n)
+  pub generally-exact : (n : ℕ) → GeneralExact.Exact (system price cells ss) n (at (analysedAt price cells ss .numbers) n)
   generally-exact =
       stages-exact (system price cells ss) (stages cells (gatesOf ss)) (startAt price ss) (analysedAt price cells ss .numbers) (inOrder (analysedAt price cells ss .counts)) refl
       (all-inside cells ss sound price figures) (apart cells ss sound) (works cells ss sound price figures) (first-start (system price cells ss) (startAt price ss) (start-first price ss figures))

@@ -7,4 +7,5 @@ pub mod Needing
 pub mod Planning
 pub mod Exactness
 pub mod Between
+pub mod Observing
 pub mod Laws

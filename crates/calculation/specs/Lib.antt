@@ -2,6 +2,7 @@ pub mod Nodes
 pub mod Prices
 pub mod Ways
 pub mod Calculation
+pub mod Runs
 pub mod Plans
 pub mod Settled
 pub mod Acceptance

@@ -22,7 +22,7 @@ use Rattle.plans.specs.System.{
   cost,
   costs,
 }
-use Rattle.plans.specs.Exact.{Stands, AttainedBy}
+use Rattle.plans.specs.Exact.{Stands, AttainedBy, Exact, Attained}
 use Rattle.plans.proofs.Exactness.{stands}
 use Rattle.plans.specs.Statements.{PlanWithin, PlanAtAnyPrices, AttainedMore, ExactWithin, MoreWays, MorePrices, ExactOnce}
 
@@ -77,6 +77,13 @@ module _ {P : Type 0} (c : P → ℕ) (x : ℕ) (e : Stands P c x) where
       split (inl a) = omega (arith, e .figure x a .0 refl .1 p)
       split (inr (inl a)) = omega (arith, e .isOver .0 a .1 p)
       split (inr (inr a)) = absurd (e .isNever .0 a p)
+
+-- .. of plans of a system.
+pub exact-attained : (S : System) (n x : ℕ) → Exact S n x → Attained S n x
+exact-attained S n x e = stands-attained (λ p. cost p) x e
+
+pub exact-below : (S : System) (n x : ℕ) → Exact S n x → (p : Plan S n) → x ≤ capped (cost p)
+exact-below S n x e = stands-below (λ p. cost p) x e
 
 -- Where each of one's plans has one of the other's that costs no more, the other's number is no higher.
 pub stands-least : {P Q : Type 0} (c : P → ℕ) (d : Q → ℕ) → ((p : P) → (q : Q) × (d q ≤ c p))

@@ -72,7 +72,7 @@ module _ {rule : Rule} {block : ℕ → List Visit} {count : ℕ} {asleep : ℕ 
         changed = changed;
       }
 
-turn-listed : (block : ℕ → List Visit) (count turn : ℕ) → turn < count → (v : Visit) → List·Memᴰ v (block turn) → List·Memᴰ v (inTurn block count)
+pub turn-listed : (block : ℕ → List Visit) (count turn : ℕ) → turn < count → (v : Visit) → List·Memᴰ v (block turn) → List·Memᴰ v (inTurn block count)
 unfolding inTurn
 turn-listed block zero turn h v m = absurd (omega arith)
 turn-listed block (suc count) turn h v m = place (ℕ-discrete turn count) (λ k. turn-listed block count turn k v m)
@@ -118,7 +118,7 @@ still-idle xs ys v h b l =
     (least-kept xs ys (v .node) b (v .ways) (λ w i m j. h m (record { way = w; listed = i; among = j })) l)
 
 -- An idle visit stays idle.
-idle-stays : (xs ys : List ℕ) (v : Visit) → Under ys xs → Unmoved xs ys v → lower xs v ≡ xs → lower ys v ≡ ys
+pub idle-stays : (xs ys : List ℕ) (v : Visit) → Under ys xs → Unmoved xs ys v → lower xs v ≡ xs → lower ys v ≡ ys
 idle-stays xs ys v u h e = place (decLt (v .node) (length xs))
   where
     place : Dec (v .node < length xs) → lower ys v ≡ ys

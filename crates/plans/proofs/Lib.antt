@@ -10,5 +10,7 @@ mod Bounds
 mod Staging
 mod Comparing
 mod Tracing
+mod Standing
+mod Alike
 mod Worked
 pub mod Laws

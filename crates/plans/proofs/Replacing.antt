@@ -11,6 +11,7 @@ use lib.ListN.{length, set}
 use Rattle.cost.specs.Cost.{lesser}
 use Rattle.plans.specs.System.{Visit}
 use Rattle.plans.specs.Sweep.{at, least, Rule, renew, lower, sweep, sweeps, Settles, run, Once, Above, Lowering, Lowering.keeps, Lowering.renews}
+use Rattle.plans.specs.Statements.{SettlesWithin}
 use Rattle.plans.proofs.Falling.{lesser-right, lesser-most, least-bound, least-mono, lower-under, lower-here, lower-past}
 use Rattle.plans.proofs.Keeping.{lower-stores, rule-other}
 
@@ -109,6 +110,17 @@ module _ {rule : Rule} {vs : List Visit} where
   sweep-lowers {xs} (renews e once above) us i =
       let t : (sweep renew us xs ≡ sweep lower us xs) × Above vs (sweep lower us xs) = sweep-agrees vs once us xs i above in
       (ap (λ (r : Rule). sweep r us xs) e ∙ t .0, renews e once (t .1))
+
+  -- What settles by keeping the lesser settles by the rule, and a bound on the one is a bound on the other.
+  pub lowers-settle : {xs ys : List ℕ} {k : ℕ} → Lowering rule vs xs → Settles lower vs xs k ys → Settles rule vs xs k ys
+  lowers-settle {xs} {ys} {k} (keeps e) s = subst (λ (r : Rule). Settles r vs xs k ys) (sym e) s
+  lowers-settle {xs} {ys} {k} (renews e once above) s = subst (λ (r : Rule). Settles r vs xs k ys) (sym e) (settles-same vs once above .0 s)
+
+  pub within-lowers : {xs : List ℕ} (fuel bound : ℕ) → Lowering rule vs xs → SettlesWithin rule vs xs fuel bound → SettlesWithin lower vs xs fuel bound
+  within-lowers {xs} fuel bound (keeps e) w = subst (λ (r : Rule). SettlesWithin r vs xs fuel bound) e w
+  within-lowers {xs} fuel bound (renews e once above) w =
+      let r : SettlesWithin renew vs xs fuel bound = subst (λ (r : Rule). SettlesWithin r vs xs fuel bound) e w in
+      rw (← run-same vs once fuel xs above) (settles-same vs once above .1 (r .0), r .1)
 
   pub settles-lowers : {xs ys : List ℕ} {k : ℕ} → Lowering rule vs xs → Settles rule vs xs k ys → Settles lower vs xs k ys
   settles-lowers {xs} {ys} {k} (keeps e) s = subst (λ (r : Rule). Settles r vs xs k ys) e s

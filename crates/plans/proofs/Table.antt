@@ -14,6 +14,7 @@ use lib.ListN.{length, getD, set, length-set}
 use lib.Seq.{getD-set-same, getD-set-other, set-out, ext-getD}
 use Rattle.cost.specs.Cost.{never}
 use Rattle.plans.specs.Sweep.{at, same}
+pub use Rattle.plans.specs.Standing.{Under}
 
 pub at-set-same : (xs : List ℕ) (n a : ℕ) → n < length xs → at (set xs n a) n ≡ a
 unfolding at
@@ -51,11 +52,6 @@ same-refl [] = refl
 same-refl (x ∷ xs) = rw (eq-eqb x x refl) (same-refl xs)
 
 -- ---- one table under another
-
--- As long, and nowhere higher.
-pub record Under (ys xs : List ℕ) : Type 0 where
-  pub long : length ys ≡ length xs
-  pub below : (n : ℕ) → at ys n ≤ at xs n
 
 pub under-refl : (xs : List ℕ) → Under xs xs
 under-refl xs = record { long = refl; below = λ n. le-refl (at xs n) }

@@ -5,3 +5,4 @@ pub mod Exact
 pub mod Trace
 pub mod Statements
 pub mod Stages
+pub mod Standing

@@ -10,10 +10,10 @@ use lib.ListN.{length, getD, drop}
 use Rattle.sizes.specs.Sizes as Size
 use Rattle.reading.specs.Choice.{pick}
 use Rattle.plans.specs.System.{Visit}
-use Rattle.plans.specs.Sweep.{Rule, renew, lower, Rests, Settles, Lowering}
+use Rattle.plans.specs.Sweep.{Rule, renew, lower, Rests, Settles, Lowering, Lowering.keeps}
 use Rattle.plans.specs.Stages.{AllWithin, Stages, Stages.ended, Stages.stage}
 use Rattle.plans.specs.Statements.{SettlesWithin}
-use Rattle.plans.proofs.Laws.{settles-length}
+use Rattle.plans.proofs.Laws.{settles-length, lowers-settle, within-lowers}
 use Rattle.cell_library.specs.Cells.{Cell}
 use Rattle.netlist.specs.Netlist.{Statement, gatesOf}
 use Rattle.calculation.specs.Prices.{pricesOf}
@@ -21,9 +21,7 @@ use Rattle.calculation.specs.Nodes.{Kind, combinational, sequential, kindNumber
 use Rattle.calculation.specs.Ways.{settingVisits, observingVisits}
 use Rattle.calculation.specs.Changes.{changes}
 use Rattle.calculation.specs.Calculation.{analysed, start, stages}
-use Rattle.calculation.proofs.Laws.{own-figures}
-use Rattle.calculation.proofs.Laws.{kind-small, changes-lower, changes-renew}
-use Rattle.calculation.proofs.Laws.{gates-apiece, within, settled-once}
+use Rattle.calculation.proofs.Laws.{own-figures, kind-small, changes-lower, within, settled-once}
 use Rattle.gates.specs.Tables.{byRole}
 use Rattle.gates.specs.Fits.{TablesFit}
 use Rattle.gates.proofs.Bridge.{tables-fit, netlist-room}
@@ -87,7 +85,7 @@ module _ {library netlist : List ℕ} {cells : List Cell} {ss : List Statement} 
     set-fits k n w low =
         fresh-fits 0 k (omega arith)
         (rw (h .cellsStand, h .statementsStand) (reads-linked cells ss (h .sound) (h .behind) (h .past) k (rw (h .statementsStand) at chained) (rw (h .statementsStand) at driven)))
-        n (rw (sets k) low) (rw (sets k) (runs-within (2 * gates + 1) (omega arith) (changes-renew (settingVisits k cells (gatesOf ss)) (gates-apiece cells ss (h .sound) k)) w))
+        n (keeps refl) (rw (sets k) (runs-within (2 * gates + 1) (omega arith) (changes-lower (settingVisits k cells (gatesOf ss))) (within-lowers (2 * gates + 1) (2 * gates + 1) low w)))
 
     observe-fits : (k : Kind) {xs : List ℕ} → length xs ≡ Size.numbers → SettlesWithin lower (observingVisits k cells (gatesOf ss)) xs (gates + 1) (gates + 1)
         → Lowering lower (observingVisits k cells (gatesOf ss)) xs → FreshFits 1 (kindNumber k) library netlist first next driver tied xs
@@ -97,9 +95,8 @@ module _ {library netlist : List ℕ} {cells : List Cell} {ss : List Statement} 
         (rw (h .cellsStand, h .statementsStand) (drives-linked cells ss (h .sound) (h .behind) (h .past) k (rw (h .statementsStand) at chained) (rw (h .statementsStand) at driven)))
         n (rw (observes k) low) (rw (observes k) (runs-within (gates + 1) (omega arith) (changes-lower (observingVisits k cells (gatesOf ss))) w))
 
-    set-settled : (k : Kind) {xs ys : List ℕ} {count : ℕ} → Left 0 (kindNumber k) xs count ys → Settles renew (settingVisits k cells (gatesOf ss)) xs count ys
-    unfolding byRole pick
-    set-settled k s = rw (sets k) at s
+    set-settled : (k : Kind) {xs ys : List ℕ} {count : ℕ} → Lowering renew (settingVisits k cells (gatesOf ss)) xs → Left 0 (kindNumber k) xs count ys → Settles renew (settingVisits k cells (gatesOf ss)) xs count ys
+    set-settled k low s = lowers-settle low (rw (sets k) at s)
 
     observe-settled : (k : Kind) {xs ys : List ℕ} {count : ℕ} → Left 1 (kindNumber k) xs count ys → Settles lower (observingVisits k cells (gatesOf ss)) xs count ys
     unfolding byRole pick
@@ -123,7 +120,7 @@ module _ {library netlist : List ℕ} {cells : List Cell} {ss : List Statement} 
 
       module _ {x1 : List ℕ} {cc : ℕ} (rcc : Left 0 0 x0 cc x1) where
         settled-cc : Settles renew (settingVisits combinational cells (gatesOf ss)) x0 cc x1
-        settled-cc = set-settled combinational rcc
+        settled-cc = set-settled combinational (ends .2) rcc
 
         cc-length : length x1 ≡ Size.numbers
         cc-length = settles-length (ruleOf 0) (rule-stores 0) rcc ∙ start-length
@@ -136,7 +133,7 @@ module _ {library netlist : List ℕ} {cells : List Cell} {ss : List Statement} 
 
         module _ {x2 : List ℕ} {sc : ℕ} (rsc : Left 0 1 x1 sc x2) where
           settled-sc : Settles renew (settingVisits sequential cells (gatesOf ss)) x1 sc x2
-          settled-sc = set-settled sequential rsc
+          settled-sc = set-settled sequential (after-cc .2) rsc
 
           sc-length : length x2 ≡ Size.numbers
           sc-length = settles-length (ruleOf 0) (rule-stores 0) rsc ∙ cc-length

@@ -14,10 +14,10 @@ use Rattle.sizes.specs.Places.{groupPlace}
 use Rattle.cost.specs.Cost.{never, counted, capped, lesser}
 use Rattle.cost.proofs.Laws.{sum-left, sum-right}
 use Rattle.plans.specs.System.{Way, Visit}
-use Rattle.plans.specs.Sweep.{at, sums, way, least, Rule, renew, lower, sweep}
-use Rattle.plans.proofs.Laws.{at-getD, sweep-append, sweep-length, Stores, renew-stores, lower-stores}
+use Rattle.plans.specs.Sweep.{at, sums, way, least, Rule, lower, sweep}
+use Rattle.plans.proofs.Laws.{at-getD, sweep-append, sweep-length, Stores, lower-stores}
 use Rattle.calculation.specs.Changes.{alters, changes}
-use Rattle.calculation.proofs.Sweeping.{alters-lower, alters-renew, same-alters, changes-append}
+use Rattle.calculation.proofs.Sweeping.{alters-lower, same-alters, changes-append}
 use Rattle.gates.specs.Tables.{groupVisit, gateCell, gatePins, gateLines, byRole, visitGroup, visitPlace, visitWired, gateVisit}
 use Rattle.gates.proofs.Roles.{role-set, role-observed}
 use Rattle.visits.specs.Order.{ruleOf, gateOfTurn}
@@ -26,14 +26,6 @@ use Rattle.visits.specs.Renewed.{Stored, Led, Renewed, Swept}
 
 -- ---- one number
 module _ (v : Visit) (xs : List ℕ) (inside : v .node < length xs) {number : ℕ} {ys : List ℕ} {changed : Bool} (s : Stored (v .node) number xs ys changed) where
-  renewed : number ≡ least xs (v .ways) → Renewed renew v xs ys changed
-  unfolding renew
-  renewed e =
-      record {
-        numbers = s .numbers ∙ ap (set xs (v .node)) e;
-        flag = s .flag ∙ ap (λ (x : ℕ). not (eqb x (at xs (v .node)))) e ∙ sym (alters-renew v xs inside);
-      }
-
   lowered : number ≡ lesser (at xs (v .node)) (least xs (v .ways)) → Renewed lower v xs ys changed
   unfolding lower
   lowered e =
@@ -42,13 +34,8 @@ module _ (v : Visit) (xs : List ℕ) (inside : v .node < length xs) {number : �
         flag = s .flag ∙ ap (λ (x : ℕ). not (eqb x (at xs (v .node)))) e ∙ sym (alters-lower v xs inside);
       }
 
-  -- What is stored goes by the role.
-  pub visited : (role : ℕ) → number ≡ byRole role (least xs (v .ways)) (lesser (getD xs (v .node) 0) (least xs (v .ways))) → Renewed (ruleOf role) v xs ys changed
-  visited role e = go (ℕ-discrete role 0)
-    where
-      go : Dec (role ≡ 0) → Renewed (ruleOf role) v xs ys changed
-      go (yes h) = rw (role-set role renew lower h) (renewed (e ∙ role-set role _ _ h))
-      go (no h) = rw (role-observed role renew lower h) (lowered (e ∙ role-observed role _ _ h ∙ rw (at-getD xs (v .node) 0 inside)))
+  pub visited : (role : ℕ) → number ≡ lesser (getD xs (v .node) 0) (least xs (v .ways)) → Renewed (ruleOf role) v xs ys changed
+  visited role e = lowered (e ∙ rw (at-getD xs (v .node) 0 inside))
 
 -- ---- a visit that can change nothing
 
@@ -78,8 +65,7 @@ led-still role v xs {number} {observed} inside e led t =
     let l : at xs (v .node) ≤ least xs (v .ways) = least-least xs (d .0) (at xs (v .node)) b (rw (← n, ← d .1) (t .1)) (v .ways) (d .2) in
     let kept : lesser (at xs (v .node)) (least xs (v .ways)) ≡ at xs (v .node) = omega arith in
     let same : lower xs v ≡ xs = ap (set xs (v .node)) kept ∙ set-getD xs (v .node) never in
-    rw (role-observed role renew lower (t .0))
-    (record { numbers = sym same; flag = sym (same-alters lower v xs (ap (λ (zs : List ℕ). at zs (v .node)) same)) })
+    record { numbers = sym same; flag = sym (same-alters lower v xs (ap (λ (zs : List ℕ). at zs (v .node)) same)) }
 
 -- A visit by the numbers that the tables give is the gate's.
 pub visit-is : (role kind : ℕ) (library netlist : List ℕ) (g i group place pins : ℕ) (lines : List ℕ) (wired : Bool)
@@ -92,11 +78,7 @@ visit-is role kind library netlist g i group place pins lines wired w e n h p = 
 -- ---- one after the other
 
 pub rule-stores : (role : ℕ) → Stores (ruleOf role)
-rule-stores role = go (ℕ-discrete role 0)
-  where
-    go : Dec (role ≡ 0) → Stores (ruleOf role)
-    go (yes h) = rw (role-set role renew lower h) renew-stores
-    go (no h) = rw (role-observed role renew lower h) lower-stores
+rule-stores role = lower-stores
 
 pub swept-length : (role : ℕ) {vs : List Visit} {xs ys : List ℕ} {b : Bool} → Swept (ruleOf role) vs xs ys b → length ys ≡ length xs
 swept-length role {vs} {xs} r = ap length (r .numbers) ∙ sweep-length (ruleOf role) (rule-stores role) vs xs

@@ -5,13 +5,13 @@ use mathlib.Core.List.{List, [], _∷_}
 use Prim.Native.Nat.{ℕ, _-_}
 use lib.ListN.{getD}
 use Rattle.plans.specs.System.{Visit}
-use Rattle.plans.specs.Sweep.{Rule, renew, lower}
+use Rattle.plans.specs.Sweep.{Rule, lower}
 use Rattle.plans.specs.Idle.{inTurn}
 use Rattle.gates.specs.Tables.{byRole, gatePins, visitCount, gateVisit}
 
--- "each output number becomes the least row sum of its group"; "a line keeps the lesser of its number and the row sums"
+-- Every visit keeps the lesser: where lines are set, "becomes the least row sum" comes to the same (`lowers-settle` of crate `plans`).
 abbrev pub ruleOf : ℕ → Rule
-ruleOf role = byRole role renew lower
+ruleOf role = lower
 
 -- "visits the gates in netlist order"; "visit gates in reverse order"
 abbrev pub gateOfTurn : ℕ → ℕ → ℕ → ℕ

@@ -17,7 +17,6 @@ use gates::visits::SETTING;
 use gates::visits::visit_count;
 use gates::visits::visit_group;
 use gates::visits::visit_place;
-use row_sums::Sum;
 use row_sums::kinds::wide;
 use row_sums::lesser_of;
 use row_sums::number_of;
@@ -27,8 +26,7 @@ ghost use mathlib.Core.List.{List};
 ghost use Prim.Native.Nat.{ℕ, _+_, _*_, _≤_, _<_};
 ghost use lib.ListN.{length, getD};
 ghost use Rattle.sizes.specs.Sizes as Size;
-ghost use Rattle.cost.specs.Cost.{never, lesser};
-ghost use Rattle.row_sums.specs.Sums.{sumNumber};
+ghost use Rattle.cost.specs.Cost.{never};
 ghost use Rattle.gates.specs.Tables.{byRole, groupVisit};
 ghost use Rattle.awake.specs.Lines.{Chained, Driven};
 ghost use Rattle.visits.specs.Fits.{VisitFits, CostsOf, WakeFits, GateVisitsFit};
@@ -52,18 +50,6 @@ fn store(numbers: &mut [u32; sizes::NUMBERS], place: usize, number: u32) -> bool
     }
     numbers[place] = number;
     true
-}
-
-// What a number is renewed to: it "becomes the least row sum of its group" where lines are set, and
-// "keeps the lesser of its number and the row sums" where they are observed.
-fn renewal(role: usize, number: u32, sum: Sum) -> Sum
-    ensures { λ r. ⌜ sumNumber r ≡ byRole role (sumNumber sum) (lesser number (sumNumber sum)) ⌝ }
-{
-    if role == SETTING {
-        sum
-    } else {
-        lesser_of(number, sum)
-    }
 }
 
 // Whether no row sum is below a number: where lines are observed, the cost of the gate's output observed
@@ -111,7 +97,7 @@ fn visit(
         return false;
     }
     let least = least_of(wired, kind, library, group, lines, pins, costs);
-    let sum = renewal(role, numbers[place], least);
+    let sum = lesser_of(numbers[place], least);
     store(numbers, place, number_of(sum))
 }
 

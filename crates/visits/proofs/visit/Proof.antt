@@ -16,7 +16,7 @@ began c = c .before .before .before .before
 abbrev summed : tie.After-store → tie.After-least-of
 summed c = c .before .before .before .before .before
 
-abbrev renewed : tie.After-store → tie.After-renewal
+abbrev renewed : tie.After-store → tie.After-lesser-of
 renewed c = c .before .before .before
 
 -- No sum can be below the number.
@@ -38,7 +38,7 @@ returns-2 c o led =
     group-same (o .gathered) (readRow (a .wired) (a .lines .now) (a .pins)) (read-narrow (a .wired) (a .lines .now) (a .pins) (o .count) (o .wide))
     (a .library .now) (a .group) (o .few) (o .groupFits) in
     visited (groupVisit (a .wired) (a .kind) (a .lines .now) (a .pins) (a .library .now) (a .group) (a .place)) (a .numbers .now) inside (c .store .ensures) (a .role)
-    (c .before .number-of .ensures ∙ renewed c .renewal .ensures ∙ rw (summed c .least-of .ensures, sum))
+    (c .before .number-of .ensures ∙ renewed c .lesser-of .ensures ∙ rw (summed c .least-of .ensures, sum))
 
 pub visit-spec : {M : Type 1} → statement M
 visit-spec =
