@@ -4,48 +4,17 @@
 // It has no condition on its input. What it promises is in crate `outcome`: specs/Outcome.antt has its
 // answer and what it leaves in lent memory, specs/Demands.antt the three demands. The published sizes
 // of the tables are `sizes::LIBRARY`, `sizes::NETLIST` and `sizes::NUMBERS`. For the crates above:
-// `read_netlist`, between `outcome::begin` and `outcome::finish`, and `analyse_into`, which does not clear a table
-// that is zero.
+// `analyse_into`, which does not clear a table that is zero.
+use conclusion::finish;
 use netlist::Rules;
 use outcome::Answer;
-use outcome::Progress;
-use outcome::begin;
-use outcome::finish;
-use reading::Verdict;
+use read_pair::read_texts;
 ghost use mathlib.Core.Path.{_≡_};
 ghost use Rattle.sizes.specs.Sizes as Size;
 ghost use Rattle.table.specs.Blocks.{cleared};
-ghost use Rattle.analysis.specs.Netlist.{TextRead};
 ghost use Rattle.outcome.specs.Answer.{answerRead, lentOf};
 ghost use Rattle.outcome.specs.Demands.{Promised};
 ghost use Rattle.outcome.specs.Outcome.{givenTexts};
-
-// Reads the netlist text by the rules named, against the cells of the library table, into a table that may have other
-// numbers than 0 in its first `used` places, and past its published size. Nothing happens once a refusal stands.
-pub fn read_netlist(
-    rules: Rules,
-    net: &[u8],
-    library: &[u32],
-    netlist: &mut [u32],
-    begun: Progress,
-    used: usize,
-) -> Progress
-    requires { ⌜ cleared used (now netlist) ≡ cleared Size.netlist (now netlist) ⌝ }
-    ensures { λ r. ⌜ TextRead rules (now (net .entry)) (now (library .entry)) (now (netlist .entry)) begun
-        (now (netlist .exit)) r ⌝ }
-{
-    match begun {
-        Progress::AtEntry(_) => begun,
-        Progress::Later(_) => begun,
-        Progress::Unrefused => {
-            let statements = netlist_text::read_netlist_into(rules, net, library, netlist, used);
-            match statements {
-                Verdict::Refused(r) => Progress::Later(r),
-                Verdict::Accepted => Progress::Unrefused,
-            }
-        }
-    }
-}
 
 // As `analyse`, where the library table may have other numbers than 0 in its first `library_used` places, the netlist
 // table in its first `netlist_used`, and each past its published size.
@@ -66,15 +35,16 @@ pub fn analyse_into(
         (lentOf (now (library .exit)) (now (netlist .exit)) (now (numbers .exit)) (now (report .exit)))
         (answerRead r) ⌝ }
 {
-    let begun = begin(
+    let progress = read_texts(
+        Rules::New,
         lib,
-        net.len(),
+        net,
         library,
-        netlist.len(),
+        netlist,
         numbers.len(),
         library_used,
+        netlist_used,
     );
-    let progress = read_netlist(Rules::New, net, library, netlist, begun, netlist_used);
     finish(library, netlist, numbers, report, progress)
 }
 

@@ -1,9 +1,8 @@
-// Which gates are awake, and which gates read or drive a line, so that a sweep visits only the gates
-// for which something has changed.
+// Which gates are awake, so that a sweep visits only the gates for which something has changed.
 //
 // For the crates above, each with what it asks (specs/Turns.antt, specs/Lines.antt): the set of turns
-// that are awake, `all_awake`, `rest` and `next_awake`; the gates that read a line, `chain` and
-// `wake_readers`; the gate that drives one, `note_drivers` and `wake_driver`.
+// that are awake, `all_awake`, `rest` and `next_awake`; and by the links of crate `links` the gates that
+// read a line, `wake_readers`, and the gate that drives one, `wake_driver`.
 //
 // The set goes by the turns of a sweep, not by gates, so that the next turn is always a higher one.
 // Where lines are set, gates go in netlist order: turn t is that of gate t, and `wake_readers` wakes
@@ -15,9 +14,8 @@ ghost use Prim.Native.Nat.{ℕ, _+_, _≤_, _<_};
 ghost use lib.ListN.{length, getD};
 ghost use Rattle.sizes.specs.Sizes as Size;
 ghost use Rattle.awake.specs.Turns.{AllAwake, Woken, Rested, NextAwake};
-ghost use Rattle.awake.specs.Lines.{gateLine, LinesStand, NoPlaces, NoChains};
-ghost use Rattle.awake.specs.Lines.{Chained, ReadersFit, ReadersWoken};
-ghost use Rattle.awake.specs.Lines.{Driven, DriverFits, DriverWoken};
+ghost use Rattle.links.specs.Lines.{Chained, Driven};
+ghost use Rattle.awake.specs.Lines.{ReadersFit, ReadersWoken, DriverFits, DriverWoken};
 
 // ---- the set
 
@@ -76,96 +74,41 @@ pub fn next_awake(awake: &[u64; sizes::AWAKE_WORDS], from: usize, end: usize) ->
 
 // ---- the gates that read a line
 
-fn wide(x: u32) -> usize
-    ensures { λ r. ⌜ r ≡ x ⌝ }
-{
-    x as usize
-}
-
 fn place_of(x: u16) -> usize
     ensures { λ r. ⌜ r ≡ x ⌝ }
 {
     x as usize
 }
 
-// Line i of a gate: the one that it drives, 0, or the one that its pin i reads.
-fn line_of(netlist: &[u32], gate: usize, i: usize) -> usize
-    requires { ⌜ LinesStand (now netlist) (gate + 1) × (i < Size.gateLines) ⌝ }
-    ensures { λ r. ⌜ (r ≡ gateLine (now (netlist .entry)) gate i) × (r ≤ Size.lines) ⌝ }
-{
-    wide(netlist[sizes::GATES_AT + gate * sizes::GATE_WORDS + 1 + i])
-}
-
-// Lays the chains of the pins that read the same line: each pin, from the first gate's on, is put in
-// front of those of its line.
-pub fn chain(
-    netlist: &[u32],
-    gates: usize,
-    first: &mut [u16; sizes::LINE_PLACES],
-    next: &mut [u16; sizes::PIN_PLACES],
-)
-    requires { ⌜ LinesStand (now netlist) gates × NoChains (now first) (now next) ⌝ }
-    ensures { λ _.
-        ⌜ Chained (now (netlist .entry)) gates (now (first .exit)) (now (next .exit)) ⌝ }
-{
-    let end = gates * sizes::PINS;
-    let mut pin = 0;
-    while pin < end {
-        let line = line_of(netlist, pin / sizes::PINS, pin % sizes::PINS + 1);
-        pin += 1;
-        next[pin] = first[line];
-        first[line] = pin as u16;
-    }
-}
-
 // Wakes every gate that has a line among its pins.
-pub fn wake_readers(
-    awake: &mut [u64; sizes::AWAKE_WORDS],
-    first: &[u16; sizes::LINE_PLACES],
-    next: &[u16; sizes::PIN_PLACES],
-    line: usize,
-)
-    requires { ⌜ ReadersFit (now first) (now next) line (now awake) ⌝ }
+pub fn wake_readers(awake: &mut [u64; sizes::AWAKE_WORDS], links: &[u16; sizes::LINKS], line: usize)
+    requires { ⌜ ReadersFit (now links) line (now awake) ⌝ }
     ensures { λ _.
-        ⌜ ((netlist : List ℕ) (gates : ℕ) → Chained netlist gates (now (first .entry))
-        (now (next .entry)) → ReadersWoken netlist gates line (now (awake .entry))
-        (now (awake .exit))) ⌝ }
+        ⌜ ((netlist : List ℕ) (gates : ℕ) → Chained netlist gates (now (links .entry))
+        → ReadersWoken netlist gates line (now (awake .entry)) (now (awake .exit))) ⌝ }
 {
-    let mut pin = place_of(first[line]);
+    let mut pin = place_of(links[sizes::READERS_AT + line]);
     while pin != 0 {
         wake(awake, (pin - 1) / sizes::PINS);
-        pin = place_of(next[pin]);
+        pin = place_of(links[sizes::NEXT_AT + pin]);
     }
 }
 
 // ---- the gate that drives a line
 
-// Notes for each line the gate that drives it, from 1; 0 where none does.
-pub fn note_drivers(netlist: &[u32], gates: usize, driver: &mut [u16; sizes::LINE_PLACES])
-    requires { ⌜ LinesStand (now netlist) gates × NoPlaces (now driver) ⌝ }
-    ensures { λ _. ⌜ Driven (now (netlist .entry)) gates (now (driver .exit)) ⌝ }
-{
-    let mut gate = 0;
-    while gate < gates {
-        let line = line_of(netlist, gate, 0);
-        gate += 1;
-        driver[line] = gate as u16;
-    }
-}
-
 // Wakes the gate that drives a line, if one does, by its turn in reverse order.
 pub fn wake_driver(
     awake: &mut [u64; sizes::AWAKE_WORDS],
-    driver: &[u16; sizes::LINE_PLACES],
+    links: &[u16; sizes::LINKS],
     gates: usize,
     line: usize,
 )
-    requires { ⌜ DriverFits gates (now driver) line (now awake) ⌝ }
+    requires { ⌜ DriverFits gates (now links) line (now awake) ⌝ }
     ensures { λ _.
-        ⌜ ((netlist : List ℕ) → Driven netlist gates (now (driver .entry))
+        ⌜ ((netlist : List ℕ) → Driven netlist gates (now (links .entry))
         → DriverWoken netlist gates line (now (awake .entry)) (now (awake .exit))) ⌝ }
 {
-    let gate = place_of(driver[line]);
+    let gate = place_of(links[sizes::DRIVERS_AT + line]);
     if gate != 0 {
         wake(awake, gates - gate);
     }

@@ -1,14 +1,11 @@
 -- The laws of an analysis that others cite: what `analysed` promises of accepted cells and statements.
 -- Assumes nothing.
 pub use Rattle.calculation.proofs.Sweeping.{
-  Apiece,
   alters-lower,
-  alters-renew,
   unaltered,
   changes-append,
   unchanged,
   changes-lower,
-  changes-renew,
   going-first,
   going-on,
   going-ends,
@@ -18,6 +15,11 @@ pub use Rattle.calculation.proofs.Sweeping.{
 pub use Rattle.calculation.proofs.Placing.{Placed, kind-small, node-inside, node-injective, firstNumber, start-length, start-bounded, start-at, own-figures}
 pub use Rattle.calculation.proofs.Visiting.{getD-listed, Has}
 pub use Rattle.calculation.proofs.Accepting.{gate-cell, pin-count, gate-pin, role-group, role-row, depth-figure}
-pub use Rattle.calculation.proofs.Bounding.{gates-apiece, within, settled, few-sweeps, settled-once, numbers-length, numbers-bounded}
+pub use Rattle.calculation.proofs.Bounding.{within, settled, few-sweeps, settled-once, numbers-length, numbers-bounded}
 pub use Rattle.calculation.proofs.Exactness.{exact, unmentioned, entry-bounded}
 pub use Rattle.calculation.proofs.Between.{between}
+-- ---- runs from numbers that stand: the halves from whatever costs; `last-runs`, rows added and outputs added, which requests K11
+-- and K14 are to cite
+pub use Rattle.calculation.proofs.Observing.{setting-within, observing-within, last-runs}
+pub use Rattle.calculation.proofs.Rows.{ways-added, on-settled, on-few, on-numbers, goes-on-lower}
+pub use Rattle.calculation.proofs.Outputs.{analysed-runs, outputs-analysed, outputs-lower}

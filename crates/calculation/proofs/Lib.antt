@@ -8,4 +8,6 @@ pub mod Planning
 pub mod Exactness
 pub mod Between
 pub mod Observing
+pub mod Rows
+pub mod Outputs
 pub mod Laws

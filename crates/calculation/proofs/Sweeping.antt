@@ -15,14 +15,12 @@ use lib.ListN.{length, set}
 use lib.Seq.{set-out, set-getD}
 use Rattle.cost.specs.Cost.{never, lesser}
 use Rattle.plans.specs.System.{Visit}
-use Rattle.plans.specs.Sweep.{at, least, Rule, renew, lower, sweep, sweeps, Rests, Settles, run, Once, Visited}
+use Rattle.plans.specs.Sweep.{at, least, Rule, lower, sweep, sweeps, Rests, Settles, run, Once, Visited}
 use Rattle.plans.specs.Statements.{SettlesWithin}
 use Rattle.plans.proofs.Laws.{
   at-set-same,
   Stores,
   lower-stores,
-  renew-stores,
-  sweep-other,
   numbers-fall,
   settles-once,
 }
@@ -38,10 +36,6 @@ or-false false b e = (refl, e)
 pub alters-lower : (v : Visit) (xs : List ℕ) → v .node < length xs → alters lower v xs ≡ not (eqb (lesser (at xs (v .node)) (least xs (v .ways))) (at xs (v .node)))
 unfolding alters lower
 alters-lower v xs h = rw (at-set-same xs (v .node) (lesser (at xs (v .node)) (least xs (v .ways))) h)
-
-pub alters-renew : (v : Visit) (xs : List ℕ) → v .node < length xs → alters renew v xs ≡ not (eqb (least xs (v .ways)) (at xs (v .node)))
-unfolding alters renew
-alters-renew v xs h = rw (at-set-same xs (v .node) (least xs (v .ways)) h)
 
 pub same-alters : (rule : Rule) (v : Visit) (xs : List ℕ) → at (rule xs v) (v .node) ≡ at xs (v .node) → alters rule v xs ≡ false
 unfolding alters
@@ -84,22 +78,7 @@ unchanged rule stores (v ∷ vs) xs e =
     let h : (alters rule v xs ≡ false) × (changes rule vs (rule xs v) ≡ false) = or-false (alters rule v xs) (changes rule vs (rule xs v)) e in
     unchanged rule stores vs (rule xs v) (h .1) ∙ unaltered rule stores v xs (h .0)
 
--- No node is visited twice in a sweep.
-abbrev pub Apiece : List Visit → Type 0
-Apiece [] = Unit {0}
-Apiece (v ∷ vs) = (Visited vs (v .node) → ⊥) × Apiece vs
-
--- The flag of a sweep that leaves the numbers as they were is false: of either rule where no node is visited twice ..
-pub rests-apiece : (rule : Rule) → Stores rule → (vs : List Visit) → Apiece vs → (xs : List ℕ) → Rests rule vs xs → changes rule vs xs ≡ false
-unfolding changes sweep
-rests-apiece rule stores [] a xs e = refl
-rests-apiece rule stores (v ∷ vs) a xs e =
-    let f : alters rule v xs ≡ false =
-    same-alters rule v xs (sym (sweep-other rule stores vs (rule xs v) (v .node) (a .0)) ∙ ap (λ (zs : List ℕ). at zs (v .node)) e) in
-    let r : Rests rule vs xs = rw (unaltered rule stores v xs f) at e in
-    rw (f, unaltered rule stores v xs f) (rests-apiece rule stores vs (a .1) xs r)
-
--- .. and always where a number keeps the lesser.
+-- The flag of a sweep that leaves the numbers as they were is false.
 pub rests-lower : (vs : List Visit) (xs : List ℕ) → Rests lower vs xs → changes lower vs xs ≡ false
 unfolding changes sweep
 rests-lower [] xs e = refl
@@ -114,10 +93,12 @@ rests-lower (v ∷ vs) xs e =
 pub changes-lower : (vs : List Visit) (xs : List ℕ) → (changes lower vs xs ≡ false) ↔ Rests lower vs xs
 changes-lower vs xs = (unchanged lower lower-stores vs xs, rests-lower vs xs)
 
-pub changes-renew : (vs : List Visit) → Apiece vs → (xs : List ℕ) → (changes renew vs xs ≡ false) ↔ Rests renew vs xs
-changes-renew vs a xs = (unchanged renew renew-stores vs xs, rests-apiece renew renew-stores vs a xs)
+-- No node is visited twice in a sweep.
+abbrev pub Apiece : List Visit → Type 0
+Apiece [] = Unit {0}
+Apiece (v ∷ vs) = (Visited vs (v .node) → ⊥) × Apiece vs
 
--- The two conditions of `plans` from this one.
+-- The condition of `plans` from this one.
 pub apiece-once : (vs : List Visit) → Apiece vs → Once vs
 apiece-once (w ∷ vs) a u v (List·Memᴰ·head e) (List·Memᴰ·head f) q = rw (e, f)
 apiece-once (w ∷ vs) a u v (List·Memᴰ·head e) (List·Memᴰ·tail m) q =

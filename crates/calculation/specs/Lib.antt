@@ -6,5 +6,7 @@ pub mod Runs
 pub mod Plans
 pub mod Settled
 pub mod Acceptance
+pub mod Added
 pub mod Changes
 pub mod Between
+pub mod Stored

@@ -32,7 +32,7 @@ use Rattle.calculation.proofs.Placing.{Placed, kind-small, node-injective, star
 use Rattle.calculation.proofs.Visiting.{Sets, getD-listed, setting-from, sets-has}
 use Rattle.calculation.proofs.Accepting.{purpose-placed}
 use Rattle.trace.specs.Lowered.{settingTrace}
-use Rattle.cheapest.specs.Text.{noRow, wayRows, noGate, driverOf, lineAt, valueAt}
+use Rattle.cheapest.specs.Text.{noRow, wayRows, driverOf, lineAt, valueAt}
 use Rattle.trace.proofs.Standing.{visits, most-sweeps, trace-lower, rests, visits-inside}
 
 -- ---- lists

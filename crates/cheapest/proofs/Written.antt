@@ -8,8 +8,7 @@ use Prim.Native.Nat.{ℕ, zero, suc, _+_, _*_, _-_, _/_, _%_, _^_, _≤_, _<_}
 use native.Mathlib.Nat.{le-trans, pow-le-pow-right}
 use native.Mathlib.Omega.{arith}
 use borrow.Author.Tests.{ne-eqb}
-use lib.ListN.{length, getD, take, drop}
-use lib.Seq.{getD-take, getD-drop}
+use lib.ListN.{length, getD}
 use Rattle.sizes.specs.Sizes as Size
 use Rattle.sizes.specs.Places.{headingPlace, groupPlace, gatePlace, settingPlace, markPlace}
 use Rattle.reading.specs.Choice.{pick}
@@ -20,8 +19,10 @@ use Rattle.cell_library.specs.Cells as C
 use Rattle.cell_library.specs.Library.{columnCount}
 use Rattle.cell_library.specs.Layout.{libraryWords, headingNumber}
 use Rattle.netlist.specs.Netlist.{Gate, Statement, gatesOf}
-use Rattle.netlist.specs.Layout.{netlistWords}
+use Rattle.netlist.specs.Layout.{gateLineWords, netlistWords}
 use Rattle.netlist.specs.Sound.{InRange}
+use Rattle.netlist.specs.Gates.{gateCell, gateLines, noGate}
+use Rattle.netlist.proofs.HeldGates.{cell-held, line-held, lines-held}
 use Rattle.netlist.proofs.Laws.{driven-once, gate-sound}
 use Rattle.cell_library.proofs.Places.{cell-heading}
 use Rattle.netlist.proofs.Places.{netlist-count}
@@ -38,17 +39,17 @@ use Rattle.plans.proofs.Laws.{at-getD}
 use Rattle.cost.specs.Cost.{most}
 use Rattle.trace.proofs.Standing.{reported}
 use Rattle.calculation.proofs.Visiting.{getD-listed, MayName, asks-named}
-use Rattle.gates.specs.Tables.{readRow, hasWay, gateCell, gatePins, gateLines, byRole, visitGroup, gateTied}
+use Rattle.gates.specs.Tables.{readRow, hasWay, gatePins, byRole, visitGroup, gateTied}
 use Rattle.wires.specs.Wires.{onceColumns, sharesLine}
 use Rattle.gates.proofs.Wiring.{way-told, asking-few, asking-named}
-use Rattle.gates.proofs.Naming.{set-node, linesOf, setting-named}
+use Rattle.gates.proofs.Naming.{set-node, setting-named}
 use Rattle.gates.proofs.Bridge as B
 use Rattle.trace.specs.Marks.{rowPlace, stepRow, wayRow, gateRow, asWritten, askingColumns, Noted, Unnoted, NotedAs, AllNoted}
 use Rattle.cheapest.specs.Text.{nodeLine, rowText, inputText, noRow, wayRows, driverOf, joined, visitOf, cheapestText}
 use Rattle.cheapest.specs.Writing.{visitAt, rowAt, columnsAt, lastAt, goalAt, goals, goalRow, goalLine, lineBytes, rowBytes}
 use Rattle.cheapest.proofs.Choosing.{driver-is, trace, Chosen, driver-chosen}
 use Rattle.writer.specs.Put.{Put}
-use Rattle.sweep.specs.Ready.{Holds}
+use Rattle.calculation.specs.Stored.{Holds}
 use Rattle.trace.specs.Lowered.{settingTrace}
 use Rattle.cheapest.specs.Plan.{Cheapest}
 use Rattle.cheapest.specs.Asked.{PlanPut}
@@ -154,14 +155,14 @@ module _ (cells : List Cell) (ss : List Statement) (sound : BothSound cells ss) 
       inside = rw (← netlist-count ss past) (nt .inside)
 
       abbrev gate : Gate
-      gate = getD gs i B.noGate
+      gate = getD gs i noGate
 
       drives : gate .line ≡ l
-      drives = ap (λ (ls : List ℕ). getD ls 0 0) (sym (B.lines-are cells ss sound behind past i inside)) ∙ nt .drives
+      drives = ap (λ (ls : List ℕ). getD ls 0 0) (sym (lines-held (sound .netlist) past i inside)) ∙ nt .drives
 
       same-gate : gate ≡ c .gate
       same-gate =
-          sym (driver-is gs (driven-once cells ss (sound .netlist)) gate (getD-listed gs i B.noGate inside))
+          sym (driver-is gs (driven-once cells ss (sound .netlist)) gate (getD-listed gs i noGate inside))
           ∙ ap (driverOf gs) drives ∙ driver-chosen cells ss sound k l v m c
 
       abbrev n : ℕ
@@ -192,7 +193,7 @@ module _ (cells : List Cell) (ss : List Statement) (sound : BothSound cells ss) 
 
       ways-told : (x : Row) → List·Memᴰ x rows → hasWay (read (x .columns)) ≡ isWay gate (cellOf cells gate) (setting v) x
       ways-told x q =
-          rw (B.tied-is cells ss sound behind past i inside, B.lines-are cells ss sound behind past i inside, B.pins-number cells ss sound behind past i inside)
+          rw (B.tied-is cells ss sound behind past i inside, lines-held (sound .netlist) past i inside, B.pins-number cells ss sound behind past i inside)
           (way-told gate (cellOf cells gate) v pins-few x (few-columns x q) (lone x q))
 
       abbrev found : ℕ
@@ -227,8 +228,8 @@ module _ (cells : List Cell) (ss : List Statement) (sound : BothSound cells ss) 
       heading-word : getD library (headingPlace (gateCell netlist i)) 0 ≡ headingNumber (cellOf cells gate .heading)
       unfolding cellOf
       heading-word =
-          rw (B.cell-number cells ss sound behind past i inside)
-          (cell-heading noCell cells behind (sound .library .few) (gate .cell) (gate-sound cells ss (sound .netlist) gate (getD-listed gs i B.noGate inside) .known))
+          rw (cell-held (sound .netlist) past i inside)
+          (cell-heading noCell cells behind (sound .library .few) (gate .cell) (gate-sound cells ss (sound .netlist) gate (getD-listed gs i noGate inside) .known))
 
       last-place : lastAt table (l * 2 + v) ≡ gatePlace i + 1 + n
       last-place = nt .last ∙ ap (λ (x : ℕ). gatePlace i + 1 + x) (B.pins-number cells ss sound behind past i inside)
@@ -248,11 +249,10 @@ module _ (cells : List Cell) (ss : List Statement) (sound : BothSound cells ss) 
       -- ---- the lines that its columns name
 
       pin-word : (j : ℕ) → j < n → getD netlist (gatePlace i + 1 + suc j) 0 ≡ pinLine gate (suc j)
-      unfolding gateLines pinLine
+      unfolding pinLine
       pin-word j h =
           let z : suc j - 1 ≡ j = omega arith in
-          sym (getD-take Size.gateLines (drop (gatePlace i + 1) netlist) (suc j) 0 (omega (arith, pins-few)) ∙ getD-drop (gatePlace i + 1) netlist (suc j) 0)
-          ∙ ap (λ (ls : List ℕ). getD ls (suc j) 0) (B.lines-are cells ss sound behind past i inside)
+          line-held (sound .netlist) past i inside (suc j) (omega (arith, pins-few))
           ∙ rw z (getD-fitted 0 Size.pins (gate .pins) j (omega (arith, pins-few)))
 
       -- Each column as a goal.
@@ -270,13 +270,13 @@ module _ (cells : List Cell) (ss : List Statement) (sound : BothSound cells ss) 
 
       -- The columns by which it asks.
       abbrev asking : ℕ
-      asking = pick (sharesLine (linesOf gate) n && oneWire (cellOf cells gate)) (onceColumns (linesOf gate) n (r .columns)) (r .columns)
+      asking = pick (sharesLine (gateLineWords gate) n && oneWire (cellOf cells gate)) (onceColumns (gateLineWords gate) n (r .columns)) (r .columns)
 
       asking-word : columnsAt table (l * 2 + v) ≡ asking
       unfolding askingColumns
       asking-word =
           nt .columns
-          ∙ rw (columns-word, B.tied-is cells ss sound behind past i inside, B.lines-are cells ss sound behind past i inside, B.pins-number cells ss sound behind past i inside) refl
+          ∙ rw (columns-word, B.tied-is cells ss sound behind past i inside, lines-held (sound .netlist) past i inside, B.pins-number cells ss sound behind past i inside) refl
 
       goals-are : goals netlist (lastAt table (l * 2 + v)) asking ≡ map value (asks gate (cellOf cells gate) (setting v) r)
       unfolding goals value

@@ -11,7 +11,7 @@ use Rattle.cell_library.specs.Cells.{Cell}
 use Rattle.netlist.specs.Netlist.{Statement}
 use Rattle.calculation.specs.Nodes.{Kind, kindNumber, set, node}
 use Rattle.calculation.specs.Calculation.{analysed}
-use Rattle.sweep.specs.Ready.{Holds}
+use Rattle.calculation.specs.Stored.{Holds}
 use Rattle.cheapest.specs.Text.{cheapestText}
 use Rattle.cheapest.specs.Plan.{Cheapest}
 

@@ -14,6 +14,7 @@ use Rattle.writer.specs.Octal.{octalBytes, octal-open}
 use Rattle.plans.specs.Trace.{Mark, Trace, markAt}
 use Rattle.cell_library.specs.Cells.{Row, rowValue, Group, Cell}
 use Rattle.netlist.specs.Netlist.{Gate, Statement, gatesOf}
+use Rattle.netlist.specs.Gates.{noGate}
 use Rattle.calculation.specs.Nodes.{Kind, Purpose, set, node}
 use Rattle.calculation.specs.Ways.{cellOf, setting, groupOf, usable}
 use Rattle.calculation.specs.Plans.{Plan, Plan.input, Plan.row, Plan.output, Plan.through, Plans, Plans.done, Plans.also}
@@ -86,9 +87,6 @@ abbrev pub valueAt : ℕ → ℕ
 valueAt n = n % Size.values
 
 -- The gate that drives a line; one without pins where none does.
-unfoldable pub noGate : Gate
-noGate = record { cell = 0; line = 0; pins = [] }
-
 unfoldable pub driverOf : List Gate → ℕ → Gate
 driverOf [] l = noGate
 driverOf (g ∷ gs) l = pick (eqb (g .line) l) g (driverOf gs l)

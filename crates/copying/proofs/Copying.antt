@@ -34,7 +34,7 @@ use Rattle.netlist.specs.Admitting.{refusalOf, extended}
 use Rattle.netlist.specs.Lowest.{lowest}
 use Rattle.netlist.specs.Sound.{Apart}
 use Rattle.netlist.proofs.Causes.{lineBad-good, member-append, member-more, mark-cause, taken}
-use Rattle.netlist.proofs.Opening.{declared-read, needed-mentioned, where-same}
+use Rattle.netlist.proofs.Opening.{declared-read, needed-mentioned}
 use Rattle.netlist.proofs.Admitting.{admitted-more, admitted-refused}
 use Rattle.calculation.specs.Prices.{inputCost, pricesOf}
 use Rattle.calculation.specs.Calculation.{startLine, startLines, startAt, analysedAt, analysed}

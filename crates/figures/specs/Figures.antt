@@ -16,13 +16,13 @@ use Rattle.netlist.specs.Netlist.{netlist-open}
 use Rattle.calculation.specs.Calculation.{calculation-open}
 use Rattle.plans.specs.Sweep.{sweep-open}
 use Rattle.report.specs.Report.{report-open}
-use Rattle.outcome.specs.Outcome.{Lent, Accepted, entry, outcome, tableShort, textLong, reportOf, conclude, reading, givenBy, givenTexts}
+use Rattle.outcome.specs.Outcome.{Lent, Accepted, entry, outcome, tableShort, textLong, reportOf, conclude, readPair, reading, givenBy, givenTexts}
 use Rattle.figures.specs.Entries.{c1130, c1490, nand2, and2, both2, xor2}
 
 -- Opens all that a whole analysis computes with.
 unfoldable pub outcome-open : ℕ
 unfolding library-open netlist-open calculation-open report-open bytes-open sweep-open
-    outcome entry tableShort textLong reportOf conclude reading givenBy
+    outcome entry tableShort textLong reportOf conclude readPair reading givenBy
 outcome-open = 0
 
 -- Tables of the published sizes and a report buffer.

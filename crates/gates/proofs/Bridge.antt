@@ -7,14 +7,13 @@ use mathlib.Core.Option.{Option}
 use mathlib.Core.Path.{_≡_, refl, ap, _∙_}
 use Prim.Native.Nat.{ℕ, zero, suc, _+_, _*_, _-_, _^_, _≤_, _<_}
 use native.Mathlib.Omega.{arith}
-use lib.ListN.{length, getD, take, drop, length-append, length-take, length-drop}
-use lib.Seq.{getD-take, getD-drop, ext-getD}
+use lib.ListN.{length, getD, length-append}
 use Rattle.sizes.specs.Sizes as Size
-use Rattle.sizes.specs.Places.{groupPlace, gatePlace}
+use Rattle.sizes.specs.Places.{groupPlace}
 use Rattle.cost.specs.Cost.{over}
 use Rattle.plans.specs.System.{Way}
 use Rattle.reading.specs.Choice.{pick}
-use Rattle.table.proofs.Places.{length-fitted, getD-fitted}
+use Rattle.table.proofs.Places.{getD-fitted}
 use Rattle.reading.proofs.Laws.{each-at}
 use Rattle.cell_library.specs.Cells.{Row, Group, Cell}
 use Rattle.cell_library.specs.Library.{columnCount, wordGroups}
@@ -22,27 +21,26 @@ use Rattle.cell_library.specs.Layout.{libraryWords, cellGroups, firstGroup}
 use Rattle.cell_library.specs.Sound.{SoundRow}
 use Rattle.cell_library.proofs.Places.{length-libraryWords, cell-pins, group-count, row-depth, row-columns, cell-group, within-space, first-most}
 use Rattle.netlist.specs.Netlist.{Gate, Statement, gatesOf}
-use Rattle.netlist.specs.Layout.{netlistWords, gateWords}
+use Rattle.netlist.specs.Layout.{gateLineWords, netlistWords}
+use Rattle.netlist.specs.Gates.{gateCell, gateLines, noGate}
 use Rattle.netlist.specs.Sound.{InRange, GateSound}
 use Rattle.netlist.proofs.Laws.{gate-sound}
-use Rattle.netlist.proofs.Places.{length-netlistWords, netlist-count, gate-word}
+use Rattle.netlist.proofs.HeldGates.{cell-held, lines-held}
+use Rattle.netlist.proofs.Places.{netlist-room, netlist-count}
 use Rattle.calculation.specs.Acceptance.{BothSound}
 use Rattle.calculation.specs.Nodes.{Kind, combinational, sequential, kindNumber}
 use Rattle.calculation.specs.Ways.{noCell, cellOf, pinLine, Role, setting, observing, purposeOf, wordOf, groupIndex, groupOf, bothValues, oneWire, isWay, usable, wayOf, waysOf, visit}
 use Rattle.calculation.proofs.Accepting.{has-index, gate-cell, pin-count, gate-groups, role-group, role-row, depth-figure}
 use Rattle.calculation.proofs.Visiting.{getD-listed, Has}
-use Rattle.gates.specs.Tables.{rowPlaces, readRow, withWay, rowWays, groupWays, groupVisit, gateCell, gatePins, gateLines, byRole, roleColumns, visitCount, visitGroup, gateTied, visitWired, gateVisit}
+use Rattle.gates.specs.Tables.{rowPlaces, readRow, withWay, rowWays, groupWays, groupVisit, gatePins, byRole, roleColumns, visitCount, visitGroup, gateTied, visitWired, gateVisit}
 use Rattle.wires.specs.Wires.{sharesLine, tiedAt}
 use Rattle.wires.proofs.Cells.{one-wire-row, cell-one-wire}
 use Rattle.gates.specs.Fits.{GroupFits, GateFits, TablesFit}
-use Rattle.gates.proofs.Naming.{set-node, observe-node, linesOf}
+use Rattle.gates.proofs.Naming.{set-node, observe-node}
 use Rattle.gates.proofs.Wiring.{roleWired, row-read}
 
 pub noRow : Row
 noRow = record { depth = 0; columns = 0 }
-
-pub noGate : Gate
-noGate = record { cell = 0; line = 0; pins = [] }
 
 -- ---- rows
 
@@ -111,9 +109,6 @@ module _ (cells : List Cell) (ss : List Statement) (sound : BothSound cells ss) 
   library-room : Size.library ≤ length library
   library-room = omega (arith, length-append (libraryWords cells) behind, length-libraryWords cells)
 
-  pub netlist-room : Size.netlist ≤ length netlist
-  netlist-room = omega (arith, length-append (netlistWords ss) past, length-netlistWords ss)
-
   -- ---- one gate
 
   module _ (i : ℕ) (h : i < length (gatesOf ss)) where
@@ -132,12 +127,8 @@ module _ (cells : List Cell) (ss : List Statement) (sound : BothSound cells ss) 
     few-gates : i < Size.gates
     few-gates = omega (arith, sound .netlist .few)
 
-    gate-number : (j : ℕ) → j < Size.gateWords → getD netlist (gatePlace i + j) 0 ≡ getD (gateWords gate) j 0
-    gate-number j q = gate-word ss past noGate i j h few-gates q
-
-    pub cell-number : gateCell netlist i ≡ gate .cell
-    unfolding gateWords
-    cell-number = let e : gatePlace i ≡ gatePlace i + 0 = omega arith in rw e (gate-number 0 (omega arith))
+    cell-number : gateCell netlist i ≡ gate .cell
+    cell-number = cell-held (sound .netlist) past i h
 
     pub pins-number : gatePins library netlist i ≡ cell .pins
     unfolding cellOf
@@ -146,29 +137,15 @@ module _ (cells : List Cell) (ss : List Statement) (sound : BothSound cells ss) 
     pub pins-most : cell .pins ≤ Size.pins
     pins-most = gate-cell sound gate listed .header .most-pins
 
-    pub lines-are : gateLines netlist i ≡ linesOf gate
-    unfolding gateLines
-    lines-are = ext-getD 0 (take Size.gateLines (drop (gatePlace i + 1) netlist)) (linesOf gate) count each
-      where
-        count : length (take Size.gateLines (drop (gatePlace i + 1) netlist)) ≡ length (linesOf gate)
-        count = simp (length-take, length-drop, length-fitted) (omega (arith, netlist-room, few-gates))
-
-        each : (j : ℕ) → j < length (take Size.gateLines (drop (gatePlace i + 1) netlist))
-            → getD (take Size.gateLines (drop (gatePlace i + 1) netlist)) j 0 ≡ getD (linesOf gate) j 0
-        each j q =
-            let b : j < Size.gateLines = omega (arith, count, length-fitted 0 Size.pins (gate .pins)) in
-            let e : gatePlace i + 1 + j ≡ gatePlace i + suc j = omega arith in
-            getD-take Size.gateLines (drop (gatePlace i + 1) netlist) j 0 b
-            ∙ getD-drop (gatePlace i + 1) netlist j 0
-            ∙ ap (λ (m : ℕ). getD netlist m 0) e
-            ∙ unfold gateWords in gate-number (suc j) (omega arith)
+    lines-are : gateLines netlist i ≡ gateLineWords gate
+    lines-are = lines-held (sound .netlist) past i h
 
     -- Whether its rows are read as those of one wire.
-    pub tied-is : gateTied library netlist i ≡ (sharesLine (linesOf gate) (cell .pins) && oneWire cell)
+    pub tied-is : gateTied library netlist i ≡ (sharesLine (gateLineWords gate) (cell .pins) && oneWire cell)
     unfolding tiedAt cellOf
     tied-is =
         rw (lines-are, pins-number, cell-number)
-        (ap (λ (b : Bool). sharesLine (linesOf gate) (cell .pins) && b)
+        (ap (λ (b : Bool). sharesLine (gateLineWords gate) (cell .pins) && b)
         (cell-one-wire noCell cells behind (sound .library .few) (gate .cell) (sound-gate .known) (gate-cell sound gate listed)))
 
     wired-is : (role : Role) → visitWired (roleNumber role) library netlist i ≡ roleWired gate cell role
@@ -244,7 +221,7 @@ module _ (cells : List Cell) (ss : List Statement) (sound : BothSound cells ss) 
       unfolding groupWays
       group-ways =
           rw (wired-is role, lines-are, group-number, pins-number)
-          (rows-ways k gate cell role library (readRow (roleWired gate cell role) (linesOf gate) (cell .pins)) (rowPlaces (kindNumber k) (linesOf gate) (cell .pins)) rows (place + 1) depth-number columns-number
+          (rows-ways k gate cell role library (readRow (roleWired gate cell role) (gateLineWords gate) (cell .pins)) (rowPlaces (kindNumber k) (gateLineWords gate) (cell .pins)) rows (place + 1) depth-number columns-number
           (λ r m. row-read k gate cell role pins-most r (row-sound r m .within) (lone r m)))
 
     -- ---- its visits
@@ -273,7 +250,7 @@ module _ (cells : List Cell) (ss : List Statement) (sound : BothSound cells ss) 
         (λ k. let z : suc p - 1 ≡ p = omega arith in rw z at (group-fits k (observing (suc p)) (omega arith, omega (arith, pins-number)))) kind b
     groups-fit (suc (suc role)) kind p a b l = absurd (omega arith)
 
-    line-sound : (j : ℕ) → j ≤ cell .pins → InRange (getD (linesOf gate) j 0)
+    line-sound : (j : ℕ) → j ≤ cell .pins → InRange (getD (gateLineWords gate) j 0)
     line-sound zero q = sound-gate .line
     line-sound (suc j) q =
         rw (getD-fitted 0 Size.pins (gate .pins) j (omega (arith, pins-most)))
@@ -283,7 +260,7 @@ module _ (cells : List Cell) (ss : List Statement) (sound : BothSound cells ss) 
     unfolding InRange
     gate-fits =
         record {
-          room = omega (arith, netlist-room, few-gates);
+          room = omega (arith, netlist-room ss past, few-gates);
           cell = rw cell-number (omega (arith, library-room, sound .library .few, sound-gate .known));
           lines =
               rw (lines-are, pins-number)
@@ -296,4 +273,4 @@ module _ (cells : List Cell) (ss : List Statement) (sound : BothSound cells ss) 
         }
 
   pub tables-fit : TablesFit library netlist
-  tables-fit = record { some = omega (arith, netlist-room); gates = λ g h. gate-fits g (rw (netlist-count ss past) at h) }
+  tables-fit = record { some = omega (arith, netlist-room ss past); gates = λ g h. gate-fits g (rw (netlist-count ss past) at h) }

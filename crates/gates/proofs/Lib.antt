@@ -1,4 +1,3 @@
-pub mod Copying
 pub mod Roles
 pub mod Rows
 pub mod Gathering

@@ -12,11 +12,11 @@ use lib.Pow.{shr-shr}
 use Rattle.sizes.specs.Sizes as Size
 use Rattle.sizes.specs.Places.{settingPlace, observingPlace}
 use Rattle.reading.specs.Choice.{pick}
-use Rattle.table.specs.Blocks.{fitted}
 use Rattle.table.proofs.Places.{getD-fitted}
 use Rattle.cell_library.specs.Library.{columnCount}
 use Rattle.cell_library.specs.Cells.{Row, Cell, Column, pin, output, observe, bitOf, bit, pinColumns, settingColumns, observingColumns, named}
 use Rattle.netlist.specs.Netlist.{Gate}
+use Rattle.netlist.specs.Layout.{gateLineWords}
 use Rattle.calculation.specs.Nodes.{Kind, combinational, sequential, kindNumber, node}
 use Rattle.calculation.specs.Nodes as N
 use Rattle.calculation.specs.Ways.{pinLine, asked, needs, Role, setting, observing, wordOf, columnsOf, namedBy}
@@ -34,10 +34,6 @@ pub observe-node : (k : Kind) (l : ℕ) → observingPlace (kindNumber k) l ≡ 
 unfolding node
 observe-node combinational l = omega arith
 observe-node sequential l = omega arith
-
--- The line that a gate drives and those that its pins read, 0 after the last.
-abbrev pub linesOf : Gate → List ℕ
-linesOf g = g .line ∷ fitted 0 Size.pins (g .pins)
 
 -- ---- columns from the lowest bit up
 
@@ -126,7 +122,7 @@ module _ (n : ℕ) (place : ℕ → ℕ) (value : Column → ℕ) (pins : (i v :
 
 module _ (k : Kind) (g : Gate) (n : ℕ) (few : n ≤ Size.pins) where
   abbrev place : ℕ → ℕ
-  place = columnPlace (kindNumber k) (linesOf g) n
+  place = columnPlace (kindNumber k) (gateLineWords g) n
 
   -- ---- one column
 
@@ -137,7 +133,7 @@ module _ (k : Kind) (g : Gate) (n : ℕ) (few : n ≤ Size.pins) where
       let m : n - j / 2 ≡ suc i = omega arith in
       let q : 1 - j % 2 ≡ v = omega arith in
       let z : suc i - 1 ≡ i = omega arith in
-      line-column (kindNumber k) (linesOf g) n j l
+      line-column (kindNumber k) (gateLineWords g) n j l
       ∙ rw (m, q, z)
       (ap (λ (x : ℕ). settingPlace (kindNumber k) x v) {y = getD (g .pins) i 0} (getD-fitted 0 Size.pins (g .pins) i (omega arith))
       ∙ set-node k (getD (g .pins) i 0) v)
@@ -148,30 +144,30 @@ module _ (k : Kind) (g : Gate) (n : ℕ) (few : n ≤ Size.pins) where
       let l : j / 2 ≤ n = omega arith in
       let m : n - j / 2 ≡ 0 = omega arith in
       let q : 1 - j % 2 ≡ v = omega arith in
-      line-column (kindNumber k) (linesOf g) n j l ∙ rw (m, q) (set-node k (g .line) v)
+      line-column (kindNumber k) (gateLineWords g) n j l ∙ rw (m, q) (set-node k (g .line) v)
 
   observe-place : (j : ℕ) → j ≡ 2 * n + 2 → place j ≡ node k (asked g observe)
   unfolding asked
-  observe-place j e = observe-column (kindNumber k) (linesOf g) n j (omega arith) ∙ observe-node k (g .line)
+  observe-place j e = observe-column (kindNumber k) (gateLineWords g) n j (omega arith) ∙ observe-node k (g .line)
 
   -- ---- the columns that a row names
 
   abbrev asking : Column → ℕ
   asking c = node k (asked g c)
 
-  pub setting-places : (columns : ℕ) → columns < 2 ^ (2 * n) → rowPlaces (kindNumber k) (linesOf g) n columns ≡ needs k g (named n (settingColumns n) columns)
+  pub setting-places : (columns : ℕ) → columns < 2 ^ (2 * n) → rowPlaces (kindNumber k) (gateLineWords g) n columns ≡ needs k g (named n (settingColumns n) columns)
   unfolding rowPlaces needs
   setting-places columns b =
       setting-named n place asking (λ i v h c. pin-place i v h c _ refl) (λ v c. output-place v c _ refl) (observe-place _ refl) columns few b
 
-  pub observing-places : (columns : ℕ) → columns < 2 ^ (2 * n + 3) → rowPlaces (kindNumber k) (linesOf g) n columns ≡ needs k g (named n (observingColumns n) columns)
+  pub observing-places : (columns : ℕ) → columns < 2 ^ (2 * n + 3) → rowPlaces (kindNumber k) (gateLineWords g) n columns ≡ needs k g (named n (observingColumns n) columns)
   unfolding rowPlaces needs
   observing-places columns b =
       observing-named n place asking (λ i v h c. pin-place i v h c _ refl) (λ v c. output-place v c _ refl) (observe-place _ refl) columns few b
 
 -- A row of the group of a role.
 pub role-places : (k : Kind) (g : Gate) (c : Cell) (role : Role) → c .pins ≤ Size.pins → (r : Row) → r .columns < 2 ^ columnCount (wordOf k role) (c .pins)
-    → rowPlaces (kindNumber k) (linesOf g) (c .pins) (r .columns) ≡ needs k g (namedBy c role r)
+    → rowPlaces (kindNumber k) (gateLineWords g) (c .pins) (r .columns) ≡ needs k g (namedBy c role r)
 unfolding namedBy columnsOf wordOf columnCount
 role-places combinational g c (setting e) few r b = setting-places combinational g (c .pins) few (r .columns) b
 role-places sequential g c (setting e) few r b = setting-places sequential g (c .pins) few (r .columns) b

@@ -15,16 +15,17 @@ use Rattle.table.proofs.Places.{getD-fitted}
 use Rattle.cell_library.specs.Cells.{Row, Cell, Column, settingColumns, named}
 use Rattle.cell_library.specs.Library.{columnCount}
 use Rattle.netlist.specs.Netlist.{Gate}
+use Rattle.netlist.specs.Layout.{gateLineWords}
 use Rattle.calculation.specs.Nodes.{Kind, combinational, sequential, kindNumber}
 use Rattle.calculation.specs.Ways.{pinLine, needs, Role, setting, observing, wordOf, columnsOf, namedBy, bothValues, oneWire, merges, once, needsBoth, asks, isWay, wayOf}
 use Rattle.wires.specs.Wires.{onceColumns, bothColumns, sharesLine}
 use Rattle.wires.proofs.Reading.{once-few, once-columns, both-columns, once-untied, needs-untied}
 use Rattle.gates.specs.Tables.{rowPlaces, readRow, hasWay, withWay}
-use Rattle.gates.proofs.Naming.{linesOf, setting-places, role-places}
+use Rattle.gates.proofs.Naming.{setting-places, role-places}
 
 -- Whether a gate's rows are read as those of one wire, by the role.
 abbrev pub roleWired : Gate → Cell → Role → Bool
-roleWired g c (setting e) = sharesLine (linesOf g) (c .pins) && oneWire c
+roleWired g c (setting e) = sharesLine (gateLineWords g) (c .pins) && oneWire c
 roleWired g c (observing i) = false
 
 module _ (k : Kind) (g : Gate) (c : Cell) (few : c .pins ≤ Size.pins) (r : Row) where
@@ -35,10 +36,10 @@ module _ (k : Kind) (g : Gate) (c : Cell) (few : c .pins ≤ Size.pins) (r : Row
   x = r .columns
 
   abbrev places : ℕ → List ℕ
-  places = rowPlaces (kindNumber k) (linesOf g) n
+  places = rowPlaces (kindNumber k) (gateLineWords g) n
 
   abbrev lines : List ℕ
-  lines = linesOf g
+  lines = gateLineWords g
 
   pub pins-read : (p : ℕ) → 1 ≤ p → p ≤ n → getD lines p 0 ≡ pinLine g p
   unfolding pinLine
@@ -78,11 +79,11 @@ module _ (k : Kind) (g : Gate) (c : Cell) (few : c .pins ≤ Size.pins) (r : Row
 -- One row.
 pub row-read : (k : Kind) (g : Gate) (c : Cell) (role : Role) → c .pins ≤ Size.pins → (r : Row) → r .columns < 2 ^ columnCount (wordOf k role) (c .pins)
     → (oneWire c ≡ true → bothValues (c .pins) (c .pins) (r .columns) ≡ false) → (ws : List Way)
-    → withWay (r .depth) (rowPlaces (kindNumber k) (linesOf g) (c .pins)) (readRow (roleWired g c role) (linesOf g) (c .pins) (r .columns)) ws
+    → withWay (r .depth) (rowPlaces (kindNumber k) (gateLineWords g) (c .pins)) (readRow (roleWired g c role) (gateLineWords g) (c .pins) (r .columns)) ws
     ≡ pick (isWay g c role r) (wayOf k g c role r ∷ ws) ws
 unfolding isWay wayOf asks merges namedBy columnsOf
 row-read k g c (setting e) few r b q ws =
-    setting-read k g c few r (role-places k g c (setting e) few r b) (within k b) (sharesLine (linesOf g) (c .pins)) (oneWire c) refl q ws
+    setting-read k g c few r (role-places k g c (setting e) few r b) (within k b) (sharesLine (gateLineWords g) (c .pins)) (oneWire c) refl q ws
   where
     within : (k : Kind) → r .columns < 2 ^ columnCount (wordOf k (setting e)) (c .pins) → r .columns < 2 ^ (2 * c .pins)
     within combinational h = unfold wordOf columnCount in h
@@ -98,37 +99,37 @@ module _ (g : Gate) (c : Cell) (e : ℕ) (few : c .pins ≤ Size.pins) (r : Row)
   wired = roleWired g c (setting e)
 
   -- A way is one way more.
-  told : (o : Option ℕ) (b : Bool) (w : Way) → withWay (r .depth) (rowPlaces (kindNumber combinational) (linesOf g) (c .pins)) o [] ≡ pick b (w ∷ []) [] → hasWay o ≡ b
+  told : (o : Option ℕ) (b : Bool) (w : Way) → withWay (r .depth) (rowPlaces (kindNumber combinational) (gateLineWords g) (c .pins)) o [] ≡ pick b (w ∷ []) [] → hasWay o ≡ b
   unfolding withWay hasWay pick
   told none true w h = let z : _≡_ {A = ℕ} 0 1 = ap length h in absurd (omega arith)
   told none false w h = refl
   told (some y) true w h = refl
   told (some y) false w h = let z : _≡_ {A = ℕ} 1 0 = ap length h in absurd (omega arith)
 
-  pub way-told : hasWay (readRow wired (linesOf g) (c .pins) (r .columns)) ≡ isWay g c (setting e) r
+  pub way-told : hasWay (readRow wired (gateLineWords g) (c .pins) (r .columns)) ≡ isWay g c (setting e) r
   way-told =
-      told (readRow wired (linesOf g) (c .pins) (r .columns)) (isWay g c (setting e) r) (wayOf combinational g c (setting e) r)
+      told (readRow wired (gateLineWords g) (c .pins) (r .columns)) (isWay g c (setting e) r) (wayOf combinational g c (setting e) r)
       (row-read combinational g c (setting e) few r (unfold wordOf columnCount in within) lone [])
 
   abbrev all : List Column
   all = named (c .pins) (settingColumns (c .pins)) (r .columns)
 
   abbrev asking : Bool → ℕ
-  asking b = pick b (onceColumns (linesOf g) (c .pins) (r .columns)) (r .columns)
+  asking b = pick b (onceColumns (gateLineWords g) (c .pins) (r .columns)) (r .columns)
 
   pub asking-few : (b : Bool) → asking b < 2 ^ (2 * c .pins)
   unfolding pick
-  asking-few true = once-few (linesOf g) (c .pins) (r .columns)
+  asking-few true = once-few (gateLineWords g) (c .pins) (r .columns)
   asking-few false = within
 
-  asking-by : (s w : Bool) → sharesLine (linesOf g) (c .pins) ≡ s → (w ≡ true → bothValues (c .pins) (c .pins) (r .columns) ≡ false)
+  asking-by : (s w : Bool) → sharesLine (gateLineWords g) (c .pins) ≡ s → (w ≡ true → bothValues (c .pins) (c .pins) (r .columns) ≡ false)
       → named (c .pins) (settingColumns (c .pins)) (asking (s && w)) ≡ pick w (once g [] all) all
   unfolding pick
-  asking-by true true p q = once-columns g (c .pins) (linesOf g) (pins-read combinational g c few r) (r .columns)
-  asking-by false true p q = sym (once-untied g (c .pins) (linesOf g) (pins-read combinational g c few r) (r .columns) p (q refl))
+  asking-by true true p q = once-columns g (c .pins) (gateLineWords g) (pins-read combinational g c few r) (r .columns)
+  asking-by false true p q = sym (once-untied g (c .pins) (gateLineWords g) (pins-read combinational g c few r) (r .columns) p (q refl))
   asking-by true false p q = refl
   asking-by false false p q = refl
 
   pub asking-named : named (c .pins) (settingColumns (c .pins)) (asking wired) ≡ asks g c (setting e) r
   unfolding asks merges namedBy columnsOf
-  asking-named = asking-by (sharesLine (linesOf g) (c .pins)) (oneWire c) refl lone
+  asking-named = asking-by (sharesLine (gateLineWords g) (c .pins)) (oneWire c) refl lone

@@ -10,7 +10,8 @@ use Rattle.sizes.specs.Sizes as Size
 use Rattle.sizes.specs.Places.{cellPlace, groupPlace, gatePlace}
 use Rattle.cost.specs.Cost.{over}
 use Rattle.plans.specs.Sweep.{at}
-use Rattle.gates.specs.Tables.{columnPlace, gateCell, gatePins, gateLines, roleColumns, visitCount, visitGroup, gateTied}
+use Rattle.netlist.specs.Gates.{gateCell, gateLines}
+use Rattle.gates.specs.Tables.{columnPlace, gatePins, roleColumns, visitCount, visitGroup}
 
 -- The line of a gate and those of its pins, each with its numbers in the numbers table.
 pub record LinesFit (lines : List ℕ) (pins : ℕ) : Type 0 where
@@ -67,17 +68,3 @@ pub record GateFits (library netlist : List ℕ) (g : ℕ) : Type 0 where
 pub record TablesFit (library netlist : List ℕ) : Type 0 where
   pub some : 1 ≤ length netlist
   pub gates : (g : ℕ) → g < getD netlist 0 0 → GateFits library netlist g
-
--- ---- gates whose rows are read as those of one wire
-
--- Marks that tell of each gate whether they are.
-pub record Tied (library netlist : List ℕ) (gates : ℕ) (marks : List Bool) : Type 0 where
-  pub size : length marks ≡ Size.gates
-  pub each : (g : ℕ) → g < gates → getD marks g false ≡ gateTied library netlist g
-
--- What noting them asks.
-pub record NoteFits (library netlist : List ℕ) (gates : ℕ) (marks : List Bool) : Type 0 where
-  pub count : gates ≡ getD netlist 0 0
-  pub few : gates ≤ Size.gates
-  pub tablesFit : TablesFit library netlist
-  pub size : length marks ≡ Size.gates

@@ -1,5 +1,5 @@
--- A gate of the netlist table with its cell of the library table, read place for place: its lines, what the columns of its
--- rows ask for, and its visits. `proofs/Bridge.antt` shows that at the tables of accepted cells and statements these are the
+-- A gate of the netlist table with its cell of the library table, read place for place: what the columns of its rows ask for,
+-- and its visits. `proofs/Bridge.antt` shows that at the tables of accepted cells and statements these are the
 -- visits of crate `calculation`.
 -- A kind is a number here, 0 combinational and 1 sequential, and so is a role, 0 setting and 1 observing.
 -- Assumes nothing.
@@ -8,11 +8,12 @@ use mathlib.Core.List.{List, [], _∷_}
 use mathlib.Core.Option.{Option, none, some}
 use Prim.Native.Nat.{ℕ, zero, suc, _+_, _*_, _-_, _/_, _%_}
 use lib.Dec.{leb, eqb}
-use lib.ListN.{getD, take, drop}
+use lib.ListN.{getD}
 use Rattle.sizes.specs.Sizes as Size
-use Rattle.sizes.specs.Places.{cellPlace, pinsPlace, groupPlace, gatePlace, settingPlace, observingPlace}
+use Rattle.sizes.specs.Places.{cellPlace, pinsPlace, groupPlace, settingPlace, observingPlace}
 use Rattle.reading.specs.Choice.{pick}
 use Rattle.plans.specs.System.{Way, Visit}
+use Rattle.netlist.specs.Gates.{gateCell, gateLines}
 use Rattle.row_sums.specs.Columns.{columnPlaces, namedColumns}
 use Rattle.wires.specs.Wires.{onceColumns, bothColumns, tiedAt}
 
@@ -68,15 +69,8 @@ groupVisit wired kind lines pins library group place =
 
 -- ---- gates
 
-abbrev pub gateCell : List ℕ → ℕ → ℕ
-gateCell netlist g = getD netlist (gatePlace g) 0
-
 abbrev pub gatePins : List ℕ → List ℕ → ℕ → ℕ
 gatePins library netlist g = getD library (pinsPlace (gateCell netlist g)) 0
-
--- The line that a gate drives and those that its pins read, 0 after the last.
-unfoldable pub gateLines : List ℕ → ℕ → List ℕ
-gateLines netlist g = take Size.gateLines (drop (gatePlace g + 1) netlist)
 
 -- ---- a gate's visits, i from 0: its output's values where lines are set, its pins where they are observed
 

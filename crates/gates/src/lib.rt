@@ -1,9 +1,9 @@
-// A gate of an accepted netlist, out of the tables: its lines, where its cell's groups stand, what its
-// columns cost, and the least row sum of a group.
+// A gate of an accepted netlist, out of the tables: where its cell's groups stand, what its columns cost, and
+// the least row sum of a group. Its cell and its lines are read by module `gates` of crate `netlist`.
 //
 // For the crates above, each with what it asks of the tables (specs/Fits.antt), since the loop of the
-// sweeps tests no bounds: `least_of`, `is_way`, `read_number`, `cell_place`, `lines_of`, `note_tied`, and
-// modules `gather` and `visits`.
+// sweeps tests no bounds: `least_of`, `is_way`, `read_number`, `cell_place`, and modules `gather` and
+// `visits`.
 //
 // Rows are added up in crate `row_sums`. Here all goes by the kind's number, 0 combinational and 1
 // sequential.
@@ -11,6 +11,9 @@ pub mod gather;
 mod places;
 pub mod visits;
 
+use cell_library::cells;
+use netlist::gates::unchecked::cell_of;
+use netlist::gates::unchecked::lines_of;
 use row_sums::Sum;
 use row_sums::kinds::wide;
 use row_sums::lesser_row;
@@ -18,11 +21,10 @@ use row_sums::no_sum;
 use row_sums::number_of;
 use wires::needs_both;
 use wires::once;
-use wires::tied;
 ghost use mathlib.Core.Bool.{true};
 ghost use mathlib.Core.Option.{some};
 ghost use mathlib.Core.Path.{_≡_};
-ghost use Prim.Native.Nat.{_+_, _*_, _≤_, _<_};
+ghost use Prim.Native.Nat.{_≤_, _<_};
 ghost use lib.ListN.{length};
 ghost use Rattle.sizes.specs.Sizes as Size;
 ghost use Rattle.sizes.specs.Places.{cellPlace, gatePlace};
@@ -30,9 +32,10 @@ ghost use Rattle.cost.specs.Cost.{never};
 ghost use Rattle.plans.specs.Sweep.{least};
 ghost use Rattle.row_sums.specs.Columns.{ColumnsFit};
 ghost use Rattle.row_sums.specs.Sums.{sumNumber, sumKind, Summed};
-ghost use Rattle.gates.specs.Tables.{readRow, hasWay, groupColumns, gateCell, gateLines};
+ghost use Rattle.netlist.specs.Gates.{gateCell};
+ghost use Rattle.gates.specs.Tables.{readRow, hasWay, groupColumns};
 ghost use Rattle.gates.specs.Sums.{lesserRow};
-ghost use Rattle.gates.specs.Fits.{SumFits, NoteFits, Tied};
+ghost use Rattle.gates.specs.Fits.{SumFits};
 
 // "the least row sum of its group", over the costs of the columns.
 fn least_sum(kind: usize, library: &[u32], group: usize, costs: &[u32; sizes::COLUMNS]) -> Sum
@@ -153,37 +156,5 @@ pub fn cell_place(netlist: &[u32], gate: usize) -> usize
     requires { ⌜ gatePlace gate < length (now netlist) ⌝ }
     ensures { λ r. ⌜ r ≡ cellPlace (gateCell (now (netlist .entry)) gate) ⌝ }
 {
-    let cell = wide(netlist[sizes::GATES_AT + gate * sizes::GATE_WORDS]);
-    sizes::CELLS_AT + cell * sizes::CELL_WORDS
-}
-
-// The line that a gate drives, then those that its pins read, 0 after the last.
-pub fn lines_of(netlist: &[u32], gate: usize) -> [u32; sizes::GATE_LINES]
-    requires { ⌜ gatePlace gate + Size.gateWords ≤ length (now netlist) ⌝ }
-    ensures { λ r. ⌜ r ≡ gateLines (now (netlist .entry)) gate ⌝ }
-{
-    let at = sizes::GATES_AT + gate * sizes::GATE_WORDS + 1;
-    let mut lines = [0u32; sizes::GATE_LINES];
-    let mut i = 0;
-    while i < sizes::GATE_LINES {
-        lines[i] = netlist[at + i];
-        i += 1;
-    }
-    lines
-}
-
-// Notes for each gate whether its CC and SC rows are read as those of one wire.
-pub fn note_tied(library: &[u32], netlist: &[u32], gates: usize, marks: &mut [bool; sizes::GATES])
-    requires { ⌜ NoteFits (now library) (now netlist) gates (now marks) ⌝ }
-    ensures { λ _.
-        ⌜ Tied (now (library .entry)) (now (netlist .entry)) gates (now (marks .exit)) ⌝ }
-{
-    let mut gate = 0;
-    while gate < gates {
-        let cell = cell_place(netlist, gate);
-        let pins = wide(library[cell + sizes::PINS_AT]);
-        let lines = lines_of(netlist, gate);
-        marks[gate] = tied(library, cell, &lines, pins);
-        gate += 1;
-    }
+    cells::cell_place(cell_of(netlist, gate))
 }

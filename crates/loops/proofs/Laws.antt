@@ -17,12 +17,13 @@ use Rattle.netlist.specs.Netlist.{Gate, Statement, gatesOf, member}
 use Rattle.netlist.specs.Layout.{NetlistHolds}
 use Rattle.netlist.specs.Sound.{InRange, GateSound}
 use Rattle.netlist.proofs.Causes.{member-cases}
+use Rattle.netlist.proofs.HeldGates.{gates-held}
 use Rattle.calculation.specs.Acceptance.{BothSound}
 use Rattle.behaviour.specs.Loops.{Loopless, NoneOpen, linesRead, ReadOnce}
 use Rattle.loops.specs.Settling.{noMarks, withoutLoops, pinsOf, readOnce}
 use Rattle.loops.proofs.Marking.{none-marked}
 use Rattle.loops.proofs.Settled.{settled-free, free-settled}
-use Rattle.loops.proofs.Holding.{gates-held, inputs-held, mentions-held}
+use Rattle.loops.proofs.Holding.{inputs-listed, mentions-listed}
 use Rattle.loops.proofs.Standing.{once-apart, apart-once}
 
 member-range : (l : ℕ) (ls : List ℕ) → Each InRange ls → member l ls ≡ true → InRange l
@@ -45,9 +46,9 @@ module _ {table : List ℕ} {cells : List Cell} {ss : List Statement} (sound : B
   pub without-loops : (withoutLoops table ≡ true) ↔ (Loopless ss × NoneOpen ss)
   unfolding withoutLoops
   without-loops =
-      let inputs = inputs-held cells ss sound (holds .past) in
-      let mentions = mentions-held cells ss sound (holds .past) in
-      rw (holds .words, gates-held cells ss sound (holds .past)) (
+      let inputs = inputs-listed (sound .netlist) (holds .past) in
+      let mentions = mentions-listed (sound .netlist) (holds .past) in
+      rw (holds .words, gates-held (sound .netlist) (holds .past) (sound .library)) (
         settled-free cells ss (sound .netlist) _ _ inputs mentions,
         (λ f. free-settled cells ss (sound .netlist) _ _ inputs mentions (f .0) (f .1)),
       )
@@ -58,7 +59,7 @@ module _ {table : List ℕ} {cells : List Cell} {ss : List Statement} (sound : B
   read-once =
       let range = pins-range cells (gatesOf ss) (sound .netlist .gates) in
       let size = length-replicate {A = ℕ} Size.linePlaces 0 in
-      rw (holds .words, gates-held cells ss sound (holds .past)) (
+      rw (holds .words, gates-held (sound .netlist) (holds .past) (sound .library)) (
         (λ t. once-apart noMarks (pinsOf (gatesOf ss)) (λ l m. rw size (omega (arith, range l m .1))) t .0),
         (λ a. apart-once noMarks (pinsOf (gatesOf ss)) a (λ l m. none-marked Size.linePlaces l)),
       )

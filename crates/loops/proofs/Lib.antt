@@ -1,6 +1,6 @@
-pub mod Walking
+mod Walking
 mod Marking
 mod Settled
-pub mod Holding
+mod Holding
 mod Standing
 pub mod Laws

@@ -11,24 +11,13 @@ use borrow.Author.Tests.{ne-eqb}
 use Rattle.reading.specs.Choice.{pick}
 use Rattle.reading.proofs.Laws.{by-test, clash, or-left, or-right}
 use Rattle.netlist.specs.Netlist.{Gate, linesWhere}
-use Rattle.awake.specs.Lines.{gateLine}
-use Rattle.loops.specs.Held.{eachOf, present, pinLines, gateAt, gateCount, gatesHeld, inputsHeld, mentionsHeld}
+use Rattle.netlist.specs.Gates.{gateLine, eachOf, present, pinLines, gateAt, gatesHeld}
+use Rattle.netlist.specs.Lines.{inputsHeld, mentionsHeld}
+use Rattle.netlist.proofs.HeldGates.{each-next}
 use Rattle.loops.specs.Settling.{noMarks, mostPasses, settledLines, withoutLoops}
 use Rattle.loops.specs.Settling.{marked, allMarked, markEach, ready, settle, pass, passes, Passed, onceEach, pinsOf, Noted}
 
 -- ---- what is left
-
-module _ {A : Type 0} (f : ℕ → A) (n i : ℕ) where
-  pub each-next : i < n → eachOf f (n - i) i ≡ f i ∷ eachOf f (n - (i + 1)) (i + 1)
-  unfolding eachOf
-  each-next h =
-      let e : n - i ≡ suc (n - (i + 1)) = omega arith in
-      let s : i + 1 ≡ suc i = omega arith in
-      rw (e, s)
-
-  pub each-end : n ≤ i → eachOf f (n - i) i ≡ []
-  unfolding eachOf
-  each-end h = let e : n - i ≡ 0 = omega arith in rw e
 
 module _ (p : ℕ → Bool) (n l : ℕ) where
   where-next : l < n
@@ -89,10 +78,6 @@ module _ (marks : List ℕ) where
       steps (eqb line 0 || r) _ (rw (each-next f n i h, e, a) (by-test (eqb (f i) 0) (λ t. rw t) (λ t. rw t)))
 
 -- ---- gates
-
-pub gates-start : (table : List ℕ) (n : ℕ) → n ≡ gateCount table → eachOf (gateAt table) (n - 0) 0 ≡ gatesHeld table
-unfolding gatesHeld
-gates-start table n e = let z : n - 0 ≡ gateCount table = omega arith in ap (λ (k : ℕ). eachOf (gateAt table) k 0) z
 
 module _ (before table : List ℕ) (g : ℕ) {line : ℕ} {r : Bool} (at : line ≡ gateLine table g 0) (e : r ≡ marked before line) where
   abbrev Settles : List ℕ → Bool → Type 0

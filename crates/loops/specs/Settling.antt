@@ -10,7 +10,8 @@ use lib.ListN.{length, getD, set, replicate}
 use Rattle.sizes.specs.Sizes as Size
 use Rattle.reading.specs.Choice.{pick}
 use Rattle.netlist.specs.Netlist.{Gate}
-use Rattle.loops.specs.Held.{gatesHeld, inputsHeld, mentionsHeld}
+use Rattle.netlist.specs.Gates.{gatesHeld}
+use Rattle.netlist.specs.Lines.{inputsHeld, mentionsHeld}
 
 -- ---- marks
 

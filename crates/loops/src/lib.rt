@@ -2,46 +2,21 @@
 // by at most one pin: what document 02, K8 asks of a netlist besides its cells. proofs/Laws.antt has what
 // the answers say of the statements that were read.
 //
-// Open to others: `without_loops`, `read_once`. For the crates above: `gate_count`.
+// Open to others: `without_loops`, `read_once`. What the table says of gates and lines is read by crate `netlist`.
+use netlist::gates::count;
+use netlist::gates::line_of;
+use netlist::lines::driver_of;
+use netlist::lines::mentioned;
 ghost use mathlib.Core.List.{[], _∷_};
 ghost use mathlib.Core.Path.{_≡_};
-ghost use Prim.Native.Nat.{_<_};
+ghost use Prim.Native.Nat.{_≤_, _<_};
 ghost use lib.ListN.{set};
 ghost use Rattle.sizes.specs.Sizes as Size;
 ghost use Rattle.reading.specs.Choice.{pick};
-ghost use Rattle.awake.specs.Lines.{gateLine};
-ghost use Rattle.loops.specs.Held.{present, gateCount, gateAt, pinLines, gatesHeld};
-ghost use Rattle.loops.specs.Held.{inputAt, inputsHeld, mentionsHeld};
+ghost use Rattle.netlist.specs.Gates.{present, pinLines, gateAt, gatesHeld};
+ghost use Rattle.netlist.specs.Lines.{inputAt, inputsHeld, mentionsHeld};
 ghost use Rattle.loops.specs.Settling.{marked, allMarked, markEach, ready, settle, passes, mostPasses};
 ghost use Rattle.loops.specs.Settling.{withoutLoops, readOnce, Passed, Noted};
-
-// ---- what the table says
-
-fn wide(x: u32) -> usize
-    ensures { λ r. ⌜ r ≡ x ⌝ }
-{
-    x as usize
-}
-
-// How many gates the table says of, no more than there may be.
-pub fn gate_count(netlist: &[u32]) -> usize
-    ensures { λ r. ⌜ r ≡ gateCount (now (netlist .entry)) ⌝ }
-{
-    let count = wide(table::word(netlist, 0));
-    if count < sizes::GATES {
-        count
-    } else {
-        sizes::GATES
-    }
-}
-
-// Line i of a gate: the one that it drives, 0, or the one that its pin i reads.
-fn line_of(netlist: &[u32], gate: usize, i: usize) -> usize
-    requires { ⌜ (gate < Size.gates) × (i < Size.gateLines) ⌝ }
-    ensures { λ r. ⌜ r ≡ gateLine (now (netlist .entry)) gate i ⌝ }
-{
-    wide(table::word(netlist, sizes::GATES_AT + gate * sizes::GATE_WORDS + 1 + i))
-}
 
 fn is_marked(marks: &[u32], line: usize) -> bool
     ensures { λ r. ⌜ r ≡ marked (now (marks .entry)) line ⌝ }
@@ -52,11 +27,12 @@ fn is_marked(marks: &[u32], line: usize) -> bool
 // ---- loops and open lines
 
 fn mark_input(netlist: &[u32], l: usize, marks: &mut [u32])
+    requires { ⌜ l ≤ Size.lines ⌝ }
     ensures { λ _.
         ⌜ now (marks .exit) ≡ pick (inputAt (now (netlist .entry)) l) (set (now (marks .entry)) l 1)
         (now (marks .entry)) ⌝ }
 {
-    if table::word(netlist, l) == 1 {
+    if driver_of(netlist, l as u32) == 1 {
         table::put(marks, l, 1);
     }
 }
@@ -112,7 +88,7 @@ fn pass_over(netlist: &[u32], marks: &mut [u32]) -> bool
     ensures { λ r.
         ⌜ Passed (gatesHeld (now (netlist .entry))) (now (marks .entry)) (now (marks .exit)) r ⌝ }
 {
-    let gates = gate_count(netlist);
+    let gates = count(netlist);
     let mut changed = false;
     let mut gate = 0;
     while gate < gates {
@@ -143,7 +119,7 @@ fn mentions_marked(netlist: &[u32], marks: &[u32]) -> bool
 {
     let mut l = 1;
     while l < sizes::LINE_PLACES {
-        let settled = (table::word(netlist, sizes::MENTIONS_AT + l) == 0) | is_marked(marks, l);
+        let settled = !mentioned(netlist, l as u32) | is_marked(marks, l);
         if !settled {
             return false;
         }
@@ -200,7 +176,7 @@ fn note_pins(netlist: &[u32], gate: usize, marks: &mut [u32]) -> bool
 pub fn read_once(netlist: &[u32]) -> bool
     ensures { λ r. ⌜ r ≡ readOnce (now (netlist .entry)) ⌝ }
 {
-    let gates = gate_count(netlist);
+    let gates = count(netlist);
     let mut marks = [0u32; sizes::LINE_PLACES];
     let mut gate = 0;
     while gate < gates {

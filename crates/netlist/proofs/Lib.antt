@@ -1,7 +1,10 @@
 pub mod Admitting
 pub mod Bounds
 pub mod Causes
+pub mod Copying
 pub mod Counting
+pub mod HeldGates
+pub mod HeldLines
 pub mod Laws
 pub mod Opening
 pub mod Outcomes

@@ -4,7 +4,7 @@ use mathlib.Core.Bool.{Bool, true, false, not, _&&_, and-false}
 use mathlib.Core.List.{List, [], _∷_, flatMap}
 use mathlib.Core.Logic.{_⊎_, inl, inr, ⊎-elim}
 use mathlib.Core.Path.{_≡_, refl, ap}
-use Prim.Native.Nat.{ℕ, zero, suc, _+_, _-_, _≤_, _<_}
+use Prim.Native.Nat.{ℕ, suc, _+_, _-_, _≤_, _<_}
 use native.Mathlib.Omega.{arith}
 use lib.Dec.{eqb}
 use Rattle.sizes.specs.Sizes as Size
@@ -16,10 +16,11 @@ use Rattle.netlist.specs.declared.Rules.{Rules}
 use Rattle.netlist.specs.Netlist.{input, output, opened, Statement, mark, gate, declaring, member, linesOf}
 use Rattle.netlist.specs.Netlist.{linesClaimed, linesNeeded, mentionedLines, claimedLines, neededLines, mentioned, claimed}
 use Rattle.netlist.specs.Netlist.{undeclared, linesWhere, undeclaredLines, someLine, declared}
-use Rattle.netlist.specs.Layout.{mentionWord, NetlistHolds}
+use Rattle.netlist.specs.Layout.{NetlistHolds}
 use Rattle.netlist.specs.Admitting.{wordsUndeclared, someUndeclared}
 use Rattle.netlist.proofs.Causes.{member-left, member-right, member-cases, member-among, driver-taken}
-use Rattle.netlist.proofs.Places.{driver-word, mention-word}
+use Rattle.netlist.proofs.HeldLines.{where-same, mention-held}
+use Rattle.netlist.proofs.Places.{driver-word}
 
 -- ---- a line that is mentioned is claimed, or needed
 
@@ -76,33 +77,10 @@ mention-undeclared ss l =
 
 -- ---- what the table says
 
-mentions : (b : Bool) → not (eqb (pick b 1 0) 0) ≡ b
-unfolding pick
-mentions true = refl
-mentions false = refl
-
 pub words-undeclared : {table : List ℕ} {ss : List Statement} → NetlistHolds table ss → (l : ℕ) → 1 ≤ l → l ≤ Size.lines
     → wordsUndeclared table l ≡ undeclared ss l
-unfolding mentionWord
 words-undeclared {table} {ss} h l low high =
-    rw (
-      h .words,
-      mention-word ss (h .past) l low high,
-      driver-word ss (h .past) l low high,
-      mentions (mentioned l ss),
-      driver-taken ss l,
-    )
-    (mention-undeclared ss l)
-
-pub where-same : (p q : ℕ → Bool) (n first : ℕ) → ((l : ℕ) → first ≤ l → l < first + n → p l ≡ q l)
-    → linesWhere p n first ≡ linesWhere q n first
-unfolding linesWhere
-where-same p q zero first same = refl
-where-same p q (suc n) first same =
-    rw (
-      same first (omega arith) (omega arith),
-      where-same p q n (suc first) (λ l low high. same l (omega arith) (omega arith)),
-    )
+    rw (h .words, mention-held ss (h .past) l low high, driver-word ss (h .past) l low high, driver-taken ss l) (mention-undeclared ss l)
 
 pub some-same : {table : List ℕ} {ss : List Statement} → NetlistHolds table ss → someUndeclared table ≡ someLine (undeclaredLines ss)
 unfolding undeclaredLines

@@ -58,6 +58,9 @@ module _ (ss : List Statement) where
       ∙ rw (length-parts, length-fitted 0 (Size.gates * Size.gateWords) (blocks gateWords (gatesOf ss))))
 
   module _ (rest : List ℕ) where
+    pub netlist-room : Size.netlist ≤ length (netlistWords ss ++ rest)
+    netlist-room = omega (arith, length-append (netlistWords ss) rest, length-netlistWords)
+
     -- the count of gates
     pub netlist-count : getD (netlistWords ss ++ rest) 0 0 ≡ length (gatesOf ss)
     unfolding netlistWords

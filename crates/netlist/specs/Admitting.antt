@@ -1,6 +1,6 @@
 -- One statement over plain numbers, as `admit` takes it from texts and from records, and what admitting it comes to.
 -- Assumes nothing.
-use mathlib.Core.Bool.{Bool, true, false, not, _&&_}
+use mathlib.Core.Bool.{Bool, true, false, _&&_}
 use mathlib.Core.List.{List, [], _∷_, _++_}
 use mathlib.Core.Logic.{_⊎_}
 use mathlib.Core.Option.{Option, none, some}
@@ -21,6 +21,7 @@ use Rattle.netlist.specs.Netlist.{Gate, Mark, input, output, opened, Sta
 use Rattle.netlist.specs.Netlist.{linesOf, anyLineBad, linesWhere, someLine}
 use Rattle.netlist.specs.Netlist.{unknownCell, countDiffers, causes}
 use Rattle.netlist.specs.Layout.{netlistWords, NetlistHolds}
+use Rattle.netlist.specs.Lines.{mentionAt}
 use Rattle.netlist.specs.Sound.{Sound}
 
 -- ---- a statement
@@ -125,7 +126,7 @@ gateAdded g s table =
 -- Whether the table says of a line that it is mentioned, and nothing that claims it: of a table that holds statements just where
 -- it is undeclared.
 abbrev pub wordsUndeclared : List ℕ → ℕ → Bool
-wordsUndeclared table l = not (eqb (getD table (mentionPlace l) 0) 0) && eqb (getD table (driverPlace l) 0) 0
+wordsUndeclared table l = mentionAt table l && eqb (getD table (driverPlace l) 0) 0
 
 -- Whether it says so of some line.
 abbrev pub someUndeclared : List ℕ → Bool

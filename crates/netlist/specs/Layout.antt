@@ -11,9 +11,13 @@ use Rattle.reading.specs.Choice.{pick}
 use Rattle.reading.specs.Refusal.{Read, refused, read}
 use Rattle.netlist.specs.Netlist.{Gate, Statement, isInput, isOutput, isOpen, claimed, mentioned, gatesOf}
 
--- A gate: its cell, its line, and the lines of its pins, 0 after the last.
+-- The lines of a gate: the one that it drives, then those that its pins read, 0 after the last.
+abbrev pub gateLineWords : Gate → List ℕ
+gateLineWords g = g .line ∷ fitted 0 Size.pins (g .pins)
+
+-- A gate: its cell, then its lines.
 unfoldable pub gateWords : Gate → List ℕ
-gateWords g = g .cell ∷ (g .line ∷ fitted 0 Size.pins (g .pins))
+gateWords g = g .cell ∷ gateLineWords g
 
 -- What drives a line: 0 nothing, 1 an input, 2 a gate, 3 nothing, and it is declared open.
 unfoldable pub driverWord : List Statement → ℕ → ℕ

@@ -1,5 +1,7 @@
 pub mod Admitting
+pub mod Gates
 pub mod Layout
+pub mod Lines
 pub mod Lowest
 pub mod Netlist
 pub mod Sound

@@ -2,7 +2,8 @@
 // and stored here; what a line of text says is read by `netlist_text`, what a record says by `records`.
 //
 // Open to others: `line_bad`. For the crates above: `admit`, which checks a `RawStatement` and stores it, and behind all
-// statements `undeclared` and `some_undeclared`, which ask the table.
+// statements `undeclared` and `some_undeclared`, which ask the table. Modules `gates` and `lines`: what a table says of its gates
+// and lines, for all that read it.
 ghost use mathlib.Core.Path.{_≡_};
 ghost use mathlib.Core.List.{List, [], _∷_};
 ghost use mathlib.Core.Option.{Option, some};
@@ -19,8 +20,14 @@ ghost use Rattle.netlist.specs.Netlist.{Gate, Mark, Statement, mark, gat
 ghost use Rattle.netlist.specs.Admitting.{IsGate, StandsFor, gateCause, Admits, markPlace, markNumber, markValue, mentionAll, gateStored, oneMore, gateAdded, wordsUndeclared, someUndeclared};
 use cell_library::cells::count;
 use cell_library::cells::pins_of;
+use gates::place_of;
+use lines::driver_of;
+use lines::mentioned;
 use table::put;
 use table::word;
+
+pub mod gates;
+pub mod lines;
 
 // "kind (0 input, 1 output, 2 gate)", and 3 open (K5)
 pub const INPUT: u32 = 0;
@@ -94,7 +101,7 @@ fn mention_pins(table: &mut [u32], pins: [u32; sizes::PINS], count: usize)
 fn put_pins(table: &mut [u32], g: u32, pins: [u32; sizes::PINS])
     ensures { λ _. ⌜ now (table .exit) ≡ sets (now (table .entry)) (gatePlace g + 2) (take Size.pins pins) ⌝ }
 {
-    let at = sizes::GATES_AT + g as usize * sizes::GATE_WORDS + 2;
+    let at = place_of(g as usize) + 2;
     let mut i = 0;
     while i < sizes::PINS {
         put(table, at + i, pins[i]);
@@ -106,7 +113,7 @@ fn put_pins(table: &mut [u32], g: u32, pins: [u32; sizes::PINS])
 fn put_gate(table: &mut [u32], g: u32, cell: u32, line: u32, pins: [u32; sizes::PINS])
     ensures { λ _. ⌜ now (table .exit) ≡ gateStored g cell line pins (now (table .entry)) ⌝ }
 {
-    let at = sizes::GATES_AT + g as usize * sizes::GATE_WORDS;
+    let at = place_of(g as usize);
     put(table, at, cell);
     put(table, at + 1, line);
     put_pins(table, g, pins);
@@ -236,9 +243,9 @@ pub fn undeclared(table: &[u32], l: usize) -> bool
     requires { ⌜ l ≤ Size.lines ⌝ }
     ensures { λ r. ⌜ r ≡ wordsUndeclared (now (table .entry)) l ⌝ }
 {
-    let mentioned = word(table, sizes::MENTIONS_AT + l) != 0;
-    let unclaimed = word(table, l) == 0;
-    mentioned & unclaimed
+    let line = l as u32;
+    let unclaimed = driver_of(table, line) == 0;
+    mentioned(table, line) & unclaimed
 }
 
 // Whether some line is.

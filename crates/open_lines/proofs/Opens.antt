@@ -23,29 +23,24 @@ use Rattle.writer.proofs.Decimal.{decimal-below, decimal-length}
 use Rattle.writer.proofs.Steps.{put-front}
 use Rattle.cell_library.specs.Cells.{Cell}
 use Rattle.cell_library.specs.Library.{library}
-use Rattle.library_text.specs.Entry.{leftBehind}
-use Rattle.cell_library.specs.Layout.{libraryWords, libraryAfter}
-use Rattle.cell_library.proofs.Laws.{library-sound}
-use Rattle.netlist.specs.declared.Rules.the-variants.{Old, New}
+use Rattle.netlist.specs.declared.Rules.the-variants.{Old}
 use Rattle.netlist.specs.Netlist.{Statement, mentioned, undeclared, linesWhere, undeclaredLines, netlist}
-use Rattle.netlist.specs.Layout.{netlistWords, NetlistHolds}
+use Rattle.netlist.specs.Layout.{NetlistHolds}
 use Rattle.netlist.specs.Admitting.{wordsUndeclared}
-use Rattle.netlist.proofs.Opening.{words-undeclared, where-same}
+use Rattle.netlist.proofs.HeldLines.{where-same}
+use Rattle.netlist.proofs.Opening.{words-undeclared}
 use Rattle.calculation.specs.Calculation.{Analysed, analysed}
 use Rattle.report.specs.Report.{reportBytes}
 use Rattle.copying.specs.Copy.{openLine, openLines, copyOf, declaredToo}
 use Rattle.copying.specs.Kept.{Kept}
 use Rattle.copying.proofs.Copying.{copy-keeps}
-use Rattle.outcome.specs.declared.Progress.{Progress}
-use Rattle.outcome.specs.declared.Progress.the-variants.{Unrefused, AtEntry, Later}
-use Rattle.outcome.specs.Outcome.{Lent, entry, givenBy, tableShort, textLong, reportOf}
-use Rattle.outcome.specs.Progress.{entryBy, progressOf, progressFrom, Begun}
-use Rattle.outcome.proofs.Entering.{texts-entry, entered}
-use Rattle.outcome.proofs.Promising.{NetlistRead, entry-shut, later-shut, unrefused-entry}
-use Rattle.analysis.specs.Own.{ownTables}
-use Rattle.analysis.specs.Netlist.{TextRead}
-use Rattle.analysis.proofs.Reading.{netlist-read}
-use Rattle.printing.specs.Printed.{reported, shown, printed}
+use Rattle.read_pair.specs.declared.Progress.{Progress}
+use Rattle.read_pair.specs.declared.Progress.the-variants.{Unrefused, AtEntry, Later}
+use Rattle.read_pair.specs.Progress.{Reached}
+use Rattle.outcome.specs.Outcome.{entryBy, givenBy, readPair, textLong, reportOf}
+use Rattle.outcome.proofs.Accepting.{read-as}
+use Rattle.outcome.proofs.Entering.{entered}
+use Rattle.outcome.specs.Printed.{reported, shown, printed}
 use Rattle.open_lines.specs.Copied.{copyBytes, copied, copyPrinted, Accepted, Copied}
 
 -- ---- the lines, one more
@@ -115,7 +110,7 @@ module _ (lib net : List ℕ) where
   module _ (cells : List Cell) (ss : List Statement) (short-lib : length lib ≤ Size.textBytes) (short-net : length net ≤ Size.textBytes)
       (cells-read : library lib ≡ read cells) (ss-read : netlist Old cells net ≡ read ss) where
     pub copied-read : copied lib net ≡ read (copyOf net ss)
-    unfolding copied textLong weigh pick _>>=_ _>>_
+    unfolding copied readPair givenBy textLong weigh pick _>>=_ _>>_
     copied-read = rw (le-ltb Size.textBytes (length lib) short-lib, le-ltb Size.textBytes (length net) short-net, cells-read, ss-read)
 
     kept : Kept cells net ss
@@ -129,7 +124,7 @@ module _ (lib net : List ℕ) where
         ∙ ap (λ (f : ℕ → Bool). reportBytes f (a .numbers) (a .counts)) (fun-ext (kept .mentions))
 
     reports : length (copyOf net ss) ≤ Size.textBytes → printed lib (copyOf net ss) ≡ reportOf ss (analysed cells ss)
-    unfolding printed reported shown textLong weigh pick _>>=_ _>>_
+    unfolding printed reported readPair givenBy shown textLong weigh pick _>>=_ _>>_
     reports short =
         rw (le-ltb Size.textBytes (length lib) short-lib, le-ltb Size.textBytes (length (copyOf net ss)) short, cells-read, kept .accepts)
         same-report
@@ -171,11 +166,6 @@ module _ (lib net : List ℕ) where
     pub statementsRead : netlist Old cells net ≡ read statements
     pub holds : NetlistHolds table statements
 
-  unfoldable pub Stands : List ℕ → Progress → Type 0
-  Stands table Unrefused = BothOld table
-  Stands table (AtEntry r) = copied lib net ≡ refused (r .number) (r .line)
-  Stands table (Later r) = copied lib net ≡ refused (r .number) (r .line)
-
   pub put-accepted : (before : List ℕ) → copyBytes ≡ length before → (after : List ℕ) (said : ℕ) (table : List ℕ) → BothOld table
       → Put 0 (net ++ openLines (linesWhere (wordsUndeclared table) Size.lines 1)) before after said → Copied lib net before after said
   unfolding copyPrinted shown
@@ -185,77 +175,37 @@ module _ (lib net : List ℕ) where
       (copy-length net (b .statements) (b .netShort))
       (rw (← table-copy (b .holds) net) p)
 
-  module _ (before : List ℕ) (begun : Progress) (lib′ : List ℕ)
-      (b : Begun lib (length net) (replicate Size.library 0) Size.netlist Size.numbers begun lib′)
-      (said : Progress) (table : List ℕ) (t : TextRead Old net lib′ (replicate Size.netlist 0) begun table said) where
-    abbrev first : Read (Unit {0})
-    first = entryBy (length lib) (length net) (length {A = ℕ} (replicate Size.library 0)) Size.netlist Size.numbers
+  -- The entry, on tables of their own.
+  abbrev first : Read (Unit {0})
+  first = entryBy (length lib) (length net) (length {A = ℕ} (replicate Size.library 0)) (length {A = ℕ} (replicate Size.netlist 0)) Size.numbers
 
-    first-is : first ≡ weigh 0 ((No.textLong, textLong lib || textLong net) ∷ [])
-    unfolding entryBy textLong weigh pick
-    first-is = refl
+  first-is : first ≡ weigh 0 ((No.textLong, textLong lib || textLong net) ∷ [])
+  unfolding entryBy textLong weigh pick
+  first-is = refl
 
-    -- Behind the entry the netlist text is not too long, and its table has the published size.
-    fitting : begun ≡ Unrefused → (length net ≤ Size.textBytes) × (Size.netlist ≤ length (ownTables before .netlist))
-    unfolding ownTables
-    fitting o =
-        let e = entered _ _ _ _ _ (unrefused-entry first (library lib) (sym (b .answers) ∙ o)) in
-        (e .net-short, omega (arith, length-replicate {A = ℕ} Size.netlist 0))
-
-    reads : NetlistRead (givenBy Old lib net) (ownTables before) lib′ begun table said
-    unfolding ownTables
-    reads = netlist-read Old lib net (ownTables before) lib′ begun table said fitting t
-
-    from-statements : first ≡ read tt → begun ≡ Unrefused → (cells : List Cell) → library lib ≡ read cells
-        → lib′ ≡ libraryWords cells ++ drop Size.library (ownTables before .library)
-        → (o : Read (List Statement)) → netlist Old cells net ≡ o → Stands table said
-    unfolding Stands copied givenBy progressOf ownTables _>>=_ _>>_
-    from-statements q o cells p l (refused number line) r =
-        let h = reads .reads o cells (library-sound lib cells p) l in
-        let is : said ≡ Later (record { number = number; line = line }) = h .0 ∙ ap progressOf r in
-        rw is (rw (← first-is, q, p, r))
-    from-statements q o cells p l (read ss) r =
-        let h = reads .reads o cells (library-sound lib cells p) l in
-        let is : said ≡ Unrefused = h .0 ∙ ap progressOf r in
-        let e = entered _ _ _ _ _ q in
-        rw is (record {
-          cells = cells;
-          statements = ss;
-          libShort = e .lib-short;
-          netShort = e .net-short;
-          cellsRead = p;
-          statementsRead = r;
-          holds = record { past = drop Size.netlist (replicate Size.netlist 0); words = h .1 ss r };
-        })
-
-    from-library : first ≡ read tt → (o : Read (List Cell)) → library lib ≡ o → Stands table said
-    unfolding progressFrom progressOf leftBehind libraryAfter Stands copied ownTables _>>=_ _>>_
-    from-library q (refused number line) p =
-        let begins : begun ≡ Later (record { number = number; line = line }) = rw (q, p) at (b .answers) in
-        let is : said ≡ Later (record { number = number; line = line }) = t .stays (λ x. later-shut _ (sym begins ∙ x)) .0 ∙ begins in
-        rw is (rw (← first-is, q, p))
-    from-library q (read cells) p =
-        from-statements q (rw (q, p) at (b .answers)) cells p (rw (q, p) at (b .leaves)) (netlist Old cells net) refl
-
-    from-entry : (e : Read (Unit {0})) → first ≡ e → Stands table said
-    unfolding progressFrom Stands copied _>>_
-    from-entry (refused number line) q =
-        let begins : begun ≡ AtEntry (record { number = number; line = line }) = rw q at (b .answers) in
-        let is : said ≡ AtEntry (record { number = number; line = line }) = t .stays (λ x. entry-shut _ (sym begins ∙ x)) .0 ∙ begins in
-        rw is (rw (← first-is, q))
-    from-entry (read u) q = from-library q (library lib) refl
-
-    pub stands : Stands table said
-    stands = from-entry first refl
-
+  module _ (lib′ table : List ℕ) (said : Progress)
+      (h : Reached (givenBy Old lib net) first (replicate Size.library 0) (replicate Size.netlist 0) lib′ table said) where
     pub at-entry : (r : Refusal) → said ≡ AtEntry r → copied lib net ≡ refused (r .number) (r .line)
-    unfolding Stands
-    at-entry r e = rw e at stands
+    unfolding Reached copied _>>_
+    at-entry r e = let q = rw e at h in rw (← first-is, q .0)
 
     pub later : (r : Refusal) → said ≡ Later r → copied lib net ≡ refused (r .number) (r .line)
-    unfolding Stands
-    later r e = rw e at stands
+    unfolding Reached copied _>>_ _>>=_
+    later r e = let q = rw e at h in rw (← first-is, q .0, q .1)
 
     pub both-old : said ≡ Unrefused → BothOld table
-    unfolding Stands
-    both-old e = rw e at stands
+    unfolding Reached givenBy
+    both-old e =
+        let q = rw e at h in
+        let b = q .1 in
+        let k = entered _ _ _ _ _ (q .0) in
+        let r = read-as (givenBy Old lib net) (b .pair) (b .reads) in
+        record {
+          cells = b .pair .cells;
+          statements = b .pair .statements;
+          libShort = k .lib-short;
+          netShort = k .net-short;
+          cellsRead = r .cells;
+          statementsRead = r .statements;
+          holds = record { past = drop Size.netlist (replicate Size.netlist 0); words = b .statementsStand };
+        }

@@ -14,8 +14,8 @@ use Rattle.cell_library.specs.Library.{library}
 use Rattle.netlist.specs.declared.Rules.the-variants.{Old}
 use Rattle.netlist.specs.Netlist.{Statement, netlist}
 use Rattle.calculation.specs.Calculation.{analysed}
-use Rattle.outcome.specs.Outcome.{textLong, reportOf}
-use Rattle.printing.specs.Printed.{shown, printed}
+use Rattle.outcome.specs.Outcome.{textLong, givenBy, readPair, reportOf}
+use Rattle.outcome.specs.Printed.{shown, printed}
 use Rattle.copying.specs.Copy.{copyOf}
 use Rattle.copying.specs.Kept.{Kept}
 
@@ -27,7 +27,7 @@ copyBytes = Size.textBytes + Size.lines * 10
 unfoldable pub copied : List ℕ → List ℕ → Read (List ℕ)
 copied lib net =
     weigh 0 ((No.textLong, textLong lib || textLong net) ∷ [])
-    >> (library lib >>= λ cells. netlist Old cells net >>= λ ss. read (copyOf net ss))
+    >> (readPair (givenBy Old lib net) >>= λ p. read (copyOf net (p .statements)))
 
 -- A copy is printed as it is, a refusal as `scoap` prints it.
 unfoldable pub copyPrinted : List ℕ → List ℕ → List ℕ

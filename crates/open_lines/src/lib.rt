@@ -5,7 +5,8 @@
 // Open to others: `put_copy`. It has no condition on its input; specs/Copied.antt says what it promises.
 use netlist::Rules;
 use netlist::undeclared;
-use outcome::Progress;
+use read_pair::Progress;
+use read_pair::read_texts;
 ghost use mathlib.Core.Path.{_≡_};
 ghost use mathlib.Core.List.{[], _++_};
 ghost use Prim.Native.Nat.{_≤_};
@@ -72,15 +73,16 @@ pub fn put_copy(lib: &[u8], net: &[u8], copy: &mut [u8; COPY_BYTES]) -> usize
 {
     let mut library = [0u32; sizes::LIBRARY];
     let mut netlist = [0u32; sizes::NETLIST];
-    let begun = outcome::begin(
+    let progress = read_texts(
+        Rules::Old,
         lib,
-        net.len(),
+        net,
         &mut library,
-        sizes::NETLIST,
+        &mut netlist,
         sizes::NUMBERS,
         0,
+        0,
     );
-    let progress = analysis::read_netlist(Rules::Old, net, &library, &mut netlist, begun, 0);
     match progress {
         Progress::AtEntry(r) => writer::put_refusal(copy, 0, r),
         Progress::Later(r) => writer::put_refusal(copy, 0, r),

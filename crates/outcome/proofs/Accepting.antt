@@ -4,13 +4,36 @@ use mathlib.Core.List.{List}
 use mathlib.Core.Path.{_≡_, refl, subst}
 use Prim.Native.Nat.{ℕ}
 use lib.ListN.{length}
-use Rattle.reading.specs.Refusal.{read, weigh}
+use Rattle.reading.specs.Refusal.{read, _>>=_, weigh}
 use Rattle.reading.proofs.Laws.{bind-read, then-read}
 use Rattle.cell_library.specs.Cells.{Cell}
 use Rattle.cell_library.specs.Library.{library}
 use Rattle.netlist.specs.Netlist.{Statement}
 use Rattle.calculation.specs.Calculation.{analysed}
-use Rattle.outcome.specs.Outcome.{Given, Lent, Accepted, entry, outcome, reading, conclude, reportOf}
+use Rattle.outcome.specs.Demands.{PairRead}
+use Rattle.outcome.specs.Outcome.{Given, Lent, Pair, pairOf, Accepted, entry, outcome, readPair, reading, conclude, reportOf}
+
+-- ---- the library and the netlist
+
+-- What was read of each.
+pub record ReadAs (g : Given) (p : Pair) : Type 0 where
+  pub cells : library (g .library) ≡ read (p .cells)
+  pub statements : g .statements (p .cells) ≡ read (p .statements)
+
+pub read-as : (g : Given) (p : Pair) → readPair g ≡ read p → ReadAs g p
+unfolding readPair
+read-as g p r =
+    bind-read (library (g .library)) _ p
+    (λ cells a r₁. bind-read (g .statements cells) _ p
+    (λ ss b r₂.
+    let same : pairOf cells ss ≡ p = cc in
+    subst (ReadAs g) same (record { cells = a; statements = b })) r₁) r
+
+pub pair-is : {g : Given} (pair : PairRead g) → readPair g ≡ read (pairOf (pair .cells) (pair .statements))
+unfolding readPair _>>=_
+pair-is pair = rw (pair .cellsRead, pair .statementsRead)
+
+-- ---- the analysis
 
 -- What was concluded from cells and statements.
 abbrev pub concluded : List Cell → List Statement → Accepted
@@ -31,8 +54,8 @@ pub accepts : (g : Given) (m : Lent) (a : Accepted) → outcome g m ≡ read a �
 unfolding outcome reading
 accepts g m a r =
     then-read (entry g m) _ a
-    (λ u e r₁. bind-read (library (g .library)) _ a
-    (λ cells p r₂. bind-read (g .statements cells) _ a
-    (λ ss q r₃.
-    let same = concludes cells ss (length (m .report)) a r₃ in
-    subst (Accepts g) same (record { cells = p; statements = q; made = refl })) r₂) r₁) r
+    (λ u e r₁. bind-read (readPair g) _ a
+    (λ p q r₂.
+    let h = read-as g p q in
+    let same = concludes (p .cells) (p .statements) (length (m .report)) a r₂ in
+    subst (Accepts g) same (record { cells = h .cells; statements = h .statements; made = refl })) r₁) r

@@ -15,7 +15,7 @@ use Rattle.cell_library.proofs.Bounds.{library-within}
 use Rattle.netlist.specs.declared.Rules.the-variants.{New}
 use Rattle.netlist.specs.Netlist.{netlist}
 use Rattle.netlist.proofs.Bounds.{netlist-within}
-use Rattle.outcome.specs.Outcome.{Lent, Accepted, conclude, reading, entry, outcome, answer, givenBy, givenTexts}
+use Rattle.outcome.specs.Outcome.{Lent, Accepted, conclude, readPair, reading, entry, outcome, answer, givenBy, givenTexts}
 use Rattle.outcome.proofs.Entering.{texts-entry, entered}
 
 -- The line after the last of the longest text.
@@ -27,23 +27,28 @@ module _ (lib net : List ℕ) (m : Lent) where
   unfolding entry
   at-entry = within-weigh anyNumber lastLine 0 _ (omega arith) refl
 
-  behind : length lib ≤ Size.textBytes → length net ≤ Size.textBytes → (space : ℕ) → Within anyNumber lastLine (reading (givenTexts lib net) space)
-  unfolding reading givenBy conclude
-  behind p q space =
+  pub pair-within : length lib ≤ Size.textBytes → length net ≤ Size.textBytes → Within anyNumber lastLine (readPair (givenTexts lib net))
+  unfolding readPair givenBy
+  pair-within p q =
       within-bind anyNumber lastLine (library lib) _ (within-any lastLine (library lib) (library-within lastLine lib (omega arith)))
       (λ cells. within-bind anyNumber lastLine (netlist New cells net) _ (within-any lastLine (netlist New cells net) (netlist-within lastLine New cells net (omega arith)))
-      (λ ss. within-then anyNumber lastLine (weigh 0 _) _ (within-weigh anyNumber lastLine 0 _ (omega arith) refl) tt))
+      (λ ss. tt))
 
-  from-entry : (e : Read (Unit {0})) → entry (givenTexts lib net) m ≡ e → Within anyNumber lastLine (e >> reading (givenTexts lib net) (length (m .report)))
-  unfolding _>>_
-  from-entry (refused number line) e = subst (Within anyNumber lastLine) e at-entry
-  from-entry (read u) e =
-      let k = entered _ _ _ _ _ (texts-entry New lib net m ∙ e) in
-      behind (k .lib-short) (k .net-short) (length (m .report))
+  -- Behind the entry the texts are not too long.
+  pub behind-entry : {A : Type 0} (r : Read A) → (length lib ≤ Size.textBytes → length net ≤ Size.textBytes → Within anyNumber lastLine r)
+      → Within anyNumber lastLine (entry (givenTexts lib net) m >> r)
+  behind-entry {A} r h = from (entry (givenTexts lib net) m) refl
+    where
+      from : (e : Read (Unit {0})) → entry (givenTexts lib net) m ≡ e → Within anyNumber lastLine (e >> r)
+      from (refused number line) e = unfold _>>_ in subst (Within anyNumber lastLine) e at-entry
+      from (read u) e = unfold _>>_ in let k = entered _ _ _ _ _ (texts-entry New lib net m ∙ e) in h (k .lib-short) (k .net-short)
 
   texts-within : Within anyNumber lastLine (outcome (givenTexts lib net) m)
-  unfolding outcome
-  texts-within = from-entry (entry (givenTexts lib net) m) refl
+  unfolding outcome reading conclude
+  texts-within =
+      behind-entry (reading (givenTexts lib net) (length (m .report)))
+      (λ p q. within-bind anyNumber lastLine (readPair (givenTexts lib net)) _ (pair-within p q)
+      (λ x. within-then anyNumber lastLine (weigh 0 _) _ (within-weigh anyNumber lastLine 0 _ (omega arith) refl) tt))
 
 told-by : (o : Read Accepted) → Within anyNumber lastLine o → (number line : ℕ) → refused number line ≡ answer o → (1 ≤ number) × (line ≤ lastLine)
 unfolding answer

@@ -2,27 +2,17 @@
 -- Assumes nothing.
 use mathlib.Core.Bool.{_||_}
 use mathlib.Core.List.{List, []}
-use mathlib.Core.Path.{_≡_, refl, sym}
+use mathlib.Core.Path.{_≡_, refl}
 use Prim.Native.Nat.{ℕ, _≤_}
 use borrow.Author.Tests.{ltb-false}
 use lib.Dec.{ltb}
 use lib.ListN.{length}
 use Rattle.sizes.specs.Sizes as Size
 use Rattle.reading.specs.Numbers as No
-use Rattle.reading.specs.Refusal.{refused, read, _>>_}
-use Rattle.reading.specs.Verdict.{verdictRead, doneRead}
-use Rattle.reading.specs.declared.Refusal.{Refusal}
-use Rattle.reading.specs.declared.Verdict.{Verdict}
-use Rattle.reading.specs.declared.Verdict.the-variants.{Accepted, Refused}
-use Rattle.reading.proofs.Laws.{or-left, or-right, weigh-one, done-read, done-refused}
-use Rattle.library_text.specs.Entry.{libraryEntry, readLibrary, leftBehind, libraryLeft}
-use Rattle.cell_library.specs.Library.{library}
-use Rattle.cell_library.specs.Layout.{libraryAfter}
-use Rattle.library_text.proofs.Laws.{entry-passed}
+use Rattle.reading.specs.Refusal.{read}
+use Rattle.reading.proofs.Laws.{or-left, or-right, weigh-one}
 use Rattle.netlist.specs.declared.Rules.{Rules}
-use Rattle.outcome.specs.declared.Progress.the-variants.{Unrefused, AtEntry, Later}
-use Rattle.outcome.specs.Outcome.{Lent, entry, givenBy, tableShort, textLong}
-use Rattle.outcome.specs.Progress.{entryBy, progressOf, progressFrom, Begun}
+use Rattle.outcome.specs.Outcome.{Lent, entry, entryBy, givenBy, tableShort, textLong}
 
 -- Of two texts the entry is weighed by their lengths.
 pub texts-entry : (rules : Rules) (lib net : List ℕ) (m : Lent)
@@ -54,43 +44,3 @@ entered lib net library netlist numbers e =
       netlist-long = ltb-false netlist Size.netlist (or-left n x rest);
       numbers-long = ltb-false numbers Size.numbers (or-right n x rest);
     }
-
--- ---- what `begin` does
-
-module _ (text : List ℕ) (net : ℕ) (before : List ℕ) (netlist numbers : ℕ) (v : Verdict)
-    (enters : verdictRead v ≡ entryBy (length text) net (length before) netlist numbers) where
-  pub begun-entry : (r : Refusal) → v ≡ Refused r → Begun text net before netlist numbers (AtEntry r) before
-  unfolding verdictRead progressFrom leftBehind
-  begun-entry r q =
-      let e : refused (r .number) (r .line) ≡ entryBy (length text) net (length before) netlist numbers = rw q at enters in
-      record { answers = rw (← e); leaves = rw (← e) }
-
-  module _ (accepted : v ≡ Accepted) where
-    pub passes : entryBy (length text) net (length before) netlist numbers ≡ read tt
-    unfolding verdictRead
-    passes = sym (rw accepted at enters)
-
-    -- Behind the entry the library's own entry refuses nothing.
-    own-passes : libraryEntry (length text) (length before) ≡ read tt
-    own-passes = let e = entered _ _ _ _ _ passes in entry-passed _ _ (e .library-long) (e .lib-short)
-
-    module _ (w : Verdict) (after : List ℕ) (reads : verdictRead w ≡ doneRead (readLibrary text (length before))) (leaves : after ≡ libraryLeft text before) where
-      behind-reads : verdictRead w ≡ doneRead (library text)
-      unfolding readLibrary _>>_
-      behind-reads = rw own-passes at reads
-
-      behind-leaves : after ≡ libraryAfter (library text) before
-      unfolding libraryLeft leftBehind
-      behind-leaves = rw own-passes at leaves
-
-      pub begun-later : (r : Refusal) → w ≡ Refused r → Begun text net before netlist numbers (Later r) after
-      unfolding verdictRead progressFrom progressOf leftBehind
-      begun-later r q =
-          let e : library text ≡ refused (r .number) (r .line) = done-refused (library text) (r .number) (r .line) (rw q at behind-reads) in
-          record { answers = rw (passes, e); leaves = rw passes behind-leaves }
-
-      pub begun-unrefused : w ≡ Accepted → Begun text net before netlist numbers Unrefused after
-      unfolding verdictRead progressFrom progressOf leftBehind
-      begun-unrefused q =
-          done-read (library text) (rw q at behind-reads)
-          (λ cells e. record { answers = rw (passes, e); leaves = rw passes behind-leaves })

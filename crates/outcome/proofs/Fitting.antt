@@ -28,9 +28,10 @@ use Rattle.calculation.proofs.Laws.{few-sweeps}
 use Rattle.report.specs.Report.{longestReport}
 use Rattle.report.proofs.Laws.{report-length}
 use Rattle.outcome.specs.Demands.{PairRead}
-use Rattle.outcome.specs.Outcome.{Given, Lent, Accepted, entry, outcome, reading, conclude, answer, summary, reportOf, tableShort}
-use Rattle.outcome.proofs.Accepting.{concluded}
+use Rattle.outcome.specs.Outcome.{Given, Lent, Accepted, entry, outcome, readPair, reading, conclude, answer, summary, reportOf, tableShort}
+use Rattle.outcome.proofs.Accepting.{read-as, pair-is, concluded}
 use Rattle.outcome.proofs.Checking.{Checked}
+use Rattle.outcome.proofs.Refusing.{bind-refused, then-refused}
 
 module _ (cells : List Cell) (ss : List Statement) (sound : BothSound cells ss) where
   pub report-short : length (reportOf ss (analysed cells ss)) ≤ longestReport
@@ -58,12 +59,21 @@ module _ (g : Given) (checked : Checked g) where
         netlist = checked .sound (pair .cells) (pair .statements) (pair .statementsRead);
       }
 
+  -- No refusal of what is read has a number of the entry or the report.
+  pub pair-number : (number line : ℕ) → readPair g ≡ refused number line → textNumber number ≡ true
+  unfolding readPair
+  pair-number number line e =
+      let last : ℕ = length (g .library) + 1 in
+      bind-refused (library (g .library)) _ number line
+      (λ p. subst (Within textNumber last) p (library-within last (g .library) (omega arith)) .0)
+      (λ cells p q. bind-refused (g .statements cells) _ number line (λ r. checked .numbered cells number line r) (λ ss r t. refused-read (sym t)) q) e
+
   module _ (m : Lent) where
     pub accepts-fitting : entry g m ≡ read tt → (pair : PairRead g) → longestReport ≤ length (m .report)
         → answer (outcome g m) ≡ read (summary (concluded (pair .cells) (pair .statements)))
     unfolding answer outcome reading _>>_ _>>=_
     accepts-fitting e pair h =
-        rw (e, pair .cellsRead, pair .statementsRead, concludes-fitting (pair .cells) (pair .statements) (pair-sound pair) (length (m .report)) h)
+        rw (e, pair-is pair, concludes-fitting (pair .cells) (pair .statements) (pair-sound pair) (length (m .report)) h)
 
     -- ---- which numbers there are behind the entry: those of the texts, and 17 where the buffer is short
 
@@ -71,28 +81,14 @@ module _ (g : Given) (checked : Checked g) where
     Behind number = (textNumber number ≡ true) ⊎ ((number ≡ No.reportLong) × (length (m .report) < longestReport))
 
     module _ (number line : ℕ) where
-      from-statements : (cells : List Cell) → library (g .library) ≡ read cells → (o : Read (List Statement)) → g .statements cells ≡ o
-          → (o >>= λ ss. conclude cells ss (length (m .report))) ≡ refused number line → Behind number
-      unfolding _>>=_
-      from-statements cells p (refused n l) q e =
-          let same : n ≡ number = cc in
-          inl (rw same at (checked .numbered cells n l q))
-      from-statements cells p (read ss) q e =
-          let pair : PairRead g = record { cells = cells; statements = ss; cellsRead = p; statementsRead = q } in
-          inr (concludes-long cells ss (pair-sound pair) (length (m .report)) number line e)
-
-      from-library : (o : Read (List Cell)) → library (g .library) ≡ o
-          → (o >>= λ cells. g .statements cells >>= λ ss. conclude cells ss (length (m .report))) ≡ refused number line → Behind number
-      unfolding _>>=_
-      from-library (refused n l) p e =
-          let same : n ≡ number = cc in
-          let last : ℕ = length (g .library) + 1 in
-          inl (rw same at (subst (Within textNumber last) p (library-within last (g .library) (omega arith)) .0))
-      from-library (read cells) p e = from-statements cells p (g .statements cells) refl e
-
       behind : reading g (length (m .report)) ≡ refused number line → Behind number
       unfolding reading
-      behind e = from-library (library (g .library)) refl e
+      behind e =
+          bind-refused (readPair g) _ number line (λ p. inl (pair-number number line p))
+          (λ x p q.
+          let h = read-as g x p in
+          let pair : PairRead g = record { cells = x .cells; statements = x .statements; cellsRead = h .cells; statementsRead = h .statements } in
+          inr (concludes-long (x .cells) (x .statements) (pair-sound pair) (length (m .report)) number line q)) e
 
       pub entry-number : entry g m ≡ refused number line → No.ofEntry number ≡ true
       unfolding entry
@@ -104,12 +100,6 @@ module _ (g : Given) (checked : Checked g) where
     -- ---- a call that answers so
 
     module _ (number line : ℕ) where
-      from-entry : {B : Type 0} → (entry g m ≡ refused number line → B) → (entry g m ≡ read tt → reading g (length (m .report)) ≡ refused number line → B)
-          → (o : Read (Unit {0})) → entry g m ≡ o → (o >> reading g (length (m .report))) ≡ refused number line → B
-      unfolding _>>_
-      from-entry at-entry later (refused n l) p e = at-entry (p ∙ cc)
-      from-entry at-entry later (read u) p e = later p e
-
       from-answer : (o : Read Accepted) → answer o ≡ refused number line → o ≡ refused number line
       unfolding answer
       from-answer (refused n l) e = cc
@@ -119,7 +109,7 @@ module _ (g : Given) (checked : Checked g) where
       pub refused-where : {B : Type 0} → answer (outcome g m) ≡ refused number line → (entry g m ≡ refused number line → B)
           → (entry g m ≡ read tt → reading g (length (m .report)) ≡ refused number line → B) → B
       unfolding outcome
-      refused-where e at-entry later = from-entry at-entry later (entry g m) refl (from-answer (outcome g m) e)
+      refused-where e at-entry later = then-refused (entry g m) _ number line at-entry (λ u p q. later p q) (from-answer (outcome g m) e)
 
     pub long-refused : (line : ℕ) → answer (outcome g m) ≡ refused No.reportLong line → length (m .report) < longestReport
     long-refused line e =
@@ -127,7 +117,7 @@ module _ (g : Given) (checked : Checked g) where
         (λ p. absurd (true≢false (sym (entry-number No.reportLong line p))))
         (λ p q. ⊎-elim (λ t. absurd (true≢false (sym t))) (λ r. r .1) (behind No.reportLong line q))
 
-    entry-short : (line : ℕ) → entry g m ≡ refused No.tableShort line → tableShort m ≡ true
+    pub entry-short : (line : ℕ) → entry g m ≡ refused No.tableShort line → tableShort m ≡ true
     unfolding entry weigh pick
     entry-short line e =
         by-test (tableShort m) (λ short. short)

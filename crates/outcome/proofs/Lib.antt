@@ -1,9 +1,8 @@
+pub mod Refusing
 pub mod Accepting
 pub mod Checking
+pub mod Entering
 pub mod Fitting
 pub mod Keeping
-pub mod Concluding
-pub mod Entering
-pub mod Promising
-pub mod Finishing
 pub mod Bounds
+pub mod Held

@@ -1,4 +1,5 @@
 pub mod Outcome
 pub mod Demands
 pub mod Answer
-pub mod Progress
+pub mod Own
+pub mod Printed

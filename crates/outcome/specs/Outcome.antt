@@ -59,6 +59,31 @@ givenTexts lib net = givenBy New lib net
 unfoldable pub entry : Given → Lent → Read (Unit {0})
 entry g m = weigh 0 ((No.tableShort, tableShort m) ∷ (No.textLong, g .long) ∷ [])
 
+-- The same by the lengths of the two texts and the three tables.
+unfoldable pub entryBy : ℕ → ℕ → ℕ → ℕ → ℕ → Read (Unit {0})
+entryBy lib net library netlist numbers =
+    weigh 0
+    ((No.tableShort, ltb library Size.library || (ltb netlist Size.netlist || ltb numbers Size.numbers))
+    ∷ (No.textLong, ltb Size.textBytes lib || ltb Size.textBytes net)
+    ∷ [])
+
+-- ---- the library and the netlist
+
+-- What was read.
+pub record Pair : Type 0 where
+  pub cells : List Cell
+  pub statements : List Statement
+
+abbrev pub pairOf : List Cell → List Statement → Pair
+pairOf cells ss = record { cells = cells; statements = ss }
+
+-- "The library is read first, then the netlist".
+unfoldable pub readPair : Given → Read Pair
+readPair g = do
+  cells ← library (g .library)
+  ss ← g .statements cells
+  read (pairOf cells ss)
+
 -- ---- the analysis of an accepted library and netlist
 
 -- What was read, and what was made of it.
@@ -79,12 +104,11 @@ conclude cells ss space =
     weigh 0 ((No.reportLong, ltb space (length bs)) ∷ [])
     >> read (record { cells = cells; statements = ss; analysis = a; report = bs })
 
--- "The library is read first, then the netlist".
+-- What is given, behind the entry.
 unfoldable pub reading : Given → ℕ → Read Accepted
 reading g space = do
-  cells ← library (g .library)
-  ss ← g .statements cells
-  conclude cells ss space
+  p ← readPair g
+  conclude (p .cells) (p .statements) space
 
 -- Entry first, then what is given.
 unfoldable pub outcome : Given → Lent → Read Accepted

@@ -24,14 +24,14 @@ use Rattle.calculation.specs.Prices.{pricesOf}
 use Rattle.calculation.specs.Nodes.{Kind, combinational, sequential, kindNumber, set, node}
 use Rattle.calculation.specs.Calculation.{analysed}
 use Rattle.calculation.specs.Acceptance.{BothSound}
+use Rattle.calculation.specs.declared.Counts.{Counts}
 use Rattle.calculation.proofs.Laws.{own-figures}
 use Rattle.calculation.proofs.Laws.{numbers-length}
 use Rattle.gates.proofs.Naming.{set-node}
 use Rattle.cheapest.specs.Text.{cheapestText}
 use Rattle.cheapest.specs.Plan.{Cheapest}
 use Rattle.cheapest.specs.Asked.{PlanPut, PutWhere}
-use Rattle.sweep.specs.Ready.{Holds}
-use Rattle.planning.specs.Parts.{Analysed}
+use Rattle.calculation.specs.Stored.{Holds, Calculated, HoldsAnalysis}
 use Rattle.planning.specs.Promise.{known, askedNumber, kindOf, planRead, lengthOf, textAfter, PlanConcluded}
 
 -- ---- what is asked for
@@ -169,7 +169,12 @@ plan-put cells ss l v kind library netlist before middle end w holds h =
     w (kindOf kind) cells ss e holds (rw (place, ← i .1) h)
 
 -- The number that was read is the one of the analysis.
-pub number-is : (library netlist numbers : List ℕ) (cells : List Cell) (ss : List Statement) → Analysed library netlist numbers cells ss → (l v kind : ℕ)
+pub number-is : (library netlist numbers : List ℕ) (cells : List Cell) (ss : List Statement) → HoldsAnalysis library netlist numbers cells ss → (l v kind : ℕ)
     → askedNumber numbers l v kind ≡ askedNumber (analysed cells ss .numbers) l v kind
 number-is library netlist numbers cells ss h l v kind =
     ap (λ (xs : List ℕ). askedNumber xs l v kind) (h .stand) ∙ asked-same cells ss (h .holds .sound) (h .rest) l v kind
+
+-- Behind the calculation the tables hold an accepted analysis.
+pub analysis-held : {library netlist before numbers : List ℕ} {cells : List Cell} {ss : List Statement} {counts : Counts}
+    → Holds library netlist cells ss → Calculated cells ss before numbers counts → HoldsAnalysis library netlist numbers cells ss
+analysis-held {before = before} h c = record { holds = h; rest = drop Size.numbers before; stand = c .numbers }

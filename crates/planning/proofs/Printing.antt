@@ -7,9 +7,9 @@ use native.Mathlib.Omega.{arith}
 use lib.ListN.{length, take, drop, length-append}
 use lib.Seq.{take-append-seam, drop-append-seam, length-sets}
 use Rattle.sizes.specs.Sizes as Size
-use Rattle.reading.specs.Refusal.{Read, refused, read, _>>_}
+use Rattle.reading.specs.Refusal.{Read, refused, read}
 use Rattle.reading.specs.declared.Refusal.{Refusal}
-use Rattle.reading.proofs.Laws.{refused-read}
+use Rattle.reading.proofs.Laws.{refused-read, then-read, bind-read}
 use Rattle.text.specs.Bytes.{bytes}
 use Rattle.writer.specs.Put.{Put}
 use Rattle.writer.specs.Refused.{refusalBytes}
@@ -17,26 +17,24 @@ use Rattle.writer.proofs.Decimal.{decimal-length}
 use Rattle.writer.proofs.Steps.{put-front}
 use Rattle.outcome.specs.Outcome as O
 use Rattle.outcome.specs.Outcome.{givenTexts}
-use Rattle.analysis.specs.Own.{ownTables}
+use Rattle.outcome.specs.Own.{ownTables}
 use Rattle.planning.specs.declared.Written.{Written}
 use Rattle.planning.specs.declared.Written.the-variants.{Length, Refused}
-use Rattle.planning.specs.Promise.{writtenRead, ownReport, planAfter, planOutcome, lengthOf, textAfter, textLeft, planLeft, PlanPromised}
+use Rattle.planning.specs.Promise.{writtenRead, planOutcome, lengthOf, textAfter, planFilled, planLater, planFrom, planLeft, PlanPromised}
 use Rattle.planning.specs.Printed.{planShown, planPrinted, PlanPrinted}
 
 refusal-short : (number line : ℕ) → length (refusalBytes number line) ≤ 50
 unfolding refusalBytes bytes
 refusal-short number line = simp length-append (omega (arith, decimal-length number .1, decimal-length line .1))
 
--- Where there is a text, the entry did not refuse, and the buffer has the text in its front.
+-- Where there is a text, nothing was refused, and the buffer has the text in its front.
 front-text : (g : O.Given) (m : O.Lent) (l v kind : ℕ) (text : List ℕ) → planOutcome g m l v kind ≡ read text
     → planLeft g m l v kind .report ≡ text ++ drop (length text) (m .report)
-unfolding planLeft planOutcome
-front-text g m l v kind text e = rw e (go (O.entry g m) refl)
-  where
-    go : (r : Read (Unit {0})) → O.entry g m ≡ r → textLeft r (read text) (m .report) ≡ text ++ drop (length text) (m .report)
-    go (read u) h = unfold textLeft textAfter in refl
-    go (refused number line) h =
-        unfold planOutcome planAfter O.outcome _>>_ ownReport O.entry O.tableShort in refused-read (rw h at e)
+unfolding planOutcome planLeft planFrom planLater planFilled textAfter
+front-text g m l v kind text e =
+    then-read (O.entry g m) _ text
+    (λ u p r. bind-read (O.readPair g) _ text
+    (λ x q t. rw (p, q, t) refl) r) e
 
 module _ (lib net before : List ℕ) (l v kind : ℕ) where
   abbrev outcome : Read (List ℕ)

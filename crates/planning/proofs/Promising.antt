@@ -1,165 +1,108 @@
 -- From the parts of the call to its promise.
 -- Assumes nothing.
-use mathlib.Core.Bool.{true, false}
-use mathlib.Core.List.{List, _++_}
+use mathlib.Core.Bool.{Bool, true, false, true≢false, _||_}
+use mathlib.Core.List.{List}
 use mathlib.Core.Path.{_≡_, refl, sym, ap, subst, _∙_}
 use Prim.Native.Nat.{ℕ}
-use lib.ListN.{length, drop, replicate}
-use Rattle.sizes.specs.Sizes as Size
-use Rattle.reading.specs.Choice.{pick}
+use native.Mathlib.Omega.{arith}
+use lib.Dec.{eqb}
+use lib.ListN.{length}
 use Rattle.reading.specs.Numbers as No
-use Rattle.reading.specs.Refusal.{Read, refused, read, _>>_}
-use Rattle.reading.proofs.Laws.{refused-read, then-read}
-use Rattle.cell_library.proofs.Laws.{library-sound}
-use Rattle.sweep.specs.Ready.{Holds}
-use Rattle.outcome.specs.declared.Summary.{Summary}
+use Rattle.reading.specs.Refusal.{Read, refused, read, _>>=_, _>>_, weigh}
 use Rattle.reading.specs.declared.Refusal.{Refusal}
+use Rattle.reading.proofs.Bounds.{Within, within-then, within-weigh}
+use Rattle.reading.proofs.Laws.{refused-read}
 use Rattle.cell_library.specs.Cells.{Cell}
 use Rattle.netlist.specs.Netlist.{Statement}
-use Rattle.outcome.specs.declared.Answer.{Answer}
-use Rattle.outcome.specs.declared.Answer.the-variants as Answers
-use Rattle.outcome.specs.Answer.{answerRead, lentOf}
-use Rattle.outcome.specs.Outcome.{Given, Lent, Accepted, entry, tableShort, outcome, reading, answer, left, leftFrom, leftLater, filled}
-use Rattle.outcome.proofs.Accepting.{concluded, Accepts, accepts}
+use Rattle.calculation.specs.Stored.{Holds}
+use Rattle.outcome.specs.Answer.{lentOf}
+use Rattle.outcome.specs.Outcome.{Given, Lent, Pair, entry, readPair, zeroed}
 use Rattle.outcome.proofs.Checking.{Checked}
-use Rattle.outcome.proofs.Fitting.{entry-number, later-number, refused-where}
-use Rattle.planning.specs.Parts.{Alone, Analysed, SomeAnalysed}
-use Rattle.planning.specs.Promise.{ownReport, planAfter, planOutcome, lengthOf, textAfter, textLeft, planLeft, PlanConcluded, PlanPromised}
+use Rattle.outcome.proofs.Fitting.{entry-number, pair-number}
+use Rattle.outcome.proofs.Refusing.{bind-refused, then-refused}
+use Rattle.read_pair.specs.declared.Progress.{Progress}
+use Rattle.read_pair.specs.declared.Progress.the-variants.{Unrefused, AtEntry, Later}
+use Rattle.read_pair.specs.Progress.{Reached}
+use Rattle.read_pair.proofs.Reached.{stands-hold, zeroed-same}
+use Rattle.planning.specs.Parts.{PlanMade}
+use Rattle.planning.specs.Promise.{planRead, planOutcome, lengthOf, planFilled, planLater, planFrom, planLeft, PlanConcluded, PlanPromised}
 
-answer-refused : (o : Read Accepted) (number line : ℕ) → refused number line ≡ answer o → o ≡ refused number line
-unfolding answer
-answer-refused (refused n l) number line e = let a : n ≡ number = cc in let b : l ≡ line = cc in rw (a, b) refl
-answer-refused (read a) number line e = refused-read e
+-- The numbers that a plan's own refusals have.
+abbrev pub ownNumber : ℕ → Bool
+ownNumber number = eqb number No.noFigure || eqb number No.planLong
 
-answer-read : (o : Read Accepted) (s : Summary) → read s ≡ answer o → (a : Accepted) × (o ≡ read a)
-unfolding answer
-answer-read (refused n l) s e = refused-read (sym e)
-answer-read (read a) s e = (a, refl)
+pub plan-number : (cells : List Cell) (ss : List Statement) (l v kind space number line : ℕ) → planRead cells ss l v kind space ≡ refused number line
+    → ownNumber number ≡ true
+unfolding planRead
+plan-number cells ss l v kind space number line e =
+    subst (Within ownNumber 0) e (within-then ownNumber 0 (weigh 0 _) _ (within-weigh ownNumber 0 0 _ (omega arith) refl) tt) .0
 
-read-one : {a b : Accepted} → _≡_ {A = Read Accepted} (read a) (read b) → a ≡ b
-read-one e = cc
+pub length-refused : (o : Read (List ℕ)) (number line : ℕ) → refused number line ≡ lengthOf o → o ≡ refused number line
+unfolding lengthOf
+length-refused (refused n k) number line e = cc
+length-refused (read text) number line e = refused-read e
 
-module _ (g : Given) (checked : Checked g) (m : Lent) (library′ netlist′ numbers′ : List ℕ) (said : Read Summary)
-    (alone : Alone g (m .library) (m .netlist) (m .numbers) library′ netlist′ numbers′ said) (l v kind : ℕ) where
-  tables : lentOf library′ netlist′ numbers′ (alone .report) ≡ left g (ownReport m)
-  unfolding ownReport
-  tables = alone .promised .leaves
+module _ (g : Given) (m : Lent) (l v kind : ℕ) where
+  -- A refusal is one of the entry, of what is read, or of the plan.
+  pub plan-refused-where : {B : Type 0} (number line : ℕ) → planOutcome g m l v kind ≡ refused number line → (entry g m ≡ refused number line → B)
+      → (readPair g ≡ refused number line → B)
+      → ((p : Pair) → planRead (p .cells) (p .statements) l v kind (length (m .report)) ≡ refused number line → B) → B
+  unfolding planOutcome
+  plan-refused-where number line e at-entry later last =
+      then-refused (entry g m) _ number line at-entry
+      (λ u p q. bind-refused (readPair g) _ number line later (λ x r t. last x t) q) e
 
-  answers-own : said ≡ answer (outcome g (ownReport m))
-  unfolding ownReport
-  answers-own = alone .promised .answers
+  module _ (checked : Checked g) where
+    -- Nobody reports here.
+    never-long : (line : ℕ) → planOutcome g m l v kind ≡ refused No.reportLong line → ⊥
+    never-long line e =
+        plan-refused-where No.reportLong line e
+        (λ p. true≢false (sym (entry-number g checked m No.reportLong line p)))
+        (λ p. true≢false (sym (pair-number g checked No.reportLong line p)))
+        (λ x p. true≢false (sym (plan-number (x .cells) (x .statements) l v kind (length (m .report)) No.reportLong line p)))
 
-  same-entry : entry g (ownReport m) ≡ entry g m
-  unfolding entry tableShort ownReport
-  same-entry = refl
-
-  -- The lent memory afterwards, from the tables and the text buffer.
-  leaves-all : (text′ : List ℕ) → text′ ≡ textLeft (entry g m) (planOutcome g m l v kind) (m .report) → lentOf library′ netlist′ numbers′ text′ ≡ planLeft g m l v kind
-  unfolding planLeft
-  leaves-all text′ e i =
-      lentOf (ap (λ (x : Lent). x .library) tables i) (ap (λ (x : Lent). x .netlist) tables i) (ap (λ (x : Lent). x .numbers) tables i) (e i)
-
-  -- ---- refused
-
-  module _ (number line : ℕ) (was : said ≡ refused number line) where
-    own : outcome g (ownReport m) ≡ refused number line
-    own = answer-refused (outcome g (ownReport m)) number line (sym was ∙ answers-own)
-
-    comes : planOutcome g m l v kind ≡ refused number line
-    unfolding planOutcome planAfter
-    comes = rw own refl
-
-    buffer : textLeft (entry g m) (planOutcome g m l v kind) (m .report) ≡ pick (No.ofEntry number) (m .report) (replicate (length (m .report)) 0)
-    unfolding textLeft textAfter pick
-    buffer =
-        refused-where g checked (ownReport m) number line (sym answers-own ∙ was)
-        (λ e. rw (sym same-entry ∙ e, entry-number g checked (ownReport m) number line e) refl)
-        (λ e r. rw (sym same-entry ∙ e, comes, later-number g checked (ownReport m) number line r) refl)
-
-    pub promised-refused : (text′ : List ℕ) → text′ ≡ pick (No.ofEntry number) (m .report) (replicate (length (m .report)) 0)
-        → PlanPromised g m (lentOf library′ netlist′ numbers′ text′) l v kind (refused number line)
-    unfolding lengthOf
-    promised-refused text′ e =
+    keeps : (after : Lent) (said : Read ℕ) → said ≡ lengthOf (planOutcome g m l v kind) → after ≡ planLeft g m l v kind
+        → ((p : Pair) → entry g m ≡ read tt → readPair g ≡ read p → PlanConcluded (p .cells) (p .statements) l v kind (m .report) (after .report) said)
+        → PlanPromised g m after l v kind said
+    keeps after said a b c =
         record {
-          answers = ap lengthOf (sym comes);
-          leaves = leaves-all text′ (e ∙ sym buffer);
-          accepted = λ a q. refused-read (sym own ∙ q);
+          answers = a;
+          leaves = b;
+          noReport = λ line q. never-long line (length-refused (planOutcome g m l v kind) No.reportLong line (sym q ∙ a));
+          accepted = c;
         }
 
-  -- ---- accepted
+    -- ---- from where reading left the call
 
-  module _ (s : Summary) (was : said ≡ read s) where
-    pub accepted-as : (a : Accepted) × (outcome g (ownReport m) ≡ read a)
-    accepted-as = answer-read (outcome g (ownReport m)) s (sym was ∙ answers-own)
+    module _ (library′ netlist′ : List ℕ) (s : Progress) (h : Reached g (entry g m) (m .library) (m .netlist) library′ netlist′ s) where
+      pub call-entry : (r : Refusal) → s ≡ AtEntry r
+          → PlanPromised g m (lentOf library′ netlist′ (m .numbers) (m .report)) l v kind (refused (r .number) (r .line))
+      unfolding Reached planOutcome lengthOf planLeft planFrom _>>_
+      call-entry r e =
+          let q = rw e at h in
+          keeps _ (refused (r .number) (r .line)) (rw (q .0) refl) (rw (q .0) (λ i. lentOf (q .1 i) (q .2 i) (m .numbers) (m .report)))
+          (λ p a b. refused-read (sym (q .0) ∙ a))
 
-    abbrev pub a : Accepted
-    a = accepted-as .0
+      pub call-later : (r : Refusal) → s ≡ Later r → length library′ ≡ length (m .library) → length netlist′ ≡ length (m .netlist)
+          → (after : Lent) → after ≡ zeroed (lentOf library′ netlist′ (m .numbers) (m .report))
+          → PlanPromised g m after l v kind (refused (r .number) (r .line))
+      unfolding Reached planOutcome lengthOf planLeft planFrom planLater _>>_ _>>=_
+      call-later r e same-library same-netlist after z =
+          let q = rw e at h in
+          keeps after (refused (r .number) (r .line)) (rw (q .0, q .1) refl) (rw (q .0, q .1) (z ∙ zeroed-same m library′ netlist′ same-library same-netlist))
+          (λ p a b. refused-read (sym (q .1) ∙ b))
 
-    behind : (entry g m ≡ read tt) × (reading g (length (ownReport m .report)) ≡ read a)
-    unfolding outcome
-    behind = then-read (entry g (ownReport m)) (reading g (length (ownReport m .report))) a (λ u e r. (sym same-entry ∙ e, r)) (accepted-as .1)
-
-    left-is : left g (ownReport m) ≡ filled a (ownReport m)
-    unfolding left leftFrom leftLater
-    left-is = rw (same-entry ∙ behind .0, behind .1) refl
-
-    as-read : Accepts g a
-    as-read = accepts g (ownReport m) a (accepted-as .1)
-
-    pub analysed-tables : Analysed library′ netlist′ numbers′ (a .cells) (a .statements)
-    unfolding filled ownReport
-    analysed-tables =
-        let t = tables ∙ left-is in
-        record {
-          holds =
-              record {
-                behind = drop Size.library (m .library);
-                past = drop Size.netlist (m .netlist);
-                cellsStand = ap (λ (x : Lent). x .library) t;
-                statementsStand = ap (λ (x : Lent). x .netlist) t;
-                sound =
-                    record {
-                      library = library-sound (g .library) (a .cells) (as-read .cells);
-                      netlist = checked .sound (a .cells) (a .statements) (as-read .statements);
-                    };
-              };
-          rest = drop Size.numbers (m .numbers);
-          stand = ap (λ (x : Lent). x .numbers) t ∙ ap (λ (x : Accepted). x .analysis .numbers ++ drop Size.numbers (m .numbers)) (sym (as-read .made));
-        }
-
-    pub some-analysed : SomeAnalysed library′ netlist′ numbers′
-    some-analysed = record { cells = a .cells; statements = a .statements; are = analysed-tables }
-
-    pub promised-accepted : (text′ : List ℕ) (told : Read ℕ) → PlanConcluded (a .cells) (a .statements) l v kind (m .report) text′ told
-        → PlanPromised g m (lentOf library′ netlist′ numbers′ text′) l v kind told
-    unfolding planOutcome planAfter textLeft
-    promised-accepted text′ told c =
-        record {
-          answers = rw (accepted-as .1) (c .answers);
-          leaves = leaves-all text′ (rw (behind .0, accepted-as .1) (c .leaves));
-          accepted = λ b q. subst (λ (x : Accepted). PlanConcluded (x .cells) (x .statements) l v kind (m .report) text′ told) (read-one (sym (accepted-as .1) ∙ q)) c;
-        }
-
--- ---- the same by the answer of the code
-
-module _ (g : Given) (checked : Checked g) (m : Lent) (library′ netlist′ numbers′ : List ℕ) (r : Answer)
-    (alone : Alone g (m .library) (m .netlist) (m .numbers) library′ netlist′ numbers′ (answerRead r)) (l v kind : ℕ) where
-  pub call-refused : (x : Refusal) → r ≡ Answers.Refused x → (text′ : List ℕ) → text′ ≡ pick (No.ofEntry (x .number)) (m .report) (replicate (length (m .report)) 0)
-      → PlanPromised g m (lentOf library′ netlist′ numbers′ text′) l v kind (refused (x .number) (x .line))
-  unfolding answerRead
-  call-refused x e text′ t = promised-refused g checked m library′ netlist′ numbers′ (answerRead r) alone l v kind (x .number) (x .line) (ap answerRead e) text′ t
-
-  module _ (s : Summary) (e : r ≡ Answers.Accepted s) where
-    was : answerRead r ≡ read s
-    unfolding answerRead
-    was = ap answerRead e
-
-    pub call-ready : SomeAnalysed library′ netlist′ numbers′
-    call-ready = some-analysed g checked m library′ netlist′ numbers′ (answerRead r) alone l v kind s was
-
-    pub call-accepted : (text′ : List ℕ) (told : Read ℕ)
-        → ((cells : List Cell) (ss : List Statement) → Analysed library′ netlist′ numbers′ cells ss → PlanConcluded cells ss l v kind (m .report) text′ told)
-        → PlanPromised g m (lentOf library′ netlist′ numbers′ text′) l v kind told
-    call-accepted text′ told c =
-        promised-accepted g checked m library′ netlist′ numbers′ (answerRead r) alone l v kind s was text′ told
-        (c _ _ (analysed-tables g checked m library′ netlist′ numbers′ (answerRead r) alone l v kind s was))
+      pub call-made : s ≡ Unrefused → (numbers′ text′ : List ℕ) (told : Read ℕ)
+          → ((cells : List Cell) (ss : List Statement) → Holds library′ netlist′ cells ss
+          → PlanMade cells ss l v kind (m .numbers) (m .report) numbers′ text′ told)
+          → PlanPromised g m (lentOf library′ netlist′ numbers′ text′) l v kind told
+      unfolding Reached planOutcome lengthOf planLeft planFrom planLater planFilled _>>_ _>>=_
+      call-made e numbers′ text′ told f =
+          let q = rw e at h in
+          let b = q .1 in
+          let made = f (b .pair .cells) (b .pair .statements) (stands-hold g (m .library) (m .netlist) checked library′ netlist′ b) in
+          keeps _ told (rw (q .0, b .reads) (made .concluded .answers))
+          (rw (q .0, b .reads) (λ i. lentOf (b .cellsStand i) (b .statementsStand i) (made .numbersStand i) (made .concluded .leaves i)))
+          (λ p a r.
+          let same : b .pair ≡ p = cc (sym (b .reads) ∙ r) in
+          subst (λ (x : Pair). PlanConcluded (x .cells) (x .statements) l v kind (m .report) text′ told) same (made .concluded))

@@ -7,7 +7,7 @@ use lib.ListN.{length, take, drop}
 use Rattle.sizes.specs.Sizes as Size
 use Rattle.reading.specs.Refusal.{Read, refused, read}
 use Rattle.writer.specs.Refused.{refusalBytes}
-use Rattle.analysis.specs.Own.{ownTables}
+use Rattle.outcome.specs.Own.{ownTables}
 use Rattle.outcome.specs.Outcome.{givenTexts}
 use Rattle.planning.specs.Promise.{planOutcome, planLeft}
 

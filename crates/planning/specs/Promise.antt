@@ -10,10 +10,12 @@ use Rattle.sizes.specs.Sizes as Size
 use Rattle.sizes.specs.Places.{settingPlace}
 use Rattle.reading.specs.Choice.{pick}
 use Rattle.reading.specs.Numbers as No
-use Rattle.reading.specs.Refusal.{Read, refused, read, _>>_, weigh}
+use Rattle.reading.specs.Refusal.{Read, refused, read, _>>=_, _>>_, weigh}
 use Rattle.cost.specs.Cost.{most, never}
 use Rattle.cell_library.specs.Cells.{Cell}
+use Rattle.cell_library.specs.Layout.{libraryWords}
 use Rattle.netlist.specs.Netlist.{Statement}
+use Rattle.netlist.specs.Layout.{netlistWords}
 use Rattle.calculation.specs.Nodes.{Kind, combinational, sequential}
 use Rattle.calculation.specs.Calculation.{analysed}
 use Rattle.cheapest.specs.Text.{cheapestText}
@@ -43,19 +45,10 @@ planRead cells ss l v kind space =
 
 -- ---- the call
 
--- "Both come after every other check (17 isn't made here)": the analysis has a report buffer of its own, which has room for every
--- report, so that its refusals are 1 to 15.
-unfoldable pub ownReport : O.Lent → O.Lent
-ownReport m =
-    record { library = m .library; netlist = m .netlist; numbers = m .numbers; report = replicate Size.reportBytes 0 }
-
-unfoldable pub planAfter : Read O.Accepted → ℕ → ℕ → ℕ → ℕ → Read (List ℕ)
-planAfter (refused number line) l v kind space = refused number line
-planAfter (read a) l v kind space = planRead (a .cells) (a .statements) l v kind space
-
--- What the call comes to: `m` is what is lent, the text buffer in the report's place.
+-- "Both come after every other check (17 isn't made here)": the entry, then the library and the netlist, then 18 and 19. `m` is what
+-- is lent, the text buffer in the report's place.
 unfoldable pub planOutcome : O.Given → O.Lent → ℕ → ℕ → ℕ → Read (List ℕ)
-planOutcome g m l v kind = planAfter (O.outcome g (ownReport m)) l v kind (length (m .report))
+planOutcome g m l v kind = O.entry g m >> (O.readPair g >>= λ p. planRead (p .cells) (p .statements) l v kind (length (m .report)))
 
 -- The answer: the text's length, or the refusal.
 unfoldable pub lengthOf : Read (List ℕ) → Read ℕ
@@ -71,21 +64,29 @@ unfoldable pub textAfter : Read (List ℕ) → List ℕ → List ℕ
 textAfter (refused number line) before = replicate (length before) 0
 textAfter (read text) before = text ++ drop (length text) before
 
--- "every other check .. whose refusals treat that buffer as the report's": at entry it stays as it was.
-unfoldable pub textLeft : Read (Unit {0}) → Read (List ℕ) → List ℕ → List ℕ
-textLeft (refused number line) o before = before
-textLeft (read u) o before = textAfter o before
-
--- All that was lent afterwards: the tables as the analysis leaves them, the text buffer.
-unfoldable pub planLeft : O.Given → O.Lent → ℕ → ℕ → ℕ → O.Lent
-planLeft g m l v kind =
-    let tables = O.left g (ownReport m) in
+-- What is lent, behind the library and the netlist: the tables hold what was read and the numbers of its analysis, also where the
+-- call refuses by 18 or 19.
+unfoldable pub planFilled : O.Pair → O.Lent → ℕ → ℕ → ℕ → O.Lent
+planFilled p m l v kind =
     record {
-      library = tables .library;
-      netlist = tables .netlist;
-      numbers = tables .numbers;
-      report = textLeft (O.entry g m) (planOutcome g m l v kind) (m .report);
+      library = libraryWords (p .cells) ++ drop Size.library (m .library);
+      netlist = netlistWords (p .statements) ++ drop Size.netlist (m .netlist);
+      numbers = analysed (p .cells) (p .statements) .numbers ++ drop Size.numbers (m .numbers);
+      report = textAfter (planRead (p .cells) (p .statements) l v kind (length (m .report))) (m .report);
     }
+
+-- "every other check .. whose refusals treat that buffer as the report's": at entry all stays as it was, later all is zero.
+unfoldable pub planLater : Read O.Pair → O.Lent → ℕ → ℕ → ℕ → O.Lent
+planLater (refused number line) m l v kind = O.zeroed m
+planLater (read p) m l v kind = planFilled p m l v kind
+
+unfoldable pub planFrom : Read (Unit {0}) → Read O.Pair → O.Lent → ℕ → ℕ → ℕ → O.Lent
+planFrom (refused number line) o m l v kind = m
+planFrom (read u) o m l v kind = planLater o m l v kind
+
+-- All that was lent afterwards.
+unfoldable pub planLeft : O.Given → O.Lent → ℕ → ℕ → ℕ → O.Lent
+planLeft g m l v kind = planFrom (O.entry g m) (O.readPair g) m l v kind
 
 -- ---- what holds of it
 
@@ -105,10 +106,12 @@ pub record PlanConcluded (cells : List Cell) (ss : List Statement) (l v kind : �
   pub tooLong : (line : ℕ) → said ≡ refused No.planLong line
       → (askedNumber (analysed cells ss .numbers) l v kind ≤ most) × (length before < length (cheapestText (kindOf kind) cells ss l v))
 
--- What the call promises: by equation its answer, the refusal and its line, and every entry of every lent slice afterwards; and
--- where the analysis accepts, what was said above.
+-- What the call promises: by equation its answer, the refusal and its line, and every entry of every lent slice afterwards; that it
+-- never refuses by 17; and of an accepted library and netlist, what was said above.
 pub record PlanPromised (g : O.Given) (before after : O.Lent) (l v kind : ℕ) (said : Read ℕ) : Type 0 where
   pub answers : said ≡ lengthOf (planOutcome g before l v kind)
   pub leaves : after ≡ planLeft g before l v kind
-  pub accepted : (a : O.Accepted) → O.outcome g (ownReport before) ≡ read a
-      → PlanConcluded (a .cells) (a .statements) l v kind (before .report) (after .report) said
+  -- "(17 isn't made here)"
+  pub noReport : (line : ℕ) → said ≡ refused No.reportLong line → ⊥
+  pub accepted : (p : O.Pair) → O.entry g before ≡ read tt → O.readPair g ≡ read p
+      → PlanConcluded (p .cells) (p .statements) l v kind (before .report) (after .report) said

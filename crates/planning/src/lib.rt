@@ -6,12 +6,13 @@
 use cheapest::put_cheapest;
 use cost::MOST;
 use cost::NEVER;
-use outcome::Answer;
+use netlist::Rules;
+use read_pair::Progress;
+use read_pair::clear_all;
+use read_pair::read_texts;
 use reading::NO_FIGURE;
 use reading::PLAN_LONG;
 use reading::Refusal;
-use reading::TABLE_SHORT;
-use reading::TEXT_LONG;
 use table::clear_bytes;
 use table::word;
 ghost use mathlib.Core.List.{List};
@@ -19,14 +20,13 @@ ghost use mathlib.Core.Path.{_≡_};
 ghost use lib.ListN.{length, replicate};
 ghost use Rattle.sizes.specs.Sizes as Size;
 ghost use Rattle.table.specs.Blocks.{cleared};
-ghost use Rattle.reading.specs.Numbers as No;
-ghost use Rattle.reading.specs.Choice.{pick};
 ghost use Rattle.reading.specs.Refusal.{refused};
 ghost use Rattle.cell_library.specs.Cells.{Cell};
 ghost use Rattle.netlist.specs.Netlist.{Statement};
-ghost use Rattle.outcome.specs.Answer.{answerRead, lentOf};
+ghost use Rattle.calculation.specs.Stored.{Holds, Ready, HoldsAnalysis, SomeAnalysis};
+ghost use Rattle.outcome.specs.Answer.{lentOf};
 ghost use Rattle.outcome.specs.Outcome.{givenTexts};
-ghost use Rattle.planning.specs.Parts.{Alone, Analysed, SomeAnalysed};
+ghost use Rattle.planning.specs.Parts.{PlanMade};
 ghost use Rattle.planning.specs.Printed.{PlanPrinted};
 ghost use Rattle.planning.specs.Promise.{known, askedNumber, writtenRead, PlanConcluded, PlanPromised};
 
@@ -34,35 +34,6 @@ ghost use Rattle.planning.specs.Promise.{known, askedNumber, writtenRead
 pub enum Written {
     Length(usize),
     Refused(Refusal),
-}
-
-// An analysis whose report is not asked for: the buffer has room for every report, so that 17 is not made.
-fn analyse_alone(
-    lib: &[u8],
-    net: &[u8],
-    library: &mut [u32],
-    netlist: &mut [u32],
-    numbers: &mut [u32],
-    library_used: usize,
-    netlist_used: usize,
-) -> Answer
-    requires { ⌜ (cleared «library_used» (now library) ≡ cleared Size.library (now library))
-        × (cleared «netlist_used» (now netlist) ≡ cleared Size.netlist (now netlist)) ⌝ }
-    ensures { λ r. ⌜ Alone (givenTexts (now (lib .entry)) (now (net .entry)))
-        (now (library .entry)) (now (netlist .entry)) (now (numbers .entry))
-        (now (library .exit)) (now (netlist .exit)) (now (numbers .exit)) (answerRead r) ⌝ }
-{
-    let mut report = [0u8; sizes::REPORT_BYTES];
-    analysis::analyse_into(
-        lib,
-        net,
-        library,
-        netlist,
-        numbers,
-        &mut report,
-        library_used,
-        netlist_used,
-    )
 }
 
 // "A line outside 1 to 1,000, or an unknown value or kind, counts as never."
@@ -105,9 +76,9 @@ fn conclude_plan(
     value: usize,
     kind: usize,
 ) -> Written
-    requires { ⌜ SomeAnalysed (now library) (now netlist) (now numbers) ⌝ }
+    requires { ⌜ SomeAnalysis (now library) (now netlist) (now numbers) ⌝ }
     ensures { λ r. ⌜ ((cells : List Cell) (ss : List Statement)
-        → Analysed (now (library .entry)) (now (netlist .entry)) (now (numbers .entry)) cells ss
+        → HoldsAnalysis (now (library .entry)) (now (netlist .entry)) (now (numbers .entry)) cells ss
         → PlanConcluded cells ss line value kind (now (text .entry)) (now (text .exit)) (writtenRead r)) ⌝ }
 {
     let number = asked_number(numbers, line, value, kind);
@@ -121,25 +92,27 @@ fn conclude_plan(
     Written::Length(end)
 }
 
-// Whether a refusal is one at entry.
-fn is_entry(number: u32) -> bool
-    ensures { λ r. ⌜ r ≡ No.ofEntry number ⌝ }
+// The numbers of an accepted library and netlist, and the plan.
+fn calculate_plan(
+    library: &[u32],
+    netlist: &[u32],
+    numbers: &mut [u32],
+    text: &mut [u8],
+    line: usize,
+    value: usize,
+    kind: usize,
+) -> Written
+    requires { ⌜ Ready (now library) (now netlist) (now numbers) ⌝ }
+    ensures { λ r. ⌜ ((cells : List Cell) (ss : List Statement)
+        → Holds (now (library .entry)) (now (netlist .entry)) cells ss
+        → PlanMade cells ss line value kind (now (numbers .entry)) (now (text .entry))
+        (now (numbers .exit)) (now (text .exit)) (writtenRead r)) ⌝ }
 {
-    (number == TABLE_SHORT) | (number == TEXT_LONG)
+    let _counts = sweep::calculate(library, netlist, numbers);
+    conclude_plan(library, netlist, numbers, text, line, value, kind)
 }
 
-// Zeroes the text buffer after a refusal that is not at entry.
-fn clear_later(text: &mut [u8], number: u32)
-    ensures { λ _. ⌜ now (text .exit)
-        ≡ pick (No.ofEntry number) (now (text .entry)) (replicate (length (now (text .entry))) 0) ⌝ }
-{
-    if is_entry(number) {
-        return;
-    }
-    clear_bytes(text);
-}
-
-// As `write_plan`, on tables of which `analysis::analyse_into` asks the same.
+// As `write_plan`, on tables of which `read_pair::read_texts` asks the same.
 pub fn write_plan_into(
     lib: &[u8],
     net: &[u8],
@@ -160,21 +133,25 @@ pub fn write_plan_into(
         (lentOf (now (library .exit)) (now (netlist .exit)) (now (numbers .exit)) (now (text .exit)))
         line value kind (writtenRead r) ⌝ }
 {
-    let answer = analyse_alone(
+    let progress = read_texts(
+        Rules::New,
         lib,
         net,
         library,
         netlist,
-        numbers,
+        numbers.len(),
         library_used,
         netlist_used,
     );
-    match answer {
-        Answer::Refused(r) => {
-            clear_later(text, r.number);
+    match progress {
+        Progress::AtEntry(r) => Written::Refused(r),
+        Progress::Later(r) => {
+            clear_all(library, netlist, numbers, text);
             Written::Refused(r)
         }
-        Answer::Accepted(_s) => conclude_plan(library, netlist, numbers, text, line, value, kind),
+        Progress::Unrefused => {
+            calculate_plan(library, netlist, numbers, text, line, value, kind)
+        }
     }
 }
 

@@ -37,12 +37,12 @@ pub use Rattle.plans.proofs.Keeping.{Stores, lower-stores, renew-stores
 pub use Rattle.plans.proofs.Idling.{turn-listed, idles-rest, asleep-skipped, skipped-sweep, made-watched, asleep-settles}
 pub use Rattle.plans.proofs.Replacing.{lowers-settle, within-lowers}
 -- ---- runs one after the other, as specs/Stages.antt states them
-pub use Rattle.plans.proofs.Staging.{settles-under, ranked-apart, stages-within, stages-once, stages-left, stages-exact, first-start}
+pub use Rattle.plans.proofs.Staging.{settles-under, ranked-apart, stages-within, stages-once, stages-append, stages-left, stages-exact, first-start}
 -- ---- what a reader may ask of exact numbers, and what requests K10, K11 and K14 rest on
 pub use Rattle.plans.proofs.Comparing.{stands-least, stands-carried, exact-once, plan-within, plan-at-any-prices, attained-more, exact-within, more-ways, more-prices}
 -- ---- runs from numbers that stand, as specs/Standing.antt states them: K11, K13 and K14
 pub use Rattle.plans.proofs.Table.{at-ext}
-pub use Rattle.plans.proofs.Standing.{exact-table, standing-start, priced-start, standing-above, continued, lower-start, between-settles, pad-settles, pad-idle, lowered-stages}
+pub use Rattle.plans.proofs.Standing.{exact-table, standing-start, priced-start, standing-above, continued, settled-stays, lower-start, between-settles, pad-settles, pad-idle, lowered-stages, lowered-under}
 pub use Rattle.plans.proofs.Alike.{lower-reads, renew-reads, rests-alike, alike-settles}
 -- ---- what request K3 rests on
 pub use Rattle.plans.proofs.Tracing.{first-least, traced-numbers, traces-agree, unmarked-stood, settled-row}

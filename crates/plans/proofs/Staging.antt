@@ -26,6 +26,7 @@ use Rattle.plans.specs.Stages.{
   RankedApart,
   StagesWithin,
   StagesOnce,
+  StagesAppend,
   StagesLeft,
   StagesExact,
 }
@@ -148,6 +149,10 @@ lowered (s ∷ ss) xs zs counts apart works (stage {ys = ys} {counts = ks} {coun
 lowered-under : {ss : List Stage} {xs zs : List ℕ} → Lowered ss xs zs → Under zs xs
 lowered-under {xs = xs} (unchanged e) = rw e (under-refl xs)
 lowered-under (then t r) = under-trans (lowered-under r) (settles-under t)
+
+pub stages-append : StagesAppend
+stages-append [] ts xs ys zs counts others (ended e) t = rw e at t
+stages-append (s ∷ ss) ts xs ys zs counts others (stage {ys = us} {counts = ks} u r) t = stage u (stages-append ss ts us ys zs ks others r t)
 
 pub stages-left : StagesLeft
 stages-left ss xs zs counts apart works t =

@@ -4,7 +4,7 @@ use mathlib.Core.List.{List, [], _∷_, List·Memᴰ, List·Memᴰ·head, List·
 use mathlib.Core.Logic.{_⊎_, inl, inr}
 use mathlib.Core.Option.{some}
 use mathlib.Core.Path.{_≡_, refl, sym, _∙_, ap}
-use Prim.Native.Nat.{ℕ, zero, suc, _≤_, _<_}
+use Prim.Native.Nat.{ℕ, zero, suc, _+_, _-_, _≤_, _<_}
 use native.Mathlib.Decide.{ℕ-discrete, decLt}
 use native.Mathlib.Nat.{le-refl, le-trans, le-of-eq}
 use native.Mathlib.Omega.{arith}
@@ -13,11 +13,11 @@ use lib.Seq.{set-out}
 use Rattle.cost.specs.Cost.{capped}
 use Rattle.cost.proofs.Laws.{sum-mono, capped-sum}
 use Rattle.plans.specs.System.{Way, Visit, System, Offers, Plan, Plan.priced, Plan.chosen, Plans, Plans.done, Plans.also, cost, costs}
-use Rattle.plans.specs.Sweep.{at, sums, way, least, lower, sweep, sweeps, Rests, Settles}
+use Rattle.plans.specs.Sweep.{at, sums, way, least, Rule, lower, sweep, sweeps, Rests, Settles}
 use Rattle.plans.specs.Exact.{Attained}
 use Rattle.plans.specs.Stages.{Stage, allVisits, AllWithin, Stages, Stages.ended, Stages.stage}
 use Rattle.plans.proofs.Replacing.{lowers-settle}
-use Rattle.plans.specs.Standing.{AllExact, ExactTable, StandingStart, PricedStart, StandingAbove, Continued, LowerStart, BetweenSettles, PadSettles, PadIdle, LoweredStages}
+use Rattle.plans.specs.Standing.{AllExact, ExactTable, StandingStart, PricedStart, StandingAbove, Continued, SettledStays, LowerStart, BetweenSettles, PadSettles, PadIdle, LoweredStages, LoweredUnder}
 use Rattle.plans.proofs.Table.{at-set-same, at-set-other, Under, under-refl, under-trans, under-antisym, under-set, at-ext}
 use Rattle.plans.proofs.Falling.{lesser-left, lesser-right, lesser-bound, lesser-most, least-bound, least-below, least-mono, lower-here, lower-past, rests-head, rests-tail}
 use Rattle.plans.proofs.Keeping.{lower-stores, rule-length, rule-other}
@@ -80,6 +80,25 @@ continued S T ss standing first zs fresh counts others more exact e apart long i
     (stages-exact T ss standing zs counts e (λ v m. rw long (inside v m)) apart works (standing-start S T more standing exact) run)
     (stages-exact T ss first fresh others e inside apart fresh-works start new)
 
+-- ---- more sweeps than are needed
+
+rest-stays : (rule : Rule) (vs : List Visit) (xs : List ℕ) (k : ℕ) → Rests rule vs xs → sweeps rule vs k xs ≡ xs
+unfolding sweeps
+rest-stays rule vs xs zero e = refl
+rest-stays rule vs xs (suc k) e = rw e (rest-stays rule vs xs k e)
+
+sweeps-add : (rule : Rule) (vs : List Visit) (j k : ℕ) (xs : List ℕ) → sweeps rule vs (j + k) xs ≡ sweeps rule vs k (sweeps rule vs j xs)
+unfolding sweeps
+sweeps-add rule vs zero k xs = let e : 0 + k ≡ k = omega arith in rw e refl
+sweeps-add rule vs (suc j) k xs = let e : suc j + k ≡ suc (j + k) = omega arith in rw e (sweeps-add rule vs j k (sweep rule vs xs))
+
+pub settled-stays : SettledStays
+settled-stays rule vs xs ys k n s h =
+    let e : n ≡ s .changes + (n - s .changes) = omega (arith, s .counted) in
+    ap (λ (m : ℕ). sweeps rule vs m xs) e
+    ∙ sweeps-add rule vs (s .changes) (n - s .changes) xs
+    ∙ rw (s .reached) (rest-stays rule vs ys (n - s .changes) (s .rests))
+
 -- ---- by order
 
 lower-mono : {xs ys : List ℕ} → Under ys xs → (v : Visit) → Under (lower ys v) (lower xs v)
@@ -108,14 +127,9 @@ unfolding sweeps
 sweeps-mono u vs zero = u
 sweeps-mono u vs (suc k) = sweeps-mono (sweep-mono u vs) vs k
 
-rest-stays : (vs : List Visit) (xs : List ℕ) (k : ℕ) → Rests lower vs xs → sweeps lower vs k xs ≡ xs
-unfolding sweeps
-rest-stays vs xs zero e = refl
-rest-stays vs xs (suc k) e = rw e (rest-stays vs xs k e)
-
 -- Numbers at rest under a table stay under all that its sweeps come to.
 rest-under : (vs : List Visit) {ys zs : List ℕ} (k : ℕ) → Rests lower vs zs → Under zs ys → Under zs (sweeps lower vs k ys)
-rest-under vs {ys} {zs} k e u = rw (rest-stays vs zs k e) at (sweeps-mono u vs k)
+rest-under vs {ys} {zs} k e u = rw (rest-stays lower vs zs k e) at (sweeps-mono u vs k)
 
 pub lower-start : LowerStart
 lower-start vs xs ys zs ws k l u s t =
@@ -172,6 +186,10 @@ pad-idle vs xs n a low rest v m spared =
     idle-stays xs (set xs n a) v (under-set xs n a low)
     (λ i d other. at-set-other xs n a i (λ e. spared (rw e at d)))
     (rests-visit vs xs rest v m)
+
+pub lowered-under : LoweredUnder
+lowered-under [] xs zs counts (ended e) = rw e (under-refl xs)
+lowered-under (s ∷ ss) xs zs counts (stage {ys = ys} {counts = ks} t r) = under-trans (lowered-under ss ys zs ks r) (settles-under t)
 
 pub lowered-stages : LoweredStages
 lowered-stages [] xs zs counts a (ended e) = ended e

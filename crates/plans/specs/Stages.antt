@@ -119,6 +119,14 @@ StagesOnce =
     Stages ss xs others zs →
     (counts ≡ others) × (ys ≡ zs)
 
+-- `stages-append`: some stages, and then others.
+abbrev pub StagesAppend : Type 0
+StagesAppend =
+    (ss ts : List Stage) (xs ys zs counts others : List ℕ) →
+    Stages ss xs counts ys →
+    Stages ts ys others zs →
+    Stages (ss ++ ts) xs (counts ++ others) zs
+
 -- `stages-left`: the numbers are as many as at the start, and none is higher.
 abbrev pub StagesLeft : Type 0
 StagesLeft =

@@ -9,7 +9,7 @@ use Prim.Native.Nat.{ℕ, _≤_, _<_}
 use lib.ListN.{length, set}
 use Rattle.cost.specs.Cost.{capped}
 use Rattle.plans.specs.System.{Way, Visit, System, Offers}
-use Rattle.plans.specs.Sweep.{at, Rule, lower, Rests, Settles, Inside, Above}
+use Rattle.plans.specs.Sweep.{at, Rule, lower, sweeps, Rests, Settles, Inside, Above}
 use Rattle.plans.specs.Exact.{Exact, Start}
 use Rattle.plans.specs.Stages.{Stage, allVisits, Stages, Apart, AllWork, AllWithin}
 use Rattle.plans.specs.Idle.{Needs}
@@ -73,6 +73,10 @@ Continued =
     zs ≡ fresh
 
 -- ---- by order: one run that keeps the lesser
+
+-- `settled-stays`: once a run has settled, more sweeps change nothing, whatever its rule.
+abbrev pub SettledStays : Type 0
+SettledStays = (rule : Rule) (vs : List Visit) (xs ys : List ℕ) (k n : ℕ) → Settles rule vs xs k ys → k ≤ n → sweeps rule vs n xs ≡ ys
 
 -- As long, and nowhere higher.
 pub record Under (ys xs : List ℕ) : Type 0 where
@@ -160,3 +164,7 @@ LoweredStages =
     AllWithin ss xs →
     Stages (allByLower ss) xs counts zs →
     Stages ss xs counts zs
+
+-- `lowered-under`: from any numbers, they leave none higher.
+abbrev pub LoweredUnder : Type 0
+LoweredUnder = (ss : List Stage) (xs zs counts : List ℕ) → Stages (allByLower ss) xs counts zs → Under zs xs

@@ -17,9 +17,7 @@ use Rattle.reading.specs.declared.Refusal.{Refusal}
 use Rattle.reading.proofs.Laws.{refused-read, then-read}
 use Rattle.text.specs.Bytes.{bytes}
 use Rattle.cell_library.specs.Cells.{Cell}
-use Rattle.cell_library.specs.Library.{library}
-use Rattle.netlist.specs.declared.Rules.the-variants.{New}
-use Rattle.netlist.specs.Netlist.{Statement, mentioned, netlist}
+use Rattle.netlist.specs.Netlist.{Statement, mentioned}
 use Rattle.calculation.specs.Calculation.{analysed}
 use Rattle.writer.specs.Decimal.{decimalBytes}
 use Rattle.writer.specs.Put.{Put}
@@ -34,8 +32,9 @@ use Rattle.outcome.specs.Answer.{answerRead}
 use Rattle.outcome.specs.Demands.{Promised}
 use Rattle.outcome.specs.Outcome as O
 use Rattle.outcome.specs.Outcome.{Given, Lent, givenBy, givenTexts}
-use Rattle.analysis.specs.Own.{ownTables}
-use Rattle.printing.specs.Printed.{reported, shown, printed, shownOf, Printed}
+use Rattle.outcome.specs.Own.{ownTables}
+use Rattle.outcome.specs.Printed.{reported, shown, printed}
+use Rattle.printing.specs.Printed.{shownOf, Printed}
 
 -- ---- neither 1 nor 17 can arise
 
@@ -82,13 +81,12 @@ module _ (lib net before : List ℕ) where
   tables-long = refl
 
   outcome-reported : Size.reportBytes ≤ length before → reportsOf (O.outcome given lent) ≡ reported lib net
-  unfolding O.outcome O.reading givenBy ownTables reported
+  unfolding O.outcome O.reading ownTables reported
   outcome-reported room =
       rw tables-long
       (reports-then (weigh 0 ((No.textLong, O.textLong lib || O.textLong net) ∷ [])) _ _
-      (reports-bind (library lib) _ _
-      (λ cells. reports-bind (netlist New cells net) _ _
-      (λ ss. always-reported cells ss (length before) room))))
+      (reports-bind (O.readPair given) _ _
+      (λ p. always-reported (p .cells) (p .statements) (length before) room)))
 
   filled-by : (a : O.Accepted) → O.outcome given lent ≡ read a → O.left given lent .report ≡ a .report ++ drop (length (a .report)) before
   unfolding O.outcome O.left O.leftFrom O.leftLater O.filled ownTables

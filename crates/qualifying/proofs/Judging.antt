@@ -7,12 +7,11 @@ use Prim.Native.Nat.{ℕ, zero, suc, _+_, _-_, _≤_, _<_}
 use native.Mathlib.Decide.{ℕ-discrete}
 use lib.ListN.{getD, set, replicate}
 use lib.Seq.{getD-set-other}
-use Rattle.sizes.specs.Places.{gatePlace}
 use Rattle.reading.specs.Choice.{pick}
 use Rattle.reading.proofs.Laws.{by-test, clash}
 use Rattle.generated_cells.specs.Words.{generatedAt}
-use Rattle.loops.specs.Held.{eachOf, gateAt}
-use Rattle.loops.proofs.Walking.{each-next, each-end}
+use Rattle.netlist.specs.Gates.{gateCell, eachOf, gateAt}
+use Rattle.netlist.proofs.HeldGates.{each-next, each-end}
 use Rattle.qualifying.specs.Qualifying.{allGenerated, Known, Judged}
 
 zero-everywhere : (n c : ℕ) → _≡_ {A = ℕ} (getD (replicate n 0) c 0) 0
@@ -48,11 +47,11 @@ module _ (library : List ℕ) (cell : ℕ) (known : List ℕ) (k : Known library
         go c h is (no q) = k c (λ z. h (getD-set-other known cell c 1 0 q ∙ z))
 
 module _ (library netlist : List ℕ) (n g : ℕ) where
-  module _ (h : g < n) {cell : ℕ} (at : cell ≡ getD netlist (gatePlace g) 0) {r : Bool} (e : r ≡ generatedAt library cell) where
+  module _ (h : g < n) {cell : ℕ} (at : cell ≡ gateCell netlist g) {r : Bool} (e : r ≡ generatedAt library cell) where
     pub generated-stop : not r ≡ true → allGenerated library (eachOf (gateAt netlist) (n - g) g) ≡ false
     unfolding allGenerated gateAt
     generated-stop t =
-        let is : generatedAt library (getD netlist (gatePlace g) 0) ≡ false =
+        let is : generatedAt library (gateCell netlist g) ≡ false =
         rw (← at) (by-test r (λ u. clash (not r) t (rw u)) (λ u. sym e ∙ u)) in
         rw (each-next (gateAt netlist) n g h, is)
 
@@ -60,7 +59,7 @@ module _ (library netlist : List ℕ) (n g : ℕ) where
         → allGenerated library (eachOf (gateAt netlist) (n - (g + 1)) (g + 1)) ≡ allGenerated library (eachOf (gateAt netlist) (n - g) g)
     unfolding allGenerated gateAt
     generated-on t =
-        let is : generatedAt library (getD netlist (gatePlace g) 0) ≡ true =
+        let is : generatedAt library (gateCell netlist g) ≡ true =
         rw (← at) (by-test r (λ u. sym e ∙ u) (λ u. clash (not r) (rw u) t)) in
         rw (each-next (gateAt netlist) n g h, is)
 

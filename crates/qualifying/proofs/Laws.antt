@@ -6,17 +6,17 @@ use mathlib.Core.Logic.{_↔_}
 use mathlib.Core.Path.{_≡_, refl, sym, ap, subst, _∙_}
 use Prim.Native.Nat.{ℕ, _≤_}
 use native.Mathlib.Omega.{arith}
-use lib.ListN.{length, drop}
-use Rattle.sizes.specs.Sizes as Size
 use Rattle.reading.specs.Choice.{pick}
 use Rattle.reading.specs.Each.{Each}
-use Rattle.reading.specs.Refusal.{Read, refused, read}
-use Rattle.reading.proofs.Laws.{clash, and-left, and-right, each-member, refused-read, then-read}
+use Rattle.reading.specs.Refusal.{Read, read}
+use Rattle.reading.proofs.Laws.{clash, and-left, and-right, each-member}
 use Rattle.cell_library.specs.Cells.{Cell}
 use Rattle.cell_library.specs.Layout.{libraryWords}
 use Rattle.netlist.specs.Netlist.{Gate, Statement, gatesOf}
 use Rattle.netlist.specs.Sound.{GateSound}
-use Rattle.netlist.specs.Layout.{NetlistHolds, netlistWords}
+use Rattle.netlist.specs.Layout.{NetlistHolds}
+use Rattle.netlist.specs.Gates.{gatesHeld}
+use Rattle.netlist.proofs.HeldGates.{gates-held}
 use Rattle.calculation.specs.Acceptance.{BothSound}
 use Rattle.calculation.specs.Ways.{noCell, cellOf}
 use Rattle.truth_tables.specs.Generated.{Generated}
@@ -24,17 +24,14 @@ use Rattle.behaviour.specs.Loops.{Loopless, NoneOpen, ReadOnce}
 use Rattle.behaviour.specs.Built.{Built, Qualifies}
 use Rattle.generated_cells.specs.Words.{generatedAt, tableAt}
 use Rattle.generated_cells.proofs.Laws.{generated-told, generated-tells}
-use Rattle.loops.specs.Held.{gatesHeld}
 use Rattle.loops.specs.Settling.{withoutLoops, readOnce}
-use Rattle.loops.proofs.Holding.{gates-held}
 use Rattle.loops.proofs.Laws.{without-loops, read-once}
-use Rattle.sweep.specs.Ready.{Holds}
+use Rattle.calculation.specs.Stored.{Holds}
 use Rattle.outcome.specs.declared.Summary.{Summary}
-use Rattle.outcome.specs.Outcome.{Given, Lent, Accepted, givenTexts, entry, outcome, reading, answer, left, leftFrom, leftLater, filled}
+use Rattle.outcome.specs.Outcome.{Given, Lent, givenTexts}
 use Rattle.outcome.specs.Demands.{PairRead, Promised}
-use Rattle.outcome.proofs.Accepting.{Accepts, accepts}
 use Rattle.outcome.proofs.Checking.{Checked, texts-checked}
-use Rattle.outcome.proofs.Fitting.{pair-sound}
+use Rattle.outcome.proofs.Held.{accepted-held}
 use Rattle.qualifying.specs.Qualifying.{allGenerated, qualifying, Says}
 
 -- ---- the three answers together
@@ -100,55 +97,18 @@ pub qualifying-says : {library netlist : List ℕ} {cells : List Cell} {ss : Lis
 unfolding qualifying
 qualifying-says {library} {netlist} {cells} {ss} h =
     let held : NetlistHolds netlist ss = record { past = h .past; words = h .statementsStand } in
-    let gates : gatesHeld netlist ≡ gatesOf ss = ap gatesHeld (h .statementsStand) ∙ gates-held cells ss (h .sound) (h .past) in
+    let gates : gatesHeld netlist ≡ gatesOf ss = ap gatesHeld (h .statementsStand) ∙ gates-held (h .sound .netlist) (h .past) (h .sound .library) in
     rw (gates, h .cellsStand)
     (says cells ss (withoutLoops netlist) (allGenerated (libraryWords cells ++ h .behind) (gatesOf ss)) (readOnce netlist)
     (without-loops (h .sound) held) (built cells ss (h .sound) (h .behind)) (read-once (h .sound) held))
 
--- ---- an accepted analysis
+-- ---- for the reader: what stands behind the promise of every call that analyses
 
-answer-read : (o : Read Accepted) (s : Summary) → answer o ≡ read s → (a : Accepted) × (o ≡ read a)
-unfolding answer
-answer-read (refused n l) s e = refused-read e
-answer-read (read a) s e = (a, refl)
-
-module _ (g : Given) (checked : Checked g) (before after : Lent) (said : Read Summary) (p : Promised g before after said)
-    (pair : PairRead g) (s : Summary) (e : said ≡ read s) where
-  came : (a : Accepted) × (outcome g before ≡ read a)
-  came = answer-read (outcome g before) s (sym (p .answers) ∙ e)
-
-  left-is : after ≡ filled (came .0) before
-  unfolding outcome left leftFrom leftLater
-  left-is =
-      p .leaves
-      ∙ then-read (entry g before) (reading g (length (before .report))) (came .0) (λ u a r. rw (a, r) refl) (came .1)
-
-  as-read : Accepts g (came .0)
-  as-read = accepts g before (came .0) (came .1)
-
-  same-cells : came .0 .cells ≡ pair .cells
-  same-cells = let r : read (came .0 .cells) ≡ read (pair .cells) = sym (as-read .cells) ∙ pair .cellsRead in cc
-
-  same-statements : came .0 .statements ≡ pair .statements
-  same-statements =
-      let r : read (came .0 .statements) ≡ read (pair .statements) =
-      sym (as-read .statements) ∙ ap (g .statements) same-cells ∙ pair .statementsRead in
-      cc
-
-  pub accepted-holds : Holds (after .library) (after .netlist) (pair .cells) (pair .statements)
-  unfolding filled
-  accepted-holds =
-      record {
-        behind = drop Size.library (before .library);
-        past = drop Size.netlist (before .netlist);
-        cellsStand = ap (λ (x : Lent). x .library) left-is ∙ ap (λ (x : List Cell). libraryWords x ++ drop Size.library (before .library)) same-cells;
-        statementsStand = ap (λ (x : Lent). x .netlist) left-is ∙ ap (λ (x : List Statement). netlistWords x ++ drop Size.netlist (before .netlist)) same-statements;
-        sound = pair-sound g checked pair;
-      }
-
-  -- Behind the promise of every call that analyses: of its tables the answer tells of which theorems of K8 it is.
-  pub qualifies-means-of : Says (pair .cells) (pair .statements) (qualifying (after .library) (after .netlist))
-  qualifies-means-of = qualifying-says accepted-holds
+-- Of the tables that it leaves, the answer tells of which theorems of K8 it is.
+qualifies-means-of : (g : Given) → Checked g → (before after : Lent) (said : Read Summary) → Promised g before after said
+    → (pair : PairRead g) (s : Summary) → said ≡ read s
+    → Says (pair .cells) (pair .statements) (qualifying (after .library) (after .netlist))
+qualifies-means-of g checked before after said p pair s e = qualifying-says (accepted-held g checked before after said p pair s e .holds)
 
 -- Of two texts: behind the promise of `analyse`.
 pub qualifies-means : (lib net : List ℕ) (before after : Lent) (said : Read Summary) → Promised (givenTexts lib net) before after said

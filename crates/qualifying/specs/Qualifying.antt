@@ -10,10 +10,10 @@ use lib.ListN.{getD}
 use Rattle.reading.specs.Choice.{pick}
 use Rattle.cell_library.specs.Cells.{Cell}
 use Rattle.netlist.specs.Netlist.{Gate, Statement}
+use Rattle.netlist.specs.Gates.{gatesHeld}
 use Rattle.behaviour.specs.Loops.{ReadOnce}
 use Rattle.behaviour.specs.Built.{Qualifies}
 use Rattle.generated_cells.specs.Words.{generatedAt}
-use Rattle.loops.specs.Held.{gatesHeld}
 use Rattle.loops.specs.Settling.{withoutLoops, readOnce}
 
 -- "built only of cells that K6 generates, constants among them"

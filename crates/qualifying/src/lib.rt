@@ -4,26 +4,16 @@
 //
 // Open to others: `qualifies`. It has no condition.
 use generated_cells::is_generated;
-use loops::gate_count;
 use loops::read_once;
 use loops::without_loops;
+use netlist::gates::cell_of;
+use netlist::gates::count;
 use table::put;
 use table::word;
 ghost use mathlib.Core.Path.{_≡_};
-ghost use Prim.Native.Nat.{_<_};
-ghost use lib.ListN.{length, getD};
-ghost use Rattle.sizes.specs.Sizes as Size;
-ghost use Rattle.sizes.specs.Places.{gatePlace};
 ghost use Rattle.generated_cells.specs.Words.{generatedAt};
-ghost use Rattle.loops.specs.Held.{gatesHeld};
+ghost use Rattle.netlist.specs.Gates.{gatesHeld};
 ghost use Rattle.qualifying.specs.Qualifying.{allGenerated, qualifying, Known, Judged};
-
-fn cell_of(netlist: &[u32], gate: usize) -> u32
-    requires { ⌜ gate < Size.gates ⌝ }
-    ensures { λ r. ⌜ r ≡ getD (now (netlist .entry)) (gatePlace gate) 0 ⌝ }
-{
-    word(netlist, sizes::GATES_AT + gate * sizes::GATE_WORDS)
-}
 
 // Whether a cell is generated; one that was found to be is not looked at again.
 fn judge(library: &[u32], cell: u32, known: &mut [u32]) -> bool
@@ -44,7 +34,7 @@ fn judge(library: &[u32], cell: u32, known: &mut [u32]) -> bool
 fn all_generated(library: &[u32], netlist: &[u32]) -> bool
     ensures { λ r. ⌜ r ≡ allGenerated (now (library .entry)) (gatesHeld (now (netlist .entry))) ⌝ }
 {
-    let gates = gate_count(netlist);
+    let gates = count(netlist);
     let mut known = [0u32; sizes::CELLS];
     let mut gate = 0;
     while gate < gates {

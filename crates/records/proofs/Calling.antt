@@ -22,17 +22,19 @@ use Rattle.netlist.proofs.Bounds.{admitted-within}
 use Rattle.netlist.proofs.Opening.{declared-read}
 use Rattle.netlist.proofs.Laws.{admitted-sound}
 use Rattle.netlist.proofs.Sounding.{sound-none}
-use Rattle.sweep.specs.Ready.{Ready}
-use Rattle.outcome.specs.declared.Progress.{Progress}
-use Rattle.outcome.specs.declared.Progress.the-variants.{Unrefused}
+use Rattle.calculation.specs.Stored.{Ready}
+use Rattle.read_pair.specs.declared.Progress.{Progress}
+use Rattle.read_pair.specs.declared.Progress.the-variants.{Unrefused}
 use Rattle.outcome.specs.declared.Summary.{Summary}
 use Rattle.outcome.specs.Answer.{lentOf}
 use Rattle.outcome.specs.Demands.{Promised}
-use Rattle.outcome.specs.Outcome.{Given, Lent, entry, tableShort, textLong}
-use Rattle.outcome.specs.Progress.{entryBy, Begun, Finished}
+use Rattle.outcome.specs.Outcome.{Given, Lent, entry, entryBy, tableShort, textLong}
 use Rattle.outcome.proofs.Checking.{Checked}
 use Rattle.outcome.proofs.Entering.{Entered, entered}
-use Rattle.outcome.proofs.Promising.{NetlistRead, Reached, unrefused-entry, reached, ready, promised}
+use Rattle.read_pair.specs.Progress.{Begun, Reached}
+use Rattle.read_pair.proofs.Reached.{NetlistRead, unrefused-entry, reached, ready}
+use Rattle.conclusion.specs.Finished.{Finished}
+use Rattle.conclusion.proofs.Promising.{promised}
 use Rattle.records.specs.declared.Record.{Record}
 use Rattle.records.specs.Records.{recordForms, recordStatements, fromRecords}
 use Rattle.records.specs.Walk.{declaredProgress, Walked}
@@ -92,7 +94,7 @@ module _ (text lib ts num rep : List ℕ) (recs : List Record) where
     lengths : s ≡ Unrefused → Entered (length text) 0 (length lib) (length ts) (length num)
     lengths o = entered _ _ _ _ _ (unrefused-entry _ (library text) (sym (p .begins .answers) ∙ o))
 
-    netlist-read : NetlistRead given before lib′ s ts″ (declaredProgress ts″ s′)
+    netlist-read : NetlistRead given lib ts lib′ s ts″ (declaredProgress ts″ s′)
     unfolding givenRecords
     netlist-read =
         record {
@@ -108,14 +110,17 @@ module _ (text lib ts num rep : List ℕ) (recs : List Record) where
               declared-end recs cells (drop Size.netlist ts) ts″ s′ (ended .0) (ended .1);
         }
 
-    progress : Reached given before lib′ ts″ (declaredProgress ts″ s′)
+    progress : Reached given (entry given before) lib ts lib′ ts″ (declaredProgress ts″ s′)
     unfolding givenRecords
     progress =
-        reached given before lib′ s (rw (← records-entry) (p .begins .answers)) (rw (← records-entry) (p .begins .leaves)) ts″ (declaredProgress ts″ s′) netlist-read
+        reached given lib ts (entry given before) lib′ s (rw (← records-entry) (p .begins .answers)) (rw (← records-entry) (p .begins .leaves)) ts″
+        (declaredProgress ts″ s′) netlist-read
 
     -- What the call's proof cites: what `close` asks, and the promise.
     pub ready-then : declaredProgress ts″ s′ ≡ Unrefused → Ready lib′ ts″ num
-    ready-then = ready given before checked lib′ ts″ (declaredProgress ts″ s′) progress (λ e. entered _ _ _ _ _ (records-entry ∙ e) .numbers-long)
+    ready-then =
+        ready given lib ts checked lib′ ts″ (entry given before) num (declaredProgress ts″ s′) progress
+        (λ e. entered _ _ _ _ _ (records-entry ∙ e) .numbers-long)
 
     pub promised-then : length lib′ ≡ length lib → length ts″ ≡ length ts → (after : Lent) (said : Read Summary)
         → Finished (declaredProgress ts″ s′) (lentOf lib′ ts″ num rep) after said → Promised given before after said

@@ -28,10 +28,10 @@ use Rattle.netlist.specs.Admitting.{StandsFor, Admits, refusalOf, extended, wor
 use Rattle.netlist.proofs.Admitting.{admitted-more, admitted-refused}
 use Rattle.netlist.proofs.Opening.{declared-read, some-same}
 use Rattle.netlist.proofs.Sounding.{sound-none, sound-next}
-use Rattle.outcome.specs.declared.Progress.{Progress}
-use Rattle.outcome.specs.declared.Progress.the-variants.{Unrefused, AtEntry, Later}
-use Rattle.outcome.specs.Progress.{progressOf}
-use Rattle.outcome.proofs.Promising.{later-shut}
+use Rattle.read_pair.specs.declared.Progress.{Progress}
+use Rattle.read_pair.specs.declared.Progress.the-variants.{Unrefused, AtEntry, Later}
+use Rattle.read_pair.specs.Progress.{progressOf}
+use Rattle.read_pair.proofs.Reached.{later-shut}
 use Rattle.records.specs.declared.Record.{Record}
 use Rattle.records.specs.Records.{allZero, pinsBefore, endsInZeros, markForm, gateForm, recordForm, recordForms, recordStatements, fromRecords}
 use Rattle.records.specs.Walk.{progressAfter, RecordChecked, Stepped, declaredProgress, Admitted, WalkReached, Walked}

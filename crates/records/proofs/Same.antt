@@ -20,7 +20,7 @@ use Rattle.netlist.specs.declared.Rules.the-variants.{New}
 use Rattle.netlist.specs.Netlist.{Statement, admitted, lineForms, textStatements, declared, netlist, netlist-open}
 use Rattle.outcome.specs.Demands.{Promised}
 use Rattle.outcome.specs.declared.Summary.{Summary}
-use Rattle.outcome.specs.Outcome.{Lent, givenBy, givenTexts, textLong, tableShort, conclude, reading, entry, outcome, answer, left, leftFrom}
+use Rattle.outcome.specs.Outcome.{Lent, Pair, pairOf, givenBy, givenTexts, textLong, tableShort, conclude, readPair, reading, entry, outcome, answer, left, leftFrom}
 use Rattle.records.specs.declared.Record.{Record}
 use Rattle.records.specs.Records.{allZero, pinsBefore, endsInZeros, markForm, gateForm, recordForm, recordForms, recordStatements, fromRecords}
 use Rattle.records.specs.Outcome.{givenRecords}
@@ -35,14 +35,19 @@ module _ (lib net : List ℕ) (rs : List Record) (same : SaySame lib net rs) whe
   unfolding SaySame fromRecords recordStatements netlist textStatements
   same-statements cells e = ap (λ (ws : List (Option Statement)). admitted 1 cells [] ws >>= declared New) (same cells e)
 
-  by-library : (space : ℕ) (o : Read (List Cell)) → library lib ≡ o → (o >>= λ cells. fromRecords rs cells >>= λ ss. conclude cells ss space) ≡ (o >>= λ cells. netlist New cells net >>= λ ss. conclude cells ss space)
+  by-library : (o : Read (List Cell)) → library lib ≡ o
+      → (o >>= λ cells. fromRecords rs cells >>= λ ss. read (pairOf cells ss)) ≡ (o >>= λ cells. netlist New cells net >>= λ ss. read (pairOf cells ss))
   unfolding _>>=_
-  by-library space (refused n l) e = refl
-  by-library space (read cells) e = ap (λ (r : Read (List Statement)). r >>= λ ss. conclude cells ss space) (same-statements cells e)
+  by-library (refused n l) e = refl
+  by-library (read cells) e = ap (λ (r : Read (List Statement)). r >>= λ ss. read (pairOf cells ss)) (same-statements cells e)
+
+  same-pair : readPair (givenRecords lib rs) ≡ readPair (givenTexts lib net)
+  unfolding readPair givenRecords givenBy
+  same-pair = by-library (library lib) refl
 
   same-reading : (space : ℕ) → reading (givenRecords lib rs) space ≡ reading (givenTexts lib net) space
-  unfolding reading givenRecords givenBy
-  same-reading space = by-library space (library lib) refl
+  unfolding reading
+  same-reading space = ap (λ (r : Read Pair). r >>= λ p. conclude (p .cells) (p .statements) space) same-pair
 
   module _ (short : length net ≤ Size.textBytes) where
     same-long : givenRecords lib rs .long ≡ givenTexts lib net .long

@@ -6,10 +6,10 @@ use Prim.Native.Nat.{ℕ}
 use lib.ListN.{length}
 use Rattle.sizes.specs.Sizes as Size
 use Rattle.table.specs.Blocks.{cleared}
-use Rattle.outcome.specs.declared.Progress.{Progress}
-use Rattle.outcome.specs.declared.Progress.the-variants.{Unrefused}
+use Rattle.read_pair.specs.declared.Progress.{Progress}
+use Rattle.read_pair.specs.declared.Progress.the-variants.{Unrefused}
 use Rattle.outcome.specs.Outcome.{Given, textLong}
-use Rattle.outcome.specs.Progress.{Begun}
+use Rattle.read_pair.specs.Progress.{Begun}
 use Rattle.records.specs.declared.Record.{Record}
 use Rattle.records.specs.Records.{fromRecords}
 

@@ -14,8 +14,8 @@ use Rattle.netlist.specs.Netlist.{Statement, admitted}
 use Rattle.netlist.specs.Layout.{netlistWords, NetlistHolds}
 use Rattle.netlist.specs.Admitting.{refusalOf, wordsAfter, someUndeclared}
 use Rattle.netlist.specs.Sound.{Sound}
-use Rattle.outcome.specs.declared.Progress.{Progress}
-use Rattle.outcome.specs.declared.Progress.the-variants.{Unrefused, AtEntry, Later}
+use Rattle.read_pair.specs.declared.Progress.{Progress}
+use Rattle.read_pair.specs.declared.Progress.the-variants.{Unrefused, AtEntry, Later}
 use Rattle.records.specs.declared.Record.{Record}
 use Rattle.records.specs.Records.{recordForm, recordForms, recordStatements}
 

@@ -3,14 +3,14 @@
 //
 // Open to others: the type `Record`, and `analyse_records`, which has the answer and the promises of
 // `analysis::analyse` over a list of records. It has no condition on its input.
+use conclusion::finish;
 use netlist::RawStatement;
 use netlist::admit;
 use netlist::line_bad;
 use netlist::some_undeclared;
 use outcome::Answer;
-use outcome::Progress;
-use outcome::begin;
-use outcome::finish;
+use read_pair::Progress;
+use read_pair::begin;
 use reading::Refusal;
 use table::clear;
 ghost use mathlib.Core.Path.{_≡_};
@@ -20,7 +20,7 @@ ghost use Rattle.netlist.specs.Netlist.{anyLineBad};
 ghost use Rattle.netlist.specs.Admitting.{StandsFor};
 ghost use Rattle.outcome.specs.Answer.{answerRead, lentOf};
 ghost use Rattle.outcome.specs.Demands.{Promised};
-ghost use Rattle.outcome.specs.Progress.{ReadyIfUnrefused, Finished};
+ghost use Rattle.conclusion.specs.Finished.{ReadyIfUnrefused, Finished};
 ghost use Rattle.records.specs.Outcome.{givenRecords, Prepared};
 ghost use Rattle.records.specs.Records.{allZero, pinsBefore, recordForm};
 ghost use Rattle.records.specs.Walk.{Stepped, declaredProgress, Walked};

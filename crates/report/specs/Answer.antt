@@ -1,22 +1,20 @@
 -- The arguments and the answer of `write_report`, as the definitions of `Report` have them.
 -- Assumes nothing.
-use mathlib.Core.Bool.{Bool, not}
+use mathlib.Core.Bool.{Bool}
 use mathlib.Core.List.{List}
 use mathlib.Core.Path.{_≡_}
 use Prim.Native.Nat.{ℕ}
-use lib.Dec.{eqb}
-use lib.ListN.{getD}
-use Rattle.sizes.specs.Places.{mentionPlace}
 use Rattle.reading.specs.Numbers as No
 use Rattle.reading.specs.Refusal.{Read, refused, read}
+use Rattle.netlist.specs.Lines.{mentionAt}
 use Rattle.report.specs.Report.{reportBytes, written, reportAfter}
 use Rattle.calculation.specs.declared.Counts.{Counts}
 use Rattle.report.specs.declared.Written.{Written}
 use Rattle.report.specs.declared.Written.the-variants.{Length, TooLong}
 
--- "Lines mentioned in the netlist": those that the netlist table marks; 0 is no mark.
+-- "Lines mentioned in the netlist": those of which the netlist table says so.
 unfoldable pub marked : List ℕ → ℕ → Bool
-marked netlist l = not (eqb (getD netlist (mentionPlace l) 0) 0)
+marked netlist l = mentionAt netlist l
 
 -- The report of a call's arguments.
 abbrev pub reportOf : List ℕ → List ℕ → Counts → List ℕ

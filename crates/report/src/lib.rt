@@ -14,6 +14,7 @@ ghost use Rattle.writer.specs.Put.{Put};
 ghost use Rattle.report.specs.Report.{costBytes, costsFrom, lineBytes, linesBytes, sweepsBytes};
 ghost use Rattle.report.specs.Answer.{marked, reportOf, Reported};
 use calculation::Counts;
+use netlist::lines;
 use writer::put_byte;
 use writer::put_bytes;
 use writer::put_decimal;
@@ -75,7 +76,7 @@ fn put_line(report: &mut [u8], at: usize, numbers: &[u32], row: u16) -> usize
 fn mentioned(netlist: &[u32], row: u16) -> bool
     ensures { λ r. ⌜ r ≡ marked (now (netlist .entry)) (row + 1) ⌝ }
 {
-    table::word(netlist, sizes::MENTIONS_AT + (row as usize + 1)) != 0
+    lines::mentioned(netlist, row as u32 + 1)
 }
 
 fn put_row(report: &mut [u8], at: usize, netlist: &[u32], numbers: &[u32], row: u16) -> usize

@@ -20,13 +20,13 @@ use Rattle.outcome.specs.Outcome as O
 use Rattle.outcome.proofs.Bounds.{refusal-told}
 use Rattle.outcome.proofs.Checking.{texts-checked}
 use Rattle.outcome.proofs.Fitting.{short-refused}
-use Rattle.analysis.specs.Own.{ownTables}
+use Rattle.outcome.specs.Own.{ownTables}
 use Rattle.scoap_c.specs.Coded.{codeLines, numberOf, Decoded, Seen, Coded}
 
 pub decoded : (number line : ℕ) → 1 ≤ number → line < codeLines → Decoded (number * codeLines + line) number line
 decoded number line h k = record { above = omega arith; numberIs = omega arith; lineIs = omega arith }
 
-own-fit : (report : List ℕ) → O.tableShort (ownTables report) ≡ false
+pub own-fit : (report : List ℕ) → O.tableShort (ownTables report) ≡ false
 unfolding O.tableShort ownTables
 own-fit report = refl
 

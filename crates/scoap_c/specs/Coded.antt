@@ -17,7 +17,7 @@ use Rattle.report.specs.Report.{reportBytes, longestReport}
 use Rattle.outcome.specs.declared.Summary.{Summary}
 use Rattle.outcome.specs.Demands.{Reported, PairRead, Promised}
 use Rattle.outcome.specs.Outcome as O
-use Rattle.analysis.specs.Own.{ownTables}
+use Rattle.outcome.specs.Own.{ownTables}
 
 -- "the refusal number times 1,000,000 plus the line"
 abbrev pub codeLines : ℕ

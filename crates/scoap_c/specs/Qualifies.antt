@@ -1,28 +1,36 @@
 -- What the call for C answers that tells of which netlists document 02, K8, speaks.
 -- Assumes nothing.
-use mathlib.Core.List.{List}
+use mathlib.Core.List.{List, []}
+use mathlib.Core.Logic.{_↔_}
 use mathlib.Core.Path.{_≡_}
-use Prim.Native.Nat.{ℕ, _+_, _*_}
-use lib.ListN.{replicate}
-use Rattle.sizes.specs.Sizes as Size
-use Rattle.reading.specs.Refusal.{Read, refused, read}
-use Rattle.outcome.specs.Demands.{PairRead}
+use Prim.Native.Nat.{ℕ, _+_, _*_, _/_, _≤_}
+use Rattle.reading.specs.Numbers as No
+use Rattle.reading.specs.Refusal.{Read, refused, read, _>>_}
+use Rattle.cell_library.specs.Layout.{libraryWords}
+use Rattle.netlist.specs.Layout.{netlistWords}
 use Rattle.outcome.specs.Outcome as O
-use Rattle.analysis.specs.Own.{ownTables}
+use Rattle.outcome.specs.Own.{ownTables}
 use Rattle.qualifying.specs.Qualifying.{qualifying, Says}
 use Rattle.scoap_c.specs.Coded.{codeLines, Decoded}
 
--- Tables of its own, and a report buffer that is long enough for every report.
-unfoldable pub ownLent : O.Lent
-ownLent = ownTables (replicate Size.reportBytes 0)
+-- What the two texts come to, on tables of its own: the entry, then the library and the netlist. Nothing is calculated or reported.
+unfoldable pub qualifiesRead : List ℕ → List ℕ → Read O.Pair
+qualifiesRead lib net = O.entry (O.givenTexts lib net) (ownTables []) >> O.readPair (O.givenTexts lib net)
 
--- "the refusal number times 1,000,000 plus the line", or what the tables say that the analysis leaves.
-unfoldable pub qualifiesNumber : Read O.Accepted → O.Lent → ℕ
-qualifiesNumber (refused number line) m = number * codeLines + line
-qualifiesNumber (read a) m = qualifying (m .library) (m .netlist)
+-- "the refusal number times 1,000,000 plus the line", or what is said of the tables of what was read.
+unfoldable pub qualifiesNumber : Read O.Pair → ℕ
+qualifiesNumber (refused number line) = number * codeLines + line
+qualifiesNumber (read p) = qualifying (libraryWords (p .cells)) (netlistWords (p .statements))
 
--- Its number by equation; what it says of an accepted pair; and that a refusal's number and line are told by the number.
+-- Its number by equation; what it says of an accepted pair; that a refusal's number and line are told by the number; and which
+-- numbers there are.
 pub record QualifiesCoded (lib net : List ℕ) (said : ℕ) : Type 0 where
-  pub answers : said ≡ qualifiesNumber (O.outcome (O.givenTexts lib net) ownLent) (O.left (O.givenTexts lib net) ownLent)
-  pub says : (a : O.Accepted) → O.outcome (O.givenTexts lib net) ownLent ≡ read a → Says (a .cells) (a .statements) said
-  pub refusal : (number line : ℕ) → O.outcome (O.givenTexts lib net) ownLent ≡ refused number line → Decoded said number line
+  pub answers : said ≡ qualifiesNumber (qualifiesRead lib net)
+  pub says : (p : O.Pair) → qualifiesRead lib net ≡ read p → Says (p .cells) (p .statements) said
+  pub refusal : (number line : ℕ) → qualifiesRead lib net ≡ refused number line → Decoded said number line
+  -- 0 to 2 for an accepted library and netlist, and for no other.
+  pub accepted : (said ≤ 2) ↔ ((p : O.Pair) × (qualifiesRead lib net ≡ read p))
+  -- "1 a lent table below its published size": its own tables are not.
+  pub tableShort : said / codeLines ≡ No.tableShort → ⊥
+  -- "17 report longer than its buffer": there is no report.
+  pub reportLong : said / codeLines ≡ No.reportLong → ⊥

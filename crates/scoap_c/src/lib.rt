@@ -5,11 +5,17 @@
 // condition on their input; specs/Coded.antt, specs/Plan.antt, specs/Cell.antt, specs/BuiltIn.antt and
 // specs/Qualifies.antt say what they promise.
 use generator::Generated;
+use netlist::Rules;
 use outcome::Answer;
 use planning::Written;
+use read_pair::Progress;
+use read_pair::read_texts;
+use reading::Refusal;
+ghost use mathlib.Core.Path.{_≡_};
+ghost use Prim.Native.Nat.{_+_, _*_, _<_};
 ghost use Rattle.scoap_c.specs.BuiltIn.{BuiltInCoded};
 ghost use Rattle.scoap_c.specs.Cell.{CellCoded};
-ghost use Rattle.scoap_c.specs.Coded.{Coded};
+ghost use Rattle.scoap_c.specs.Coded.{codeLines, Coded};
 ghost use Rattle.scoap_c.specs.Plan.{PlanCoded};
 ghost use Rattle.scoap_c.specs.Qualifies.{QualifiesCoded};
 
@@ -102,28 +108,35 @@ pub extern "C" fn scoap_plan(
     }
 }
 
+// A refusal as one number.
+fn refusal_code(r: Refusal) -> u64
+    requires { ⌜ r .line < codeLines ⌝ }
+    ensures { λ n. ⌜ n ≡ r .number * codeLines + r .line ⌝ }
+{
+    r.number as u64 * CODE_LINES + r.line as u64
+}
+
 // For C: of which netlists document 02, K8, speaks, on tables of its own: 0, 1 or 2 as `qualifies` answers, else
-// the refusal number times 1,000,000 plus the line.
+// the refusal number times 1,000,000 plus the line. It only reads: nothing is calculated, and nothing reported.
 #[no_mangle]
 pub extern "C" fn scoap_qualifies(lib: &[u8], net: &[u8]) -> u64
     ensures { λ r. ⌜ QualifiesCoded (now (lib .entry)) (now (net .entry)) r ⌝ }
 {
     let mut library = [0u32; sizes::LIBRARY];
     let mut netlist = [0u32; sizes::NETLIST];
-    let mut numbers = [0u32; sizes::NUMBERS];
-    let mut report = [0u8; sizes::REPORT_BYTES];
-    let answer = analysis::analyse_into(
+    let progress = read_texts(
+        Rules::New,
         lib,
         net,
         &mut library,
         &mut netlist,
-        &mut numbers,
-        &mut report,
+        sizes::NUMBERS,
         0,
         0,
     );
-    match answer {
-        Answer::Accepted(_s) => qualifying::qualifies(&library, &netlist) as u64,
-        Answer::Refused(r) => r.number as u64 * CODE_LINES + r.line as u64,
+    match progress {
+        Progress::AtEntry(r) => refusal_code(r),
+        Progress::Later(r) => refusal_code(r),
+        Progress::Unrefused => qualifying::qualifies(&library, &netlist) as u64,
     }
 }

@@ -138,7 +138,7 @@ netlist = gatesAt + gates * gateWords
 abbrev pub numbers : ℕ
 numbers = lines * costs
 
--- ---- the arrays of crate `awake`
+-- ---- the set of crate `awake`
 
 -- A bit for each gate, in words.
 abbrev pub wordBits : ℕ
@@ -147,12 +147,31 @@ wordBits = 64
 abbrev pub awakeWords : ℕ
 awakeWords = gates / wordBits + 1
 
+-- ---- the links of crate `links`
+
 -- A number for each line, and one for each pin of each gate. Both count from 1: place 0 is for none.
 abbrev pub linePlaces : ℕ
 linePlaces = 1 + lines
 
 abbrev pub pinPlaces : ℕ
 pinPlaces = 1 + gates * pins
+
+-- For each line the last pin that reads it, for each pin the one before it that reads the same line, for each line the gate
+-- that drives it, and for each gate, from 0, whether its pins are tied.
+abbrev pub readersAt : ℕ
+readersAt = 0
+
+abbrev pub nextAt : ℕ
+nextAt = readersAt + linePlaces
+
+abbrev pub driversAt : ℕ
+driversAt = nextAt + pinPlaces
+
+abbrev pub tiedAt : ℕ
+tiedAt = driversAt + linePlaces
+
+abbrev pub links : ℕ
+links = tiedAt + gates
 
 -- ---- the marks of crate `trace`
 

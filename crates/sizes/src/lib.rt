@@ -95,17 +95,31 @@ pub const NETLIST: usize = GATES_AT + GATES * GATE_WORDS;
 
 pub const NUMBERS: usize = LINES * COSTS;
 
-// ---- the arrays of crate `awake`
+// ---- the set of crate `awake`
 
 // A bit for each gate, in words.
 pub const WORD_BITS: usize = 64;
 
 pub const AWAKE_WORDS: usize = GATES / WORD_BITS + 1;
 
+// ---- the links of crate `links`
+
 // A number for each line, and one for each pin of each gate. Both count from 1: place 0 is for none.
 pub const LINE_PLACES: usize = 1 + LINES;
 
 pub const PIN_PLACES: usize = 1 + GATES * PINS;
+
+// For each line the last pin that reads it, for each pin the one before it that reads the same line, for
+// each line the gate that drives it, and for each gate, from 0, whether its pins are tied.
+pub const READERS_AT: usize = 0;
+
+pub const NEXT_AT: usize = READERS_AT + LINE_PLACES;
+
+pub const DRIVERS_AT: usize = NEXT_AT + PIN_PLACES;
+
+pub const TIED_AT: usize = DRIVERS_AT + LINE_PLACES;
+
+pub const LINKS: usize = TIED_AT + GATES;
 
 // ---- the marks of crate `trace`
 

@@ -15,6 +15,7 @@ use Rattle.cell_library.specs.Cells.{Cell}
 use Rattle.cell_library.specs.Layout.{libraryWords}
 use Rattle.netlist.specs.Netlist.{Gate, Statement, gatesOf, isInput, isOutput, isOpen, claimed}
 use Rattle.netlist.specs.Layout.{netlistWords, driverWord, outputWord}
+use Rattle.netlist.specs.Gates.{noGate}
 use Rattle.netlist.proofs.Places.{netlist-count, driver-word, output-word}
 use Rattle.calculation.specs.Prices.{inputCost, pricesOf}
 use Rattle.calculation.specs.Nodes.{Kind, kindNumber}
@@ -23,7 +24,7 @@ use Rattle.calculation.specs.Ways as W
 use Rattle.calculation.specs.Calculation.{startLine, startLines, startAt, start}
 use Rattle.calculation.specs.Acceptance.{BothSound}
 use Rattle.gates.specs.Tables.{byRole, gateVisit}
-use Rattle.gates.proofs.Bridge.{noGate, pins-number, visit-is}
+use Rattle.gates.proofs.Bridge.{pins-number, visit-is}
 use Rattle.starting.specs.Start.{startNumber, lineStart, linesStart}
 use Rattle.visits.specs.Order.{gateVisits}
 use Rattle.sweep.specs.Order.{sweepVisits}

@@ -1,17 +1,13 @@
--- The lines of the gates, at the tables of accepted cells and statements: which gates need a line, for the arrays that tell it.
+-- The lines of the gates, at the tables of accepted cells and statements: which gates need a line, for the links that tell it.
 -- Assumes nothing.
 use mathlib.Core.List.{List, _∷_, _++_, List·Memᴰ, Memᴰ·map, Memᴰ·of-map}
 use mathlib.Core.Path.{_≡_, refl, sym, ap, _∙_, subst}
 use Prim.Native.Nat.{ℕ, zero, suc, _+_, _-_, _≤_, _<_}
-use native.Mathlib.Decide.{decLt}
 use native.Mathlib.Omega.{arith}
-use lib.ListN.{length, getD, take, drop, List·getD-eq-default}
-use lib.Seq.{getD-take, getD-drop}
+use lib.ListN.{length, getD}
 use Rattle.sizes.specs.Sizes as Size
-use Rattle.sizes.specs.Places.{gatePlace, settingPlace, observingPlace}
+use Rattle.sizes.specs.Places.{settingPlace, observingPlace}
 use Rattle.reading.specs.Choice.{pick}
-use Rattle.reading.proofs.Laws.{each-at}
-use Rattle.table.proofs.Places.{getD-fitted}
 use Rattle.plans.specs.System.{Way, Visit}
 use Rattle.plans.specs.Idle.{Needs}
 use Rattle.cell_library.specs.Cells.{Row, Cell, Column}
@@ -19,6 +15,9 @@ use Rattle.cell_library.specs.Layout.{libraryWords}
 use Rattle.netlist.specs.Netlist.{Gate, Statement, gatesOf}
 use Rattle.netlist.specs.Layout.{netlistWords}
 use Rattle.netlist.specs.Sound.{InRange, GateSound, DrivenOnce}
+use Rattle.netlist.specs.Gates.{gateLine, gateLines, noGate}
+use Rattle.netlist.proofs.HeldGates.{line-at}
+use Rattle.netlist.proofs.HeldGates as Held
 use Rattle.netlist.proofs.Laws.{gate-sound, driven-once}
 use Rattle.netlist.proofs.Places.{netlist-count}
 use Rattle.calculation.specs.Acceptance.{BothSound}
@@ -28,12 +27,11 @@ use Rattle.calculation.specs.Ways as W
 use Rattle.calculation.proofs.Accepting.{row-observes, gate-cell, gate-pin, role-row}
 use Rattle.calculation.proofs.Needing.{setting-reads, observing-drives}
 use Rattle.calculation.proofs.Visiting.{getD-listed, Sets, value-from, pins-from, asks-observe, usable-from}
-use Rattle.awake.specs.Lines.{gateLine, LinesStand, Chained, Driven}
-use Rattle.gates.specs.Tables.{byRole, gatePins, gateLines, visitPlace, gateVisit}
-use Rattle.gates.proofs.Bridge.{noGate, netlist-room, pins-number, lines-are}
-use Rattle.gates.proofs.Naming.{set-node, observe-node, linesOf}
+use Rattle.gates.specs.Tables.{byRole, gatePins, visitPlace, gateVisit}
+use Rattle.gates.proofs.Bridge.{pins-number}
+use Rattle.gates.proofs.Naming.{set-node, observe-node}
 use Rattle.visits.specs.Order.{gateVisits}
-use Rattle.visits.specs.Waking.{NeedsLine, visitLine, Linked}
+use Rattle.visits.specs.Waking.{NeedsLine, visitLine, NeedsByLine}
 use Rattle.visits.specs.Waking as Table
 use Rattle.sweep.proofs.Bridge.{values-are, pin-visit, pins-are}
 
@@ -43,10 +41,6 @@ once-at (g ∷ gs) once zero zero a b e = refl
 once-at (g ∷ gs) once zero (suc j) a b e = absurd (once .0 (getD gs j noGate) (getD-listed gs j noGate (omega arith)) e)
 once-at (g ∷ gs) once (suc i) zero a b e = absurd (once .0 (getD gs i noGate) (getD-listed gs i noGate (omega arith)) (sym e))
 once-at (g ∷ gs) once (suc i) (suc j) a b e = ap suc (once-at gs (once .1) i j (omega arith) (omega arith) e)
-
-line-at : (netlist : List ℕ) (g i : ℕ) → i < Size.gateLines → getD (gateLines netlist g) i 0 ≡ gateLine netlist g i
-unfolding gateLines
-line-at netlist g i h = getD-take Size.gateLines (drop (gatePlace g + 1) netlist) i 0 h ∙ getD-drop (gatePlace g + 1) netlist i 0
 
 module _ (cells : List Cell) (ss : List Statement) (sound : BothSound cells ss) (behind past : List ℕ) where
   abbrev library : List ℕ
@@ -73,38 +67,10 @@ module _ (cells : List Cell) (ss : List Statement) (sound : BothSound cells ss) 
 
     -- The gate's own line, and that of a pin.
     own-line : gateLine netlist g 0 ≡ gate g .line
-    own-line = sym (line-at netlist g 0 (omega arith)) ∙ ap (λ (ls : List ℕ). getD ls 0 0) (lines-are cells ss sound behind past g inside)
+    own-line = Held.own-line (sound .netlist) past g inside
 
     pin-line : (i : ℕ) → i < Size.pins → gateLine netlist g (i + 1) ≡ getD (gate g .pins) i 0
-    pin-line i b =
-        let e : i + 1 ≡ suc i = omega arith in
-        sym (line-at netlist g (i + 1) (omega arith))
-        ∙ ap (λ (ls : List ℕ). getD ls (i + 1) 0) (lines-are cells ss sound behind past g inside)
-        ∙ ap (λ (n : ℕ). getD (linesOf (gate g)) n 0) e
-        ∙ getD-fitted 0 Size.pins (gate g .pins) i b
-
-    pin-most : (i : ℕ) → getD (gate g .pins) i 0 ≤ Size.lines
-    unfolding InRange
-    pin-most i = go (decLt i (length (gate g .pins)))
-      where
-        go : Dec (i < length (gate g .pins)) → getD (gate g .pins) i 0 ≤ Size.lines
-        go (yes b) = each-at InRange (gate g .pins) i 0 b (is-sound .pins) .1
-        go (no b) = rw (List·getD-eq-default (gate g .pins) 0 {n = i} (omega arith)) (omega arith)
-
-    line-most : (i : ℕ) → i < Size.gateLines → gateLine netlist g i ≤ Size.lines
-    unfolding InRange
-    line-most zero b = rw own-line (is-sound .line .1)
-    line-most (suc i) b =
-        let e : suc i ≡ i + 1 = omega arith in
-        rw e (rw (pin-line i (omega arith)) (pin-most i))
-
-  pub lines-stand : LinesStand netlist (getD netlist 0 0)
-  lines-stand =
-      record {
-        count = rw count (sound .netlist .few);
-        room = omega (arith, netlist-room cells ss sound behind past, count, sound .netlist .few);
-        most = λ g i h b. line-most g h i b;
-      }
+    pin-line = Held.pin-line (sound .netlist) past g inside
 
   once : Table.DrivenOnce netlist (getD netlist 0 0)
   once g h a b e =
@@ -192,23 +158,19 @@ module _ (cells : List Cell) (ss : List Statement) (sound : BothSound cells ss) 
         ap (observingPlace (kindNumber k)) (line-at netlist g 0 (omega arith) ∙ own-line g a) ∙ observe-node k (gate g .line) in
         rw place (row-needs w (subst (λ (v : Visit). List·Memᴰ w (v .ways)) (pin-visit cells ss sound behind past k g (inside g a) p b) m))
 
-  pub reads-linked : (k : Kind) {first next driver : List ℕ} → Chained netlist (getD netlist 0 0) first next → Driven netlist (getD netlist 0 0) driver → Linked 0 (kindNumber k) library netlist first next driver
+  pub reads-needs : (k : Kind) → NeedsByLine 0 (kindNumber k) library netlist
   unfolding byRole pick
-  reads-linked k c d =
+  reads-needs k =
       record {
-        chained = c;
-        driven = d;
         once = once;
         needs = λ g h i a b t v m n. reads k g h i a b t v m n;
         leads = λ g i a b r. absurd (r refl);
       }
 
-  pub drives-linked : (k : Kind) {first next driver : List ℕ} → Chained netlist (getD netlist 0 0) first next → Driven netlist (getD netlist 0 0) driver → Linked 1 (kindNumber k) library netlist first next driver
+  pub drives-needs : (k : Kind) → NeedsByLine 1 (kindNumber k) library netlist
   unfolding byRole pick
-  drives-linked k c d =
+  drives-needs k =
       record {
-        chained = c;
-        driven = d;
         once = once;
         needs = λ g h i a b t v m n. drives k g h i a b t v m n;
         leads = λ g i a b r. output-needed k g i a (rw (pins-number cells ss sound behind past g (inside g a)) at b);

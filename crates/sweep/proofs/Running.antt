@@ -6,29 +6,29 @@ use mathlib.Core.Path.{_≡_, sym, _∙_}
 use Prim.Native.Nat.{ℕ, suc, _+_, _-_, _^_, _≤_, _<_}
 use native.Mathlib.Omega.{arith}
 use Rattle.plans.specs.System.{Visit}
-use Rattle.plans.specs.Sweep.{Rule, Settles}
+use Rattle.plans.specs.Sweep.{lower, Settles}
 use Rattle.calculation.specs.Changes.{Going}
 use Rattle.visits.specs.Renewed.{Swept}
 use Rattle.sweep.specs.Runs.{Runs}
-use Rattle.calculation.proofs.Sweeping.{going-first, going-on, going-ends, going-within}
+use Rattle.calculation.proofs.Sweeping.{changes-lower, going-first, going-on, going-ends, going-within}
 
 -- Before the sweep that counts `count`, all sweeps before it changed something.
-abbrev pub Before : Rule → List Visit → List ℕ → ℕ → List ℕ → Type 0
-Before rule vs xs count ys = (1 ≤ count) × Going rule vs xs (count - 1) ys
+abbrev pub Before : List Visit → List ℕ → ℕ → List ℕ → Type 0
+Before vs xs count ys = (1 ≤ count) × Going lower vs xs (count - 1) ys
 
-pub run-first : (rule : Rule) (vs : List Visit) (xs : List ℕ) → Before rule vs xs 1 xs
-run-first rule vs xs = (omega arith, going-first rule vs xs)
+pub run-first : (vs : List Visit) (xs : List ℕ) → Before vs xs 1 xs
+run-first vs xs = (omega arith, going-first lower vs xs)
 
-module _ {rule : Rule} {vs : List Visit} {xs ys zs : List ℕ} {count : ℕ} {changed : Bool} (r : Runs rule vs xs) (b : Before rule vs xs count ys) (s : Swept rule vs ys zs changed) where
-  pub run-on : changed ≡ true → Before rule vs xs (count + 1) zs
+module _ {vs : List Visit} {xs ys zs : List ℕ} {count : ℕ} {changed : Bool} (r : Runs vs xs) (b : Before vs xs count ys) (s : Swept vs ys zs changed) where
+  pub run-on : changed ≡ true → Before vs xs (count + 1) zs
   run-on t =
       let e : count + 1 - 1 ≡ suc (count - 1) = omega arith in
-      (omega arith, rw (e, s .numbers) (going-on rule vs (r .flag) (b .1) (sym (s .flag) ∙ t)))
+      (omega arith, rw (e, s .numbers) (going-on lower vs (changes-lower vs) (b .1) (sym (s .flag) ∙ t)))
 
   pub run-fits : changed ≡ true → count + 1 < 2 ^ 32
   run-fits t = omega (arith, going-within (r .fuel) (r .bound) (r .within) (run-on t .1), r .small)
 
-  pub run-ends : changed ≡ false → Settles rule vs xs count zs
+  pub run-ends : changed ≡ false → Settles lower vs xs count zs
   run-ends t =
       let e : count ≡ suc (count - 1) = omega arith in
-      rw (e, s .numbers) (going-ends rule vs (r .flag) (b .1) (sym (s .flag) ∙ t))
+      rw (e, s .numbers) (going-ends lower vs (changes-lower vs) (b .1) (sym (s .flag) ∙ t))

@@ -8,34 +8,34 @@ use native.Mathlib.Omega.{arith}
 use lib.ListN.{getD}
 use Rattle.sizes.specs.Sizes as Size
 use Rattle.plans.specs.System.{Visit}
-use Rattle.plans.specs.Sweep.{at, Rule, sweep, Lowering}
+use Rattle.plans.specs.Sweep.{at, lower, sweep, Lowering.keeps}
 use Rattle.plans.specs.Idle.{Idles, inTurn, Skipped}
 use Rattle.plans.proofs.Laws.{made-watched, asleep-skipped, skipped-sweep}
 use Rattle.calculation.specs.Changes.{changes}
 use Rattle.calculation.proofs.Sweeping.{same-alters, changes-append}
 use Rattle.awake.specs.Turns.{AllAwake, Rested, NextAwake}
-use Rattle.visits.specs.Order.{ruleOf, turnVisits}
+use Rattle.visits.specs.Order.{turnVisits}
 use Rattle.visits.specs.Renewed.{Swept}
 use Rattle.visits.specs.Waking.{ChangesWoken}
-use Rattle.sweep.specs.Order.{firstGates, sweepVisits}
+use Rattle.sweep.specs.Order.{firstGates}
 use Rattle.sweep.specs.Waking.{Resting}
 
 -- Visits that are idle at the numbers change nothing.
-idle-flag : (rule : Rule) (vs : List Visit) (xs : List ℕ) → Idles rule xs vs → changes rule vs xs ≡ false
+idle-flag : (vs : List Visit) (xs : List ℕ) → Idles lower xs vs → changes lower vs xs ≡ false
 unfolding changes
-idle-flag rule [] xs h = refl
-idle-flag rule (v ∷ vs) xs h =
-    let e : rule xs v ≡ xs = h v (List·Memᴰ·head refl) in
-    rw (same-alters rule v xs (ap (λ (zs : List ℕ). at zs (v .node)) e), e) (idle-flag rule vs xs (λ u m. h u (List·Memᴰ·tail m)))
+idle-flag [] xs h = refl
+idle-flag (v ∷ vs) xs h =
+    let e : lower xs v ≡ xs = h v (List·Memᴰ·head refl) in
+    rw (same-alters lower v xs (ap (λ (zs : List ℕ). at zs (v .node)) e), e) (idle-flag vs xs (λ u m. h u (List·Memᴰ·tail m)))
 
-skipped-flag : {rule : Rule} {us vs between : List Visit} {xs ys : List ℕ} {changed : Bool} → vs ≡ us ++ between → Idles rule ys between
-    → Swept rule us xs ys changed → changed ≡ changes rule vs xs
-skipped-flag {rule} {us} {vs} {between} {xs} {ys} split idle w =
-    let none : changes rule between (sweep rule us xs) ≡ false = rw (← w .numbers) (idle-flag rule between ys idle) in
-    w .flag ∙ sym (rw (split, changes-append rule us between xs, none) (or-false (changes rule us xs)))
+skipped-flag : {us vs between : List Visit} {xs ys : List ℕ} {changed : Bool} → vs ≡ us ++ between → Idles lower ys between
+    → Swept us xs ys changed → changed ≡ changes lower vs xs
+skipped-flag {us} {vs} {between} {xs} {ys} split idle w =
+    let none : changes lower between (sweep lower us xs) ≡ false = rw (← w .numbers) (idle-flag between ys idle) in
+    w .flag ∙ sym (rw (split, changes-append lower us between xs, none) (or-false (changes lower us xs)))
 
-skipped-swept : {rule : Rule} {visits : ℕ → List Visit} {from to : ℕ} {xs ys : List ℕ} {changed : Bool} → Skipped rule visits from to ys
-    → Swept rule (inTurn visits from) xs ys changed → Swept rule (inTurn visits to) xs ys changed
+skipped-swept : {visits : ℕ → List Visit} {from to : ℕ} {xs ys : List ℕ} {changed : Bool} → Skipped lower visits from to ys
+    → Swept (inTurn visits from) xs ys changed → Swept (inTurn visits to) xs ys changed
 skipped-swept {xs = xs} k w = record { numbers = skipped-sweep k xs (w .numbers); flag = skipped-flag (k .split) (k .idle) w }
 
 module _ (role kind : ℕ) (library netlist : List ℕ) where
@@ -48,7 +48,7 @@ module _ (role kind : ℕ) (library netlist : List ℕ) where
       → Resting role kind library netlist awake xs
       → Rested turn awake rested
       → ChangesWoken role kind library netlist rested xs after ys
-      → Swept (ruleOf role) (turnVisits role kind library netlist turn) xs ys changed
+      → Swept (turnVisits role kind library netlist turn) xs ys changed
       → Resting role kind library netlist after ys
   rests-on {awake} {rested} {after} {xs} {ys} turn b s r c w =
       let t =
@@ -57,8 +57,8 @@ module _ (role kind : ℕ) (library netlist : List ℕ) where
         slept = λ h p a e. sym (r .others h e) ∙ c .slept h p a;
         unmoved = λ h p a v m n d e. c .unmoved h p a v m n d;
       })
-      b (s .lowering) (w .numbers) in
-      record { size = c .size ∙ r .size ∙ s .size; watched = t .0; lowering = t .1 }
+      b (keeps refl) (w .numbers) in
+      record { size = c .size ∙ r .size ∙ s .size; watched = t .0 }
 
   -- ---- from one awake turn to the next
 
@@ -69,8 +69,8 @@ module _ (role kind : ℕ) (library netlist : List ℕ) where
   pub skips : {awake xs ys : List ℕ} {changed : Bool} {from next end : ℕ} → from ≤ gates
       → Resting role kind library netlist awake ys
       → NextAwake awake from end next
-      → Swept (ruleOf role) (firstGates role kind library netlist from) xs ys changed
-      → Swept (ruleOf role) (firstGates role kind library netlist (come next)) xs ys changed
+      → Swept (firstGates role kind library netlist from) xs ys changed
+      → Swept (firstGates role kind library netlist (come next)) xs ys changed
   skips {awake} {xs} {ys} {changed} {from} {next} {end} b s n w =
       skipped-swept
       (asleep-skipped (s .watched) from (come next) (omega (arith, n .least)) (omega arith) (λ h p q. n .asleep h p (omega arith)))
@@ -78,11 +78,9 @@ module _ (role kind : ℕ) (library netlist : List ℕ) where
 
   -- ---- with all turns awake
 
-  pub all-rest : {awake xs : List ℕ} → gates ≤ Size.gates → AllAwake awake → Lowering (ruleOf role) (sweepVisits role kind library netlist) xs
-      → Resting role kind library netlist awake xs
-  all-rest few a low =
+  pub all-rest : {awake xs : List ℕ} → gates ≤ Size.gates → AllAwake awake → Resting role kind library netlist awake xs
+  all-rest few a =
       record {
         size = a .size;
         watched = record { idle = λ t h s. absurd (omega (arith, s, a .awake t (omega arith))) };
-        lowering = low;
       }

@@ -2,4 +2,4 @@ pub mod Order
 pub mod Runs
 pub mod Waking
 pub mod Fits
-pub mod Ready
+pub mod Halves

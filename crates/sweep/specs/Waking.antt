@@ -5,15 +5,13 @@ use mathlib.Core.Path.{_≡_}
 use Prim.Native.Nat.{ℕ}
 use lib.ListN.{length, getD}
 use Rattle.sizes.specs.Sizes as Size
-use Rattle.plans.specs.Sweep.{Lowering}
+use Rattle.plans.specs.Sweep.{lower}
 use Rattle.plans.specs.Idle.{Watched}
-use Rattle.visits.specs.Order.{ruleOf, turnVisits}
+use Rattle.visits.specs.Order.{turnVisits}
 use Rattle.visits.specs.Waking.{Asleep}
-use Rattle.sweep.specs.Order.{sweepVisits}
 
 module _ (role kind : ℕ) (library netlist : List ℕ) where
   -- What a sweep that goes from one awake turn to the next asks, and keeps: turns that are asleep are idle at these numbers.
   pub record Resting (awake xs : List ℕ) : Type 0 where
     pub size : length awake ≡ Size.awakeWords
-    pub watched : Watched (ruleOf role) (turnVisits role kind library netlist) (getD netlist 0 0) (Asleep awake) xs
-    pub lowering : Lowering (ruleOf role) (sweepVisits role kind library netlist) xs
+    pub watched : Watched lower (turnVisits role kind library netlist) (getD netlist 0 0) (Asleep awake) xs

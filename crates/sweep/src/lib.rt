@@ -2,10 +2,11 @@
 // nothing, for CC, SC, CO and SO.
 //
 // For the crates above: `calculate`, over the library and the netlist table of accepted texts, which
-// answers the type `Counts` of crate `calculation`. specs/Ready.antt says what it asks and what it
-// leaves. Starting and running stay apart: crate `starting` lays the start, and each of the four runs
-// goes on from the numbers that stand there. No inner function tests a bound, here or in crate
-// `visits`: what each asks of the tables (specs/Fits.antt) is shown once, by `calculate`.
+// answers the type `Counts` of crate `calculation` (calculation/specs/Stored.antt says what it asks and what
+// it leaves); and its halves, `set_lines` and `observe_lines`, each of which goes on from whatever numbers
+// stand there (specs/Halves.antt). Starting and running stay apart: crate `starting` lays the start, and
+// crate `links` makes what all sweeps need of the netlist. No inner function tests a bound, here or in
+// crate `visits`: what each asks of the tables (specs/Fits.antt) is shown once, for the halves.
 //
 // A sweep goes from one awake gate to the next (crate `awake`), and makes the visits of each (crate
 // `visits`): a gate that is not awake is one whose visits change nothing, so that numbers and counts are
@@ -15,14 +16,12 @@
 // All goes by a role's number, 0 setting (CC, SC) and 1 observing (CO, SO), and by a kind's number,
 // 0 combinational (CC, CO) and 1 sequential (SC, SO).
 use awake::all_awake;
-use awake::chain;
 use awake::next_awake;
-use awake::note_drivers;
 use awake::rest;
 use calculation::Counts;
-use gates::note_tied;
 use gates::visits::OBSERVING;
 use gates::visits::SETTING;
+use links::link;
 use row_sums::kinds::COMBINATIONAL;
 use row_sums::kinds::SEQUENTIAL;
 use row_sums::kinds::wide;
@@ -34,15 +33,16 @@ ghost use mathlib.Core.List.{List, _++_};
 ghost use Prim.Native.Nat.{_≤_, _<_};
 ghost use lib.ListN.{length, drop};
 ghost use Rattle.sizes.specs.Sizes as Size;
-ghost use Rattle.plans.specs.Sweep.{Settles};
+ghost use Rattle.plans.specs.Sweep.{lower, Settles};
 ghost use Rattle.cell_library.specs.Cells.{Cell};
-ghost use Rattle.netlist.specs.Netlist.{Statement};
-ghost use Rattle.calculation.specs.Calculation.{analysed};
-ghost use Rattle.visits.specs.Order.{ruleOf, gateOfTurn};
+ghost use Rattle.netlist.specs.Netlist.{Statement, gatesOf};
+ghost use Rattle.calculation.specs.Runs.{settingStages, observingStages};
+ghost use Rattle.visits.specs.Order.{gateOfTurn};
 ghost use Rattle.visits.specs.Renewed.{Swept};
 ghost use Rattle.sweep.specs.Fits.{SweepFits, RunFits, FreshFits};
+ghost use Rattle.sweep.specs.Halves.{HalfFits, Ran};
 ghost use Rattle.sweep.specs.Order.{sweepVisits};
-ghost use Rattle.sweep.specs.Ready.{Holds, Ready, Calculated, whole};
+ghost use Rattle.calculation.specs.Stored.{Holds, Ready, Calculated};
 ghost use Rattle.sweep.specs.Waking.{Resting};
 
 // The gate of a turn, "in netlist order" or "in reverse order".
@@ -63,17 +63,14 @@ fn one_sweep(
     kind: usize,
     library: &[u32],
     netlist: &[u32],
-    first: &[u16; sizes::LINE_PLACES],
-    next: &[u16; sizes::PIN_PLACES],
-    driver: &[u16; sizes::LINE_PLACES],
-    tied: &[bool; sizes::GATES],
+    links: &[u16; sizes::LINKS],
     numbers: &mut [u32; sizes::NUMBERS],
     awake: &mut [u64; sizes::AWAKE_WORDS],
 ) -> bool
-    requires { ⌜ SweepFits role kind (now library) (now netlist) (now first) (now next) (now driver)
-        (now tied) (now numbers) (now awake) ⌝ }
+    requires { ⌜ SweepFits role kind (now library) (now netlist) (now links) (now numbers)
+        (now awake) ⌝ }
     ensures swept { λ r.
-        ⌜ Swept (ruleOf role) (sweepVisits role kind (now (library .entry)) (now (netlist .entry)))
+        ⌜ Swept (sweepVisits role kind (now (library .entry)) (now (netlist .entry)))
         (now (numbers .entry)) (now (numbers .exit)) r ⌝ }
     ensures rests { λ _.
         ⌜ Resting role kind (now (library .entry)) (now (netlist .entry)) (now (awake .exit))
@@ -85,19 +82,7 @@ fn one_sweep(
     while turn < gates {
         let gate = gate_of_turn(role, gates, turn);
         rest(awake, turn);
-        let renewed = visit_gate(
-            role,
-            kind,
-            library,
-            netlist,
-            first,
-            next,
-            driver,
-            tied,
-            numbers,
-            awake,
-            gate,
-        );
+        let renewed = visit_gate(role, kind, library, netlist, links, numbers, awake, gate);
         changed = either(changed, renewed);
         turn = next_awake(awake, turn + 1, gates);
     }
@@ -111,32 +96,18 @@ fn run(
     kind: usize,
     library: &[u32],
     netlist: &[u32],
-    first: &[u16; sizes::LINE_PLACES],
-    next: &[u16; sizes::PIN_PLACES],
-    driver: &[u16; sizes::LINE_PLACES],
-    tied: &[bool; sizes::GATES],
+    links: &[u16; sizes::LINKS],
     numbers: &mut [u32; sizes::NUMBERS],
     awake: &mut [u64; sizes::AWAKE_WORDS],
 ) -> u32
-    requires { ⌜ RunFits role kind (now library) (now netlist) (now first) (now next) (now driver)
-        (now tied) (now numbers) (now awake) ⌝ }
+    requires { ⌜ RunFits role kind (now library) (now netlist) (now links) (now numbers)
+        (now awake) ⌝ }
     ensures { λ r.
-        ⌜ Settles (ruleOf role) (sweepVisits role kind (now (library .entry)) (now (netlist .entry)))
+        ⌜ Settles lower (sweepVisits role kind (now (library .entry)) (now (netlist .entry)))
         (now (numbers .entry)) r (now (numbers .exit)) ⌝ }
 {
     let mut count: u32 = 1;
-    while one_sweep(
-        role,
-        kind,
-        library,
-        netlist,
-        first,
-        next,
-        driver,
-        tied,
-        numbers,
-        awake,
-    ) {
+    while one_sweep(role, kind, library, netlist, links, numbers, awake) {
         count += 1;
     }
     count
@@ -148,95 +119,66 @@ fn run_all(
     kind: usize,
     library: &[u32],
     netlist: &[u32],
-    first: &[u16; sizes::LINE_PLACES],
-    next: &[u16; sizes::PIN_PLACES],
-    driver: &[u16; sizes::LINE_PLACES],
-    tied: &[bool; sizes::GATES],
+    links: &[u16; sizes::LINKS],
     numbers: &mut [u32; sizes::NUMBERS],
 ) -> u32
-    requires { ⌜ FreshFits role kind (now library) (now netlist) (now first) (now next) (now driver)
-        (now tied) (now numbers) ⌝ }
+    requires { ⌜ FreshFits role kind (now library) (now netlist) (now links) (now numbers) ⌝ }
     ensures { λ r.
-        ⌜ Settles (ruleOf role) (sweepVisits role kind (now (library .entry)) (now (netlist .entry)))
+        ⌜ Settles lower (sweepVisits role kind (now (library .entry)) (now (netlist .entry)))
         (now (numbers .entry)) r (now (numbers .exit)) ⌝ }
 {
     let mut awake = all_awake();
-    run(
-        role,
-        kind,
-        library,
-        netlist,
-        first,
-        next,
-        driver,
-        tied,
-        numbers,
-        &mut awake,
-    )
+    run(role, kind, library, netlist, links, numbers, &mut awake)
 }
 
-// The start and the four runs, over just the numbers of the lines.
-fn analyse(library: &[u32], netlist: &[u32], numbers: &mut [u32; sizes::NUMBERS]) -> Counts
-    requires { ⌜ Ready (now library) (now netlist) (now numbers)
-        × (length (now numbers) ≡ Size.numbers) ⌝ }
+// ---- the halves
+
+// How many sweeps the two runs of a half took.
+pub struct Sweeps {
+    pub combinational: u32,
+    pub sequential: u32,
+}
+
+// CC and SC, from the numbers that stand there.
+pub fn set_lines(
+    library: &[u32],
+    netlist: &[u32],
+    links: &[u16; sizes::LINKS],
+    numbers: &mut [u32; sizes::NUMBERS],
+) -> Sweeps
+    requires { ⌜ HalfFits (now library) (now netlist) (now links) (now numbers) ⌝ }
     ensures { λ r.
         ⌜ ((cells : List Cell) (ss : List Statement) → Holds (now (library .entry))
-        (now (netlist .entry)) cells ss → whole r (now (numbers .exit)) ≡ analysed cells ss) ⌝ }
+        (now (netlist .entry)) cells ss → Ran (settingStages cells (gatesOf ss))
+        (now (numbers .entry)) r (now (numbers .exit))) ⌝ }
 {
-    let gates = wide(netlist[0]);
-    let mut first = [0u16; sizes::LINE_PLACES];
-    let mut next = [0u16; sizes::PIN_PLACES];
-    let mut driver = [0u16; sizes::LINE_PLACES];
-    chain(netlist, gates, &mut first, &mut next);
-    note_drivers(netlist, gates, &mut driver);
-    let mut tied = [false; sizes::GATES];
-    note_tied(library, netlist, gates, &mut tied);
-    start(netlist, numbers);
-    let cc = run_all(
-        SETTING,
-        COMBINATIONAL,
-        library,
-        netlist,
-        &first,
-        &next,
-        &driver,
-        &tied,
-        numbers,
-    );
-    let sc = run_all(
-        SETTING,
-        SEQUENTIAL,
-        library,
-        netlist,
-        &first,
-        &next,
-        &driver,
-        &tied,
-        numbers,
-    );
-    let co = run_all(
-        OBSERVING,
-        COMBINATIONAL,
-        library,
-        netlist,
-        &first,
-        &next,
-        &driver,
-        &tied,
-        numbers,
-    );
-    let so = run_all(
-        OBSERVING,
-        SEQUENTIAL,
-        library,
-        netlist,
-        &first,
-        &next,
-        &driver,
-        &tied,
-        numbers,
-    );
-    Counts { cc, sc, co, so }
+    let combinational = run_all(SETTING, COMBINATIONAL, library, netlist, links, numbers);
+    let sequential = run_all(SETTING, SEQUENTIAL, library, netlist, links, numbers);
+    Sweeps {
+        combinational,
+        sequential,
+    }
+}
+
+// CO and SO, from the numbers that stand there.
+pub fn observe_lines(
+    library: &[u32],
+    netlist: &[u32],
+    links: &[u16; sizes::LINKS],
+    numbers: &mut [u32; sizes::NUMBERS],
+) -> Sweeps
+    requires { ⌜ HalfFits (now library) (now netlist) (now links) (now numbers) ⌝ }
+    ensures { λ r.
+        ⌜ ((cells : List Cell) (ss : List Statement) → Holds (now (library .entry))
+        (now (netlist .entry)) cells ss → Ran (observingStages cells (gatesOf ss))
+        (now (numbers .entry)) r (now (numbers .exit))) ⌝ }
+{
+    let combinational = run_all(OBSERVING, COMBINATIONAL, library, netlist, links, numbers);
+    let sequential = run_all(OBSERVING, SEQUENTIAL, library, netlist, links, numbers);
+    Sweeps {
+        combinational,
+        sequential,
+    }
 }
 
 // Lays numbers into the first of a lent table.
@@ -261,10 +203,19 @@ pub fn calculate(library: &[u32], netlist: &[u32], numbers: &mut [u32]) -> Count
         (now (netlist .entry)) cells ss → Calculated cells ss (now (numbers .entry))
         (now (numbers .exit)) r) ⌝ }
 {
+    let mut links = [0u16; sizes::LINKS];
+    link(library, netlist, &mut links);
     // The sweeps work on an array of their own: a reference to it is one machine word, so that the
     // row sum's calls of itself stay in registers.
     let mut found = [0u32; sizes::NUMBERS];
-    let counts = analyse(library, netlist, &mut found);
+    start(netlist, &mut found);
+    let set = set_lines(library, netlist, &links, &mut found);
+    let observed = observe_lines(library, netlist, &links, &mut found);
     hand_over(&found, numbers);
-    counts
+    Counts {
+        cc: set.combinational,
+        sc: set.sequential,
+        co: observed.combinational,
+        so: observed.sequential,
+    }
 }

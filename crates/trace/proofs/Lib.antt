@@ -3,6 +3,5 @@ pub mod Rows
 pub mod Marking
 pub mod Visits
 pub mod Sweeping
-pub mod Framing
 pub mod Standing
 pub mod Running

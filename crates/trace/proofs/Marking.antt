@@ -17,7 +17,8 @@ use Rattle.plans.specs.System.{Visit}
 use Rattle.plans.specs.Sweep.{at, least, lower}
 use Rattle.plans.specs.Trace.{firstPlace, Mark, Trace, markAt, markOf, traceVisit}
 use Rattle.plans.proofs.Laws.{least-bound}
-use Rattle.gates.specs.Tables.{gateLines, byRole, groupVisit, gateVisit}
+use Rattle.netlist.specs.Gates.{gateLines}
+use Rattle.gates.specs.Tables.{byRole, groupVisit, gateVisit}
 use Rattle.trace.specs.Marks.{rowPlace, gateRow, lastPin, writtenRow, askingRow, Noted, Unnoted, NotedAs, AllNoted, Stands}
 use Rattle.trace.proofs.Tracing.{idle-visit}
 

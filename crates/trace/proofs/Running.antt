@@ -23,7 +23,7 @@ use Rattle.calculation.proofs.Placing.{start-length}
 use Rattle.gates.proofs.Bridge.{tables-fit}
 use Rattle.gates.specs.Fits.{TablesFit}
 use Rattle.sweep.specs.Order.{sweepVisits}
-use Rattle.sweep.specs.Ready.{Holds}
+use Rattle.calculation.specs.Stored.{Holds}
 use Rattle.starting.specs.Start.{linesStart}
 use Rattle.sweep.proofs.Bridge.{setting-sweep, start-is}
 use Rattle.starting.proofs.Starting.{laid-length}

@@ -2,17 +2,18 @@
 -- Assumes nothing.
 use mathlib.Core.List.{List, List·Memᴰ, Memᴰ·append-left, Memᴰ·append-right}
 use mathlib.Core.Path.{_≡_, refl, sym, ap, subst, _∙_}
-use Prim.Native.Nat.{ℕ, zero, suc, _+_, _*_, _-_, _≤_, _<_}
+use Prim.Native.Nat.{ℕ, _+_, _*_}
 use native.Mathlib.Nat.{le-refl}
 use native.Mathlib.Omega.{arith}
 use lib.ListN.{length}
 use Rattle.sizes.specs.Sizes as Size
 use Rattle.plans.specs.System.{Way, Visit, Offers}
-use Rattle.plans.specs.Sweep.{at, Rule, renew, lower, sweep, sweeps, Rests, Settles, Inside, Visited, Once, Above, Lowering, Lowering.keeps, Lowering.renews}
+use Rattle.plans.specs.Sweep.{at, Rule, renew, lower, sweeps, Rests, Run, run, Settles, Inside, Visited, Once, Above, Lowering, Lowering.keeps, Lowering.renews}
 use Rattle.plans.specs.Stages.{Stages, Stages.ended, Stages.stage, Left, Works}
+use Rattle.plans.specs.Standing.{Looks}
 use Rattle.plans.specs.Statements.{SettlesWithin}
 use Rattle.plans.specs.Trace.{Trace, traceSweeps, untraced}
-use Rattle.plans.proofs.Laws.{rules-agree, traces-agree, traced-numbers, settles-once, settles-other, settles-length, renew-stores, lower-stores}
+use Rattle.plans.proofs.Laws.{traces-agree, traced-numbers, lowers-settle, within-lowers, settled-stays, renew-reads, alike-settles, settles-once, settles-other, settles-length, renew-stores, lower-stores}
 use Rattle.cell_library.specs.Cells.{Cell, Column, pin, output}
 use Rattle.cell_library.specs.Cells as C
 use Rattle.netlist.specs.Netlist.{Gate, Statement, gatesOf}
@@ -28,7 +29,6 @@ use Rattle.calculation.proofs.Visiting.{Sets, Observes, MayName, visiting-node,
 use Rattle.calculation.proofs.Accepting.{purpose-placed, asked-placed}
 use Rattle.calculation.proofs.Bounding.{works, settled}
 use Rattle.trace.specs.Lowered.{settingTrace}
-use Rattle.trace.proofs.Framing.{sweeps-rest, sweeps-add, Agree, Among, settles-agree}
 
 kind-clash : combinational ≡ sequential → ⊥
 kind-clash e = let z : _≡_ {A = ℕ} 0 1 = cc in omega arith
@@ -69,39 +69,19 @@ module _ (cells : List Cell) (ss : List Statement) (sound : BothSound cells ss) 
         by (keeps e) = ap (λ (rule : Rule). traceSweeps rule visits most-sweeps (untraced (start ss))) e
         by (renews e once above) = traces-agree visits most-sweeps (start ss) once above
 
-    settles : (count : ℕ) × (ys : List ℕ) × Settles renew visits (start ss) count ys × (count ≤ most-sweeps)
-    settles = (_, _, within .0, within .1)
+    -- .. and come to rest, after as many as there may be.
+    settled-lower : SettlesWithin lower visits (start ss) most-sweeps most-sweeps
+    settled-lower = within-lowers most-sweeps most-sweeps lowering within
 
-    -- Where the sweeps have settled they stay.
-    reached : (count : ℕ) (ys : List ℕ) → Settles renew visits (start ss) count ys → count ≤ most-sweeps → sweeps renew visits most-sweeps (start ss) ≡ ys
-    reached count ys s h =
-        let e : most-sweeps ≡ s .changes + (most-sweeps - s .changes) = omega (arith, s .counted) in
-        ap (λ (n : ℕ). sweeps renew visits n (start ss)) e
-        ∙ sweeps-add renew visits (s .changes) (most-sweeps - s .changes) (start ss)
-        ∙ rw (s .reached) (sweeps-rest renew visits (most-sweeps - s .changes) ys (s .rests))
+    reached : sweeps lower visits most-sweeps (start ss) ≡ run lower visits most-sweeps (start ss) .numbers
+    reached = settled-stays lower visits (start ss) _ _ most-sweeps (settled-lower .0) (settled-lower .1)
 
-    same-numbers : sweeps renew visits most-sweeps (start ss) ≡ sweeps lower visits most-sweeps (start ss)
-    same-numbers = by lowering
-      where
-        by : Lowering renew visits (start ss) → sweeps renew visits most-sweeps (start ss) ≡ sweeps lower visits most-sweeps (start ss)
-        by (keeps e) = ap (λ (rule : Rule). sweeps rule visits most-sweeps (start ss)) e
-        by (renews e once above) = rules-agree visits most-sweeps (start ss) once above .0
+    -- They settle by the first rule too.
+    settles : Settles renew visits (start ss) (run lower visits most-sweeps (start ss) .count) (sweeps lower visits most-sweeps (start ss))
+    settles = rw reached (lowers-settle lowering (settled-lower .0))
 
     pub rests : Rests lower visits (sweeps lower visits most-sweeps (start ss))
-    unfolding sweeps
-    rests = by lowering
-      where
-        ys : List ℕ
-        ys = sweeps lower visits most-sweeps (start ss)
-
-        renewed : Rests renew visits ys
-        renewed = let e = reached _ _ (within .0) (within .1) in rw (← same-numbers, e) (within .0 .rests)
-
-        by : Lowering renew visits (start ss) → Rests lower visits ys
-        by (keeps e) = subst (λ (rule : Rule). Rests rule visits ys) e renewed
-        by (renews e once above) =
-            let a = rules-agree visits most-sweeps (start ss) once above .1 in
-            sym (rules-agree visits 1 ys once a .0) ∙ renewed
+    rests = rw reached (settled-lower .0 .rests)
 
     pub trace-numbers : settingTrace k cells ss .numbers ≡ sweeps lower visits most-sweeps (start ss)
     trace-numbers = ap (λ (t : Trace). t .numbers) trace-lower ∙ traced-numbers lower visits most-sweeps (start ss)
@@ -130,14 +110,16 @@ module _ (cells : List Cell) (ss : List Statement) (sound : BothSound cells ss) 
     own-asked g m (setting e) s C.observe h = absurd h
     own-asked g m (observing i) s C.observe h = absurd s
 
-    own-visit : (v : Visit) → List·Memᴰ v visits → Among Own v
-    own-visit v m =
-        let t = setting-from k cells gs v m in
+    looks : Looks Own visits
+    looks =
         record {
-          visited = rw (visiting-node t) (own-purpose (t .gate) (t .listed) (t .role) (t .allowed));
-          needed = λ w i n j.
-              let o : Offer Sets k cells gs (v .node) w = offer (record { visit = v; listed = m; same = refl; among = i }) t in
-              let f = offer-need o n j in
+          visits = λ v m.
+              let t = setting-from k cells gs v m in
+              rw (visiting-node t) (own-purpose (t .gate) (t .listed) (t .role) (t .allowed));
+          needs = λ v m n d.
+              let t = setting-from k cells gs v m in
+              let o : Offer Sets k cells gs (v .node) (d .way) = offer (record { visit = v; listed = m; same = refl; among = d .listed }) t in
+              let f = offer-need o n (d .among) in
               rw (← f .2) (own-asked (o .gate) (o .listed) (o .role) (o .allowed) (f .0) (asks-named (o .gate) (cellOf cells (o .gate)) (o .role) (o .row) (f .0) (f .1)));
         }
 
@@ -168,26 +150,30 @@ module _ (cells : List Cell) (ss : List Statement) (sound : BothSound cells ss) 
   -- ---- the numbers reported are those of the sweeps of their kind alone
 
   module _ (l v : ℕ) (placed : Placed (set l v)) where
-    alone : (k : Kind) (zs counts : List ℕ) → Stages (stages cells gs) (start ss) counts zs → at zs (node k (set l v)) ≡ at (sweeps renew (visits k) (most-sweeps k) (start ss)) (node k (set l v))
+    alone : (k : Kind) (zs counts : List ℕ) → Stages (stages cells gs) (start ss) counts zs → at zs (node k (set l v)) ≡ at (sweeps lower (visits k) (most-sweeps k) (start ss)) (node k (set l v))
     alone combinational zs counts (stage {ys = y1} s1 (stage {ys = y2} s2 (stage {ys = y3} s3 (stage {ys = y4} s4 (ended e))))) =
         let n = node combinational (set l v) in
         ap (λ (ws : List ℕ). at ws n) e
         ∙ settles-other lower lower-stores s4 n (not-observed combinational l v placed sequential)
         ∙ settles-other lower lower-stores s3 n (not-observed combinational l v placed combinational)
         ∙ settles-other renew renew-stores s2 n (other-kind combinational l v placed sequential (λ q. kind-clash (sym q)))
-        ∙ ap (λ (ws : List ℕ). at ws n) (settles-once renew (visits combinational) (start ss) y1 _ _ _ s1 (within combinational .0) .1 ∙ sym (reached combinational _ _ (within combinational .0) (within combinational .1)))
+        ∙ ap (λ (ws : List ℕ). at ws n) (settles-once renew (visits combinational) (start ss) y1 _ _ _ s1 (settles combinational) .1)
     alone sequential zs counts (stage {ys = y1} s1 (stage {ys = y2} s2 (stage {ys = y3} s3 (stage {ys = y4} s4 (ended e))))) =
         let n = node sequential (set l v) in
-        let long : length y1 ≡ length (start ss) = settles-length renew renew-stores s1 in
+        let r =
+        alike-settles renew renew-stores renew-reads (Own sequential) (visits sequential) y1 (start ss) y2 _ (looks sequential)
+        (record {
+          long = settles-length renew renew-stores s1;
+          same = λ j o. rw (o .3) (settles-other renew renew-stores s1 (node sequential (set (o .0) (o .1))) (other-kind sequential (o .0) (o .1) (o .2) combinational kind-clash));
+        })
+        s2 in
         ap (λ (ws : List ℕ). at ws n) e
         ∙ settles-other lower lower-stores s4 n (not-observed sequential l v placed sequential)
         ∙ settles-other lower lower-stores s3 n (not-observed sequential l v placed combinational)
-        ∙ settles-agree (Own sequential) (λ u m. rw long (visits-inside sequential u m)) long (own-visit sequential)
-        (λ j o. rw (o .3) (settles-other renew renew-stores s1 (node sequential (set (o .0) (o .1))) (other-kind sequential (o .0) (o .1) (o .2) combinational kind-clash)))
-        s2 (within sequential .0) n (l, v, placed, refl)
-        ∙ ap (λ (ws : List ℕ). at ws n) (sym (reached sequential _ _ (within sequential .0) (within sequential .1)))
+        ∙ r .2 .same n (l, v, placed, refl)
+        ∙ ap (λ (ws : List ℕ). at ws n) (settles-once renew (visits sequential) (start ss) (r .0) _ _ _ (r .1) (settles sequential) .1)
 
     pub reported : (k : Kind) → at (analysed cells ss .numbers) (node k (set l v)) ≡ at (settingTrace k cells ss .numbers) (node k (set l v))
     reported k =
         alone k (analysed cells ss .numbers) _ (settled cells ss sound (pricesOf ss) (own-figures sound))
-        ∙ ap (λ (ws : List ℕ). at ws (node k (set l v))) (same-numbers k ∙ sym (trace-numbers k))
+        ∙ ap (λ (ws : List ℕ). at ws (node k (set l v))) (sym (trace-numbers k))

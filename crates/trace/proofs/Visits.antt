@@ -15,7 +15,8 @@ use Rattle.plans.specs.System.{Visit}
 use Rattle.plans.specs.Sweep.{at, least, lower}
 use Rattle.plans.specs.Trace.{firstPlace, Trace, traceVisit, traceSweep}
 use Rattle.plans.proofs.Laws.{at-getD}
-use Rattle.gates.specs.Tables.{readRow, gateCell, gatePins, gateLines, byRole, roleColumns, visitGroup, visitPlace, visitWired, groupVisit, gateVisit}
+use Rattle.netlist.specs.Gates.{gateCell, gateLines}
+use Rattle.gates.specs.Tables.{readRow, gatePins, byRole, roleColumns, visitGroup, visitPlace, gateTied, visitWired, groupVisit, gateVisit}
 use Rattle.gates.specs.Fits.{LinesFit, Gathered, GatherFits, GroupFits, GateFits, SumFits}
 use Rattle.gates.proofs.Gathering.{group-same, group-wider, read-narrow}
 use Rattle.visits.proofs.Visits.{visit-is}
@@ -26,7 +27,7 @@ use Rattle.trace.specs.Runs.{LeastOf, Fits, turnVisit, Traced}
 use Rattle.trace.proofs.Marking.{stands-still, stands-lowered}
 use Rattle.trace.proofs.Rows.{first-same}
 
-module _ (kind : ℕ) (library netlist : List ℕ) (tied : List Bool) (numbers marks : List ℕ) (fits : Fits kind library netlist tied numbers marks) (g e : ℕ) (inside : g < getD netlist 0 0) (value : e ≤ 1)
+module _ (kind : ℕ) (library netlist links numbers marks : List ℕ) (fits : Fits kind library netlist links numbers marks) (g e : ℕ) (inside : g < getD netlist 0 0) (value : e ≤ 1)
     (lines : List ℕ) (pins group : ℕ) (lines-are : lines ≡ gateLines netlist g) (pins-are : pins ≡ gatePins library netlist g)
     (group-is : group ≡ groupPlace (gateCell netlist g) (visitGroup 0 kind e)) where
   gate-fits : GateFits library netlist g
@@ -52,27 +53,27 @@ module _ (kind : ℕ) (library netlist : List ℕ) (tied : List Bool) (numbers m
   pub gather-fits : (costs : List ℕ) → length costs ≡ Size.columns → GatherFits true 0 kind lines pins numbers costs
   gather-fits costs size = gather-first 0 (fits .kindFits) lines-fit (fits .size) size
 
-  module _ (place : ℕ) (place-is : place ≡ visitPlace 0 kind lines e) where
-    pub place-inside : place < Size.numbers
-    unfolding byRole pick
-    place-inside = rw place-is (omega (arith, fits .kindFits, lines-fit .least 0 (omega arith), lines-fit .most 0 (omega arith)))
+  pub place-inside : (place : ℕ) → place ≡ visitPlace 0 kind lines e → place < Size.numbers
+  unfolding byRole pick
+  place-inside place place-is = rw place-is (omega (arith, fits .kindFits, lines-fit .least 0 (omega arith), lines-fit .most 0 (omega arith)))
 
+  module _ (place : ℕ) (place-is : place ≡ visitPlace 0 kind lines e) (wired : Bool) (tied : wired ≡ gateTied library netlist g) where
     abbrev here : Visit
-    here = groupVisit (getD tied g false) kind lines pins library group place
+    here = groupVisit (wired) kind lines pins library group place
 
     abbrev read : ℕ → Option ℕ
-    read = readRow (getD tied g false) lines pins
+    read = readRow (wired) lines pins
 
     narrow : (c x : ℕ) → c < 2 ^ roleColumns 0 pins → read c ≡ some x → x < 2 ^ roleColumns 0 pins
     unfolding byRole pick
-    narrow = read-narrow (getD tied g false) lines pins (2 * pins) (omega arith)
+    narrow = read-narrow (wired) lines pins (2 * pins) (omega arith)
 
-    wired-is : getD tied g false ≡ visitWired 0 library netlist g
+    wired-is : wired ≡ visitWired 0 library netlist g
     unfolding byRole pick
-    wired-is = fits .noted .each g inside
+    wired-is = tied
 
     same-visit : here ≡ turnVisit kind library netlist g e
-    same-visit = visit-is 0 kind library netlist g e group place pins lines (getD tied g false) wired-is lines-are pins-are group-is place-is
+    same-visit = visit-is 0 kind library netlist g e group place pins lines (wired) wired-is lines-are pins-are group-is place-is
 
     module _ (costs : List ℕ) (gathered : Gathered (roleColumns 0 pins) kind lines pins numbers costs) (said : Least) (leastOf : LeastOf read library group costs said) where
       least-is : said .number ≡ least numbers (here .ways)
@@ -84,11 +85,11 @@ module _ (kind : ℕ) (library netlist : List ℕ) (tied : List Bool) (numbers m
       row-is =
           leastOf .row
           ∙ ap (wayRow read library (getD library group 0) (group + 1)) (first-same gathered read narrow library group few-columns rows-fit)
-          ∙ rw (group-is, fits .noted .each g inside, lines-are, pins-are)
+          ∙ rw (group-is, tied, lines-are, pins-are)
 
       number-is : at numbers (here .node) ≡ getD numbers place 0
       unfolding groupVisit
-      number-is = at-getD numbers place 0 (omega (arith, fits .size, place-inside))
+      number-is = at-getD numbers place 0 (omega (arith, fits .size, place-inside place place-is))
 
       pub traced-still : (clock : ℕ) → getD numbers place 0 ≤ said .number
           → Traced kind library netlist (turnVisit kind library netlist g e ∷ []) clock numbers marks numbers marks false

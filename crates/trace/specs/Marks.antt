@@ -13,7 +13,8 @@ use Rattle.sizes.specs.Places.{headingPlace, groupPlace, gatePlace, settingPlac
 use Rattle.reading.specs.Choice.{pick}
 use Rattle.plans.specs.Trace.{Mark, Trace, markAt}
 use Rattle.wires.specs.Wires.{onceColumns}
-use Rattle.gates.specs.Tables.{readRow, gateCell, gatePins, gateLines, visitGroup, gateTied}
+use Rattle.netlist.specs.Gates.{gateCell, gateLines}
+use Rattle.gates.specs.Tables.{readRow, gatePins, visitGroup, gateTied}
 
 -- A row of the group of a gate's output at a value: where it stands in the library table.
 abbrev pub rowPlace : ℕ → List ℕ → ℕ → ℕ → ℕ → ℕ

@@ -14,8 +14,9 @@ use Rattle.cell_library.specs.Cells.{Cell}
 use Rattle.netlist.specs.Netlist.{Statement}
 use Rattle.calculation.specs.Nodes.{Kind, kindNumber}
 use Rattle.gates.specs.Tables.{groupColumns, gateVisit}
-use Rattle.gates.specs.Fits.{TablesFit, Tied}
-use Rattle.sweep.specs.Ready.{Holds}
+use Rattle.gates.specs.Fits.{TablesFit}
+use Rattle.links.specs.Lines.{Links}
+use Rattle.calculation.specs.Stored.{Holds}
 use Rattle.trace.specs.declared.Least.{Least}
 use Rattle.trace.specs.Lowered.{settingTrace}
 use Rattle.trace.specs.Marks.{wayRow, AllNoted, Stands}
@@ -27,12 +28,11 @@ pub record LeastOf (read : ℕ → Option ℕ) (library : List ℕ) (group : ℕ
   pub row : said .row ≡ wayRow read library (getD library group 0) (group + 1) (firstPlace costs (groupColumns read library group))
   pub few : said .row ≤ getD library group 0
 
--- The tables and the arrays beside them.
-pub record Fits (kind : ℕ) (library netlist : List ℕ) (tied : List Bool) (numbers marks : List ℕ) : Type 0 where
+-- The tables, the links and the arrays beside them.
+pub record Fits (kind : ℕ) (library netlist links numbers marks : List ℕ) : Type 0 where
   pub kindFits : kind ≤ 1
   pub tablesFit : TablesFit library netlist
-  pub few : getD netlist 0 0 ≤ Size.gates
-  pub noted : Tied library netlist (getD netlist 0 0) tied
+  pub linked : Links library netlist links
   pub size : length numbers ≡ Size.numbers
   pub marksSize : length marks ≡ Size.marks
 

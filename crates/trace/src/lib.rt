@@ -11,12 +11,14 @@ use cost::NEVER;
 use gates::cell_place;
 use gates::gather::column_costs;
 use gates::is_way;
-use gates::lines_of;
-use gates::note_tied;
 use gates::read_number;
 use gates::visits::SETTING;
 use gates::visits::visit_group;
 use gates::visits::visit_place;
+use links::is_tied;
+use links::link;
+use netlist::gates::place_of;
+use netlist::gates::unchecked::lines_of;
 use row_sums::kinds::wide;
 use starting::start;
 use table::word;
@@ -34,7 +36,7 @@ ghost use Rattle.calculation.specs.Nodes.{Kind, kindNumber};
 ghost use Rattle.gates.specs.Fits.{SumFits};
 ghost use Rattle.gates.specs.Tables.{readRow};
 ghost use Rattle.sweep.specs.Order.{sweepVisits};
-ghost use Rattle.sweep.specs.Ready.{Holds};
+ghost use Rattle.calculation.specs.Stored.{Holds};
 ghost use Rattle.trace.specs.Lowered.{settingTrace};
 ghost use Rattle.trace.specs.Marks.{asWritten, askingColumns, AllNoted};
 ghost use Rattle.trace.specs.Runs.{LeastOf, Fits, turnVisit, Traced, Traceable};
@@ -130,14 +132,14 @@ fn visit(
     kind: usize,
     library: &[u32],
     netlist: &[u32],
-    tied: &[bool; sizes::GATES],
+    links: &[u16; sizes::LINKS],
     gate: usize,
     value: usize,
     clock: u32,
     numbers: &mut [u32; sizes::NUMBERS],
     marks: &mut [u32; sizes::MARKS],
 ) -> bool
-    requires { ⌜ Fits kind (now library) (now netlist) (now tied) (now numbers) (now marks)
+    requires { ⌜ Fits kind (now library) (now netlist) (now links) (now numbers) (now marks)
         × (gate < getD (now netlist) 0 0) × (value ≤ 1) × (clock + 1 < 2 ^ 32) ⌝ }
     ensures { λ r.
         ⌜ Traced kind (now (library .entry)) (now (netlist .entry))
@@ -151,7 +153,8 @@ fn visit(
     column_costs(true, SETTING, kind, &lines, pins, numbers, &mut costs);
     let group = cell + sizes::GROUPS_AT + visit_group(SETTING, kind, value) * sizes::GROUP_WORDS;
     let place = visit_place(SETTING, kind, &lines, pins, value);
-    let least = least_row(tied[gate], kind, library, group, &lines, pins, &costs);
+    let wired = is_tied(links, gate);
+    let least = least_row(wired, kind, library, group, &lines, pins, &costs);
     if numbers[place] <= least.number {
         return false;
     }
@@ -163,7 +166,7 @@ fn visit(
         word(library, row),
         columns,
     );
-    let asking = asking_columns(tied[gate], &lines, pins, columns);
+    let asking = asking_columns(wired, &lines, pins, columns);
     note(
         marks,
         lines[0],
@@ -171,7 +174,7 @@ fn visit(
         clock + 1,
         written,
         asking,
-        (sizes::GATES_AT + gate * sizes::GATE_WORDS + 1 + pins) as u32,
+        (place_of(gate) + 1 + pins) as u32,
     );
     true
 }
@@ -181,12 +184,12 @@ fn one_sweep(
     kind: usize,
     library: &[u32],
     netlist: &[u32],
-    tied: &[bool; sizes::GATES],
+    links: &[u16; sizes::LINKS],
     clock: u32,
     numbers: &mut [u32; sizes::NUMBERS],
     marks: &mut [u32; sizes::MARKS],
 ) -> bool
-    requires { ⌜ Fits kind (now library) (now netlist) (now tied) (now numbers) (now marks)
+    requires { ⌜ Fits kind (now library) (now netlist) (now links) (now numbers) (now marks)
         × (clock + 2 * Size.gates < 2 ^ 32) ⌝ }
     ensures { λ r.
         ⌜ Traced kind (now (library .entry)) (now (netlist .entry))
@@ -202,7 +205,7 @@ fn one_sweep(
             kind,
             library,
             netlist,
-            tied,
+            links,
             turn / 2,
             turn % 2,
             time,
@@ -225,14 +228,14 @@ pub fn trace(kind: usize, library: &[u32], netlist: &[u32], marks: &mut [u32; si
         (now (marks .exit))) ⌝ }
 {
     let gates = wide(netlist[0]);
-    let mut tied = [false; sizes::GATES];
-    note_tied(library, netlist, gates, &mut tied);
+    let mut links = [0u16; sizes::LINKS];
+    link(library, netlist, &mut links);
     let mut numbers = [0u32; sizes::NUMBERS];
     start(netlist, &mut numbers);
     let mut clock: u32 = 0;
     let mut left = 2 * gates + 1;
     while 0 < left {
-        let changed = one_sweep(kind, library, netlist, &tied, clock, &mut numbers, marks);
+        let changed = one_sweep(kind, library, netlist, &links, clock, &mut numbers, marks);
         if !changed {
             return;
         }

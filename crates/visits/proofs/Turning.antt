@@ -10,18 +10,16 @@ use lib.ListN.{length, getD}
 use Rattle.sizes.specs.Sizes as Size
 use Rattle.sizes.specs.Places.{observingPlace}
 use Rattle.plans.specs.System.{Way, Visit}
-use Rattle.plans.specs.Sweep.{at}
-use Rattle.plans.proofs.Laws.{at-getD}
+use Rattle.plans.specs.Sweep.{at, lower}
+use Rattle.plans.proofs.Laws.{at-getD, lower-stores}
 use Rattle.calculation.proofs.Sweeping.{unaltered}
-use Rattle.gates.specs.Tables.{byRole, roleColumns, visitWired}
-use Rattle.gates.specs.Fits.{LinesFit, Gathered, GatherFits, GroupFits, Tied}
+use Rattle.gates.specs.Tables.{roleColumns}
+use Rattle.gates.specs.Fits.{LinesFit, Gathered, GatherFits, GroupFits}
 use Rattle.gates.proofs.Gathering.{group-wider}
 use Rattle.gates.proofs.Rows.{observe-column}
 use Rattle.gates.proofs.Roles.{role-set, role-observed}
 use Rattle.visits.specs.Fits.{VisitFits, CostsOf}
-use Rattle.visits.specs.Order.{ruleOf}
 use Rattle.visits.specs.Renewed.{Led, Renewed}
-use Rattle.visits.proofs.Visits.{rule-stores}
 
 columns-few : (role : ℕ) {lines : List ℕ} {pins : ℕ} → LinesFit lines pins → roleColumns role pins ≤ Size.columns
 columns-few role {lines} {pins} f = go (ℕ-discrete role 0)
@@ -41,11 +39,6 @@ columns-wide role pins = go (ℕ-discrete role 0)
 pub rows-same : (role : ℕ) {library : List ℕ} {group place pins count : ℕ} → group ≡ place → pins ≡ count
     → GroupFits library place (roleColumns role count) → GroupFits library group (roleColumns role pins)
 rows-same role e n f = rw (e, n) f
-
--- How the rows of a gate are read, by what was noted of it.
-pub wired-same : (role : ℕ) {library netlist : List ℕ} {gates g : ℕ} {tied : List Bool} {b : Bool} → Tied library netlist gates tied → g < gates
-    → b ≡ byRole role (getD tied g false) false → b ≡ visitWired role library netlist g
-wired-same role {g = g} t h e = e ∙ ap (λ (x : Bool). byRole role x false) (t .each g h)
 
 module _ (role : ℕ) {kind : ℕ} {lines : List ℕ} {pins : ℕ} (kinds : kind ≤ 1) (fit : LinesFit lines pins) where
   -- Before the first turn nothing is gathered.
@@ -87,11 +80,11 @@ module _ (role : ℕ) {kind : ℕ} {lines : List ℕ} {pins : ℕ} (kinds : kind
     costs-of = record { count = roleColumns role pins; few = columns-few role fit; wide = columns-wide role pins; gathered = g; groupFits = rows }
 
     -- A visit that changes nothing leaves the costs as they are.
-    pub gather-next : {v : Visit} {zs : List ℕ} {b : Bool} → Renewed (ruleOf role) v ys zs b → length zs ≡ Size.numbers → GatherFits b role kind lines pins zs costs
+    pub gather-next : {v : Visit} {zs : List ℕ} {b : Bool} → Renewed v ys zs b → length zs ≡ Size.numbers → GatherFits b role kind lines pins zs costs
     gather-next {v} {zs} {b} r m =
         record {
           kindFits = kinds;
           rowFits = record { linesFit = fit; size = m };
           size = g .size;
-          fresh = λ e. let same : zs ≡ ys = r .numbers ∙ unaltered (ruleOf role) (rule-stores role) v ys (sym (r .flag) ∙ e) in rw same g;
+          fresh = λ e. let same : zs ≡ ys = r .numbers ∙ unaltered lower lower-stores v ys (sym (r .flag) ∙ e) in rw same g;
         }

@@ -14,28 +14,27 @@ use Rattle.sizes.specs.Places.{groupPlace}
 use Rattle.cost.specs.Cost.{never, counted, capped, lesser}
 use Rattle.cost.proofs.Laws.{sum-left, sum-right}
 use Rattle.plans.specs.System.{Way, Visit}
-use Rattle.plans.specs.Sweep.{at, sums, way, least, Rule, lower, sweep}
-use Rattle.plans.proofs.Laws.{at-getD, sweep-append, sweep-length, Stores, lower-stores}
+use Rattle.plans.specs.Sweep.{at, sums, way, least, lower, sweep}
+use Rattle.plans.proofs.Laws.{at-getD, sweep-append, sweep-length, lower-stores}
 use Rattle.calculation.specs.Changes.{alters, changes}
 use Rattle.calculation.proofs.Sweeping.{alters-lower, same-alters, changes-append}
-use Rattle.gates.specs.Tables.{groupVisit, gateCell, gatePins, gateLines, byRole, visitGroup, visitPlace, visitWired, gateVisit}
+use Rattle.netlist.specs.Gates.{gateCell, gateLines}
+use Rattle.gates.specs.Tables.{groupVisit, gatePins, byRole, visitGroup, visitPlace, visitWired, gateVisit}
 use Rattle.gates.proofs.Roles.{role-set, role-observed}
-use Rattle.visits.specs.Order.{ruleOf, gateOfTurn}
+use Rattle.visits.specs.Order.{gateOfTurn}
 use Rattle.plans.specs.Idle.{inTurn}
 use Rattle.visits.specs.Renewed.{Stored, Led, Renewed, Swept}
 
 -- ---- one number
 module _ (v : Visit) (xs : List ℕ) (inside : v .node < length xs) {number : ℕ} {ys : List ℕ} {changed : Bool} (s : Stored (v .node) number xs ys changed) where
-  lowered : number ≡ lesser (at xs (v .node)) (least xs (v .ways)) → Renewed lower v xs ys changed
+  pub visited : number ≡ lesser (getD xs (v .node) 0) (least xs (v .ways)) → Renewed v xs ys changed
   unfolding lower
-  lowered e =
+  visited e =
+      let q : number ≡ lesser (at xs (v .node)) (least xs (v .ways)) = e ∙ rw (at-getD xs (v .node) 0 inside) in
       record {
-        numbers = s .numbers ∙ ap (set xs (v .node)) e;
-        flag = s .flag ∙ ap (λ (x : ℕ). not (eqb x (at xs (v .node)))) e ∙ sym (alters-lower v xs inside);
+        numbers = s .numbers ∙ ap (set xs (v .node)) q;
+        flag = s .flag ∙ ap (λ (x : ℕ). not (eqb x (at xs (v .node)))) q ∙ sym (alters-lower v xs inside);
       }
-
-  pub visited : (role : ℕ) → number ≡ lesser (getD xs (v .node) 0) (least xs (v .ways)) → Renewed (ruleOf role) v xs ys changed
-  visited role e = lowered (e ∙ rw (at-getD xs (v .node) 0 inside))
 
 -- ---- a visit that can change nothing
 
@@ -56,7 +55,7 @@ module _ (xs : List ℕ) (o a : ℕ) (b : a ≤ never) (l : a ≤ at xs o) where
 
 -- The number is not above one that each way needs.
 pub led-still : (role : ℕ) (v : Visit) (xs : List ℕ) {number observed : ℕ} → v .node < length xs → number ≡ getD xs (v .node) 0 → Led role observed xs v
-    → (role ≡ 0 → ⊥) × (number ≤ observed) × (number ≤ never) → Renewed (ruleOf role) v xs xs false
+    → (role ≡ 0 → ⊥) × (number ≤ observed) × (number ≤ never) → Renewed v xs xs false
 unfolding lower lesser counted at
 led-still role v xs {number} {observed} inside e led t =
     let d = led (t .0) in
@@ -77,34 +76,30 @@ visit-is role kind library netlist g i group place pins lines wired w e n h p = 
 
 -- ---- one after the other
 
-pub rule-stores : (role : ℕ) → Stores (ruleOf role)
-rule-stores role = lower-stores
+pub swept-length : {vs : List Visit} {xs ys : List ℕ} {b : Bool} → Swept vs xs ys b → length ys ≡ length xs
+swept-length {vs} {xs} r = ap length (r .numbers) ∙ sweep-length lower lower-stores vs xs
 
-pub swept-length : (role : ℕ) {vs : List Visit} {xs ys : List ℕ} {b : Bool} → Swept (ruleOf role) vs xs ys b → length ys ≡ length xs
-swept-length role {vs} {xs} r = ap length (r .numbers) ∙ sweep-length (ruleOf role) (rule-stores role) vs xs
-
-pub swept-none : (rule : Rule) (xs : List ℕ) → Swept rule [] xs xs false
+pub swept-none : (xs : List ℕ) → Swept [] xs xs false
 unfolding sweep changes
-swept-none rule xs = record { numbers = refl; flag = refl }
+swept-none xs = record { numbers = refl; flag = refl }
 
-pub swept-one : {rule : Rule} {v : Visit} {xs ys : List ℕ} {b : Bool} → Renewed rule v xs ys b → Swept rule (v ∷ []) xs ys b
+pub swept-one : {v : Visit} {xs ys : List ℕ} {b : Bool} → Renewed v xs ys b → Swept (v ∷ []) xs ys b
 unfolding sweep changes
-swept-one {rule} {v} {xs} {ys} {b} r = record { numbers = r .numbers; flag = r .flag ∙ sym (or-false (alters rule v xs)) }
+swept-one {v} {xs} {ys} {b} r = record { numbers = r .numbers; flag = r .flag ∙ sym (or-false (alters lower v xs)) }
 
-swept-append : {rule : Rule} {us vs : List Visit} {xs ys zs : List ℕ} {a b : Bool}
-    → Swept rule us xs ys a → Swept rule vs ys zs b → Swept rule (us ++ vs) xs zs (a || b)
-swept-append {rule} {us} {vs} {xs} {ys} {zs} {a} {b} s t =
+swept-append : {us vs : List Visit} {xs ys zs : List ℕ} {a b : Bool} → Swept us xs ys a → Swept vs ys zs b → Swept (us ++ vs) xs zs (a || b)
+swept-append {us} {vs} {xs} {ys} {zs} {a} {b} s t =
     record {
-      numbers = t .numbers ∙ ap (sweep rule vs) (s .numbers) ∙ sym (sweep-append rule us vs xs);
+      numbers = t .numbers ∙ ap (sweep lower vs) (s .numbers) ∙ sym (sweep-append lower us vs xs);
       flag =
           ap (λ (x : Bool). x || b) (s .flag)
-          ∙ ap (λ (x : Bool). changes rule us xs || x) (t .flag ∙ ap (changes rule vs) (s .numbers))
-          ∙ sym (changes-append rule us vs xs);
+          ∙ ap (λ (x : Bool). changes lower us xs || x) (t .flag ∙ ap (changes lower vs) (s .numbers))
+          ∙ sym (changes-append lower us vs xs);
     }
 
 -- One turn more.
-pub next-turn : {rule : Rule} {xs ys zs : List ℕ} {a b : Bool} (visits : ℕ → List Visit) (i : ℕ)
-    → Swept rule (inTurn visits i) xs ys a → Swept rule (visits i) ys zs b → Swept rule (inTurn visits (i + 1)) xs zs (a || b)
+pub next-turn : {xs ys zs : List ℕ} {a b : Bool} (visits : ℕ → List Visit) (i : ℕ)
+    → Swept (inTurn visits i) xs ys a → Swept (visits i) ys zs b → Swept (inTurn visits (i + 1)) xs zs (a || b)
 unfolding inTurn
 next-turn visits i s t = rw (add-one i) (swept-append s t)
 

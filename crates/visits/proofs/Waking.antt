@@ -10,20 +10,21 @@ use native.Mathlib.Omega.{arith}
 use lib.ListN.{getD}
 use Rattle.sizes.specs.Sizes as Size
 use Rattle.plans.specs.System.{Visit}
-use Rattle.plans.specs.Sweep.{at}
+use Rattle.plans.specs.Sweep.{at, lower}
 use Rattle.plans.specs.Idle.{Needs}
-use Rattle.plans.proofs.Laws.{rule-other}
+use Rattle.plans.proofs.Laws.{rule-other, lower-stores}
 use Rattle.calculation.proofs.Sweeping.{unaltered}
 use Rattle.reading.specs.Choice.{pick}
 use Rattle.awake.specs.Turns.{bitAt}
-use Rattle.awake.specs.Lines.{gateLine, ReadersWoken, DriverWoken}
-use Rattle.gates.specs.Tables.{byRole, groupVisit, gatePins, gateLines, visitCount, visitPlace, gateVisit}
+use Rattle.netlist.specs.Gates.{gateLine, gateLines}
+use Rattle.awake.specs.Lines.{ReadersWoken, DriverWoken}
+use Rattle.gates.specs.Tables.{byRole, groupVisit, gatePins, visitCount, visitPlace, gateVisit}
 use Rattle.gates.specs.Fits.{LinesFit}
 use Rattle.gates.proofs.Roles.{role-set, role-observed}
-use Rattle.visits.specs.Order.{ruleOf, gateOfTurn, turnVisits}
+use Rattle.visits.specs.Order.{gateOfTurn, turnVisits}
 use Rattle.visits.specs.Renewed.{Renewed}
-use Rattle.visits.specs.Waking.{Asleep, visitLine, DrivenOnce, Linked, LineWoken, ChangesWoken}
-use Rattle.visits.proofs.Visits.{rule-stores, turn-inside}
+use Rattle.visits.specs.Waking.{Asleep, visitLine, DrivenOnce, NeedsByLine, LineWoken, ChangesWoken}
+use Rattle.visits.proofs.Visits.{turn-inside}
 
 -- ---- the line that a visit renews a number of
 
@@ -88,18 +89,18 @@ module _ (role kind : ℕ) (library netlist : List ℕ) where
   changes-none awake xs = record { slept = λ t h a. a; unmoved = λ t h a v m n d. refl; size = refl }
 
   -- A visit changes no number but its own, and that only where it says so.
-  visit-keeps : (v : Visit) {xs ys : List ℕ} {changed : Bool} → Renewed (ruleOf role) v xs ys changed
+  visit-keeps : (v : Visit) {xs ys : List ℕ} {changed : Bool} → Renewed v xs ys changed
       → (n : ℕ) → (changed ≡ true → v .node ≡ n → ⊥) → at ys n ≡ at xs n
   visit-keeps v {xs} {ys} {changed} r n other = rw (r .numbers) (side changed refl)
     where
-      side : (b : Bool) → changed ≡ b → at (ruleOf role xs v) n ≡ at xs n
-      side true e = rule-other (ruleOf role) (rule-stores role) xs v n (other e)
-      side false e = ap (λ (zs : List ℕ). at zs n) (unaltered (ruleOf role) (rule-stores role) v xs (sym (r .flag) ∙ e))
+      side : (b : Bool) → changed ≡ b → at (lower xs v) n ≡ at xs n
+      side true e = rule-other lower lower-stores xs v n (other e)
+      side false e = ap (λ (zs : List ℕ). at zs n) (unaltered lower lower-stores v xs (sym (r .flag) ∙ e))
 
-  module _ {first next driver : List ℕ} (l : Linked role kind library netlist first next driver) (h i : ℕ) (inside : h < gates) (turn : i < visitCount role (gatePins library netlist h)) where
+  module _ (l : NeedsByLine role kind library netlist) (h i : ℕ) (inside : h < gates) (turn : i < visitCount role (gatePins library netlist h)) where
     pub changes-on : {before xs between ys after zs : List ℕ} {changed : Bool}
         → ChangesWoken role kind library netlist before xs between ys
-        → Renewed (ruleOf role) (gateVisit role kind library netlist h i) ys zs changed
+        → Renewed (gateVisit role kind library netlist h i) ys zs changed
         → LineWoken role netlist gates (visitLine role (gateLines netlist h) i) changed between after
         → ChangesWoken role kind library netlist before xs after zs
     unfolding gateVisit groupVisit

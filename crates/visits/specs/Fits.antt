@@ -1,14 +1,13 @@
 -- What visits ask of the tables and the numbers (specs/Fits.antt of crate `gates`).
 -- Assumes nothing.
-use mathlib.Core.Bool.{Bool}
 use mathlib.Core.List.{List}
 use mathlib.Core.Path.{_≡_}
 use Prim.Native.Nat.{ℕ, _*_, _≤_, _<_}
 use lib.ListN.{length, getD}
 use Rattle.sizes.specs.Sizes as Size
-use Rattle.awake.specs.Lines.{Chained, Driven}
-use Rattle.gates.specs.Fits.{Gathered, GroupFits, SumFits, TablesFit, Tied}
-use Rattle.visits.specs.Waking.{Linked}
+use Rattle.links.specs.Lines.{Chained, Driven, Links}
+use Rattle.gates.specs.Fits.{Gathered, GroupFits, SumFits, TablesFit}
+use Rattle.visits.specs.Waking.{NeedsByLine}
 
 -- One visit: a group, the costs of its columns, the place of its number, and the pins of its cell.
 pub record VisitFits (kind : ℕ) (library : List ℕ) (group : ℕ) (costs numbers : List ℕ) (place pins : ℕ) : Type 0 where
@@ -26,26 +25,25 @@ pub record CostsOf (kind : ℕ) (library : List ℕ) (group : ℕ) (lines : List
   pub groupFits : GroupFits library group count
 
 -- The gates that need a line's number may be woken.
-pub record WakeFits (role line gates : ℕ) (first next driver awake : List ℕ) : Type 0 where
+pub record WakeFits (role line gates : ℕ) (links awake : List ℕ) : Type 0 where
   pub roleFits : role ≤ 1
   pub inside : line ≤ Size.lines
   pub netlist : List ℕ
-  pub chained : Chained netlist gates first next
-  pub driven : Driven netlist gates driver
+  pub chained : Chained netlist gates links
+  pub driven : Driven netlist gates links
   pub size : length awake ≡ Size.awakeWords
 
--- The tables, and the arrays beside them, of a role and a kind.
-pub record LinksFit (role kind : ℕ) (library netlist first next driver : List ℕ) (tied : List Bool) : Type 0 where
+-- The tables, and the links beside them, of a role and a kind.
+pub record LinksFit (role kind : ℕ) (library netlist links : List ℕ) : Type 0 where
   pub roleFits : role ≤ 1
   pub kindFits : kind ≤ 1
   pub tablesFit : TablesFit library netlist
-  pub linked : Linked role kind library netlist first next driver
-  pub few : getD netlist 0 0 ≤ Size.gates
-  pub noted : Tied library netlist (getD netlist 0 0) tied
+  pub linked : Links library netlist links
+  pub needs : NeedsByLine role kind library netlist
 
 -- The visits of one gate.
-pub record GateVisitsFit (role kind : ℕ) (library netlist first next driver : List ℕ) (tied : List Bool) (numbers awake : List ℕ) (gate : ℕ) : Type 0 where
-  pub linksFit : LinksFit role kind library netlist first next driver tied
+pub record GateVisitsFit (role kind : ℕ) (library netlist links numbers awake : List ℕ) (gate : ℕ) : Type 0 where
+  pub linksFit : LinksFit role kind library netlist links
   pub inside : gate < getD netlist 0 0
   pub size : length numbers ≡ Size.numbers
   pub awakeSize : length awake ≡ Size.awakeWords

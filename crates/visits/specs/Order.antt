@@ -5,13 +5,8 @@ use mathlib.Core.List.{List, [], _∷_}
 use Prim.Native.Nat.{ℕ, _-_}
 use lib.ListN.{getD}
 use Rattle.plans.specs.System.{Visit}
-use Rattle.plans.specs.Sweep.{Rule, lower}
 use Rattle.plans.specs.Idle.{inTurn}
 use Rattle.gates.specs.Tables.{byRole, gatePins, visitCount, gateVisit}
-
--- Every visit keeps the lesser: where lines are set, "becomes the least row sum" comes to the same (`lowers-settle` of crate `plans`).
-abbrev pub ruleOf : ℕ → Rule
-ruleOf role = lower
 
 -- "visits the gates in netlist order"; "visit gates in reverse order"
 abbrev pub gateOfTurn : ℕ → ℕ → ℕ → ℕ

@@ -12,8 +12,8 @@ use Rattle.plans.specs.System.{Way, Visit}
 use Rattle.plans.specs.Sweep.{at}
 use Rattle.plans.specs.Idle.{Needs}
 use Rattle.awake.specs.Turns.{bitAt}
-use Rattle.awake.specs.Lines.{gateLine, Chained, Driven}
-use Rattle.gates.specs.Tables.{byRole, gatePins, gateLines, visitCount, visitPlace, gateVisit}
+use Rattle.netlist.specs.Gates.{gateLine, gateLines}
+use Rattle.gates.specs.Tables.{byRole, gatePins, visitCount, visitPlace, gateVisit}
 use Rattle.visits.specs.Order.{gateOfTurn, gateVisits, turnVisits}
 
 -- The turn is not awake.
@@ -34,10 +34,8 @@ visitLine role lines i = byRole role (getD lines 0 0) (getD lines (i + 1) 0)
 abbrev pub DrivenOnce : List ℕ → ℕ → Type 0
 DrivenOnce netlist gates = (g h : ℕ) → g < gates → h < gates → gateLine netlist g 0 ≡ gateLine netlist h 0 → g ≡ h
 
--- The arrays that tell which gates read and drive a line, and what makes them tell who needs a number.
-pub record Linked (role kind : ℕ) (library netlist first next driver : List ℕ) : Type 0 where
-  pub chained : Chained netlist (getD netlist 0 0) first next
-  pub driven : Driven netlist (getD netlist 0 0) driver
+-- What makes the links of a netlist tell who needs a number.
+pub record NeedsByLine (role kind : ℕ) (library netlist : List ℕ) : Type 0 where
   pub once : DrivenOnce netlist (getD netlist 0 0)
   -- a gate that needs the number that visit i of gate h renews needs its line
   pub needs : (g h i : ℕ) → g < getD netlist 0 0 → h < getD netlist 0 0 → i < visitCount role (gatePins library netlist h)

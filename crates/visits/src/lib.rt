@@ -12,25 +12,26 @@ use cost::NEVER;
 use gates::cell_place;
 use gates::gather::column_costs;
 use gates::least_of;
-use gates::lines_of;
 use gates::visits::SETTING;
 use gates::visits::visit_count;
 use gates::visits::visit_group;
 use gates::visits::visit_place;
+use links::is_tied;
+use netlist::gates::unchecked::lines_of;
 use row_sums::kinds::wide;
 use row_sums::lesser_of;
 use row_sums::number_of;
 ghost use mathlib.Core.Path.{_≡_};
-ghost use mathlib.Core.Bool.{true, false, _||_};
+ghost use mathlib.Core.Bool.{true, _||_};
 ghost use mathlib.Core.List.{List};
 ghost use Prim.Native.Nat.{ℕ, _+_, _*_, _≤_, _<_};
 ghost use lib.ListN.{length, getD};
 ghost use Rattle.sizes.specs.Sizes as Size;
 ghost use Rattle.cost.specs.Cost.{never};
-ghost use Rattle.gates.specs.Tables.{byRole, groupVisit};
-ghost use Rattle.awake.specs.Lines.{Chained, Driven};
+ghost use Rattle.gates.specs.Tables.{visitWired, groupVisit};
+ghost use Rattle.links.specs.Lines.{Chained, Driven, Tied};
 ghost use Rattle.visits.specs.Fits.{VisitFits, CostsOf, WakeFits, GateVisitsFit};
-ghost use Rattle.visits.specs.Order.{ruleOf, gateVisits};
+ghost use Rattle.visits.specs.Order.{gateVisits};
 ghost use Rattle.visits.specs.Renewed.{Stored, Led, Renewed, Swept};
 ghost use Rattle.visits.specs.Waking.{visitLine, LineWoken, ChangesWoken, DrivenOnce};
 
@@ -89,7 +90,7 @@ fn visit(
         (now (numbers .entry)) (now (costs .entry))
         → Led role (getD (now (costs .entry)) (2 * pins + 2) 0) (now (numbers .entry))
         (groupVisit wired kind (now (lines .entry)) pins (now (library .entry)) group place)
-        → Renewed (ruleOf role)
+        → Renewed
         (groupVisit wired kind (now (lines .entry)) pins (now (library .entry)) group place)
         (now (numbers .entry)) (now (numbers .exit)) r) ⌝ }
 {
@@ -120,33 +121,37 @@ fn wake_needing(
     changed: bool,
     line: u32,
     gates: usize,
-    first: &[u16; sizes::LINE_PLACES],
-    next: &[u16; sizes::PIN_PLACES],
-    driver: &[u16; sizes::LINE_PLACES],
+    links: &[u16; sizes::LINKS],
     awake: &mut [u64; sizes::AWAKE_WORDS],
 )
-    requires { ⌜ WakeFits role line gates (now first) (now next) (now driver) (now awake) ⌝ }
+    requires { ⌜ WakeFits role line gates (now links) (now awake) ⌝ }
     ensures { λ _.
-        ⌜ ((netlist : List ℕ) → Chained netlist gates (now (first .entry)) (now (next .entry))
-        → Driven netlist gates (now (driver .entry)) → DrivenOnce netlist gates
+        ⌜ ((netlist : List ℕ) → Chained netlist gates (now (links .entry))
+        → Driven netlist gates (now (links .entry)) → DrivenOnce netlist gates
         → LineWoken role netlist gates line changed (now (awake .entry)) (now (awake .exit))) ⌝ }
 {
     if !changed {
         return;
     }
     if role == SETTING {
-        wake_readers(awake, first, next, wide(line));
+        wake_readers(awake, links, wide(line));
     } else {
-        wake_driver(awake, driver, gates, wide(line));
+        wake_driver(awake, links, gates, wide(line));
     }
 }
 
 // Whether the rows of a gate's visits are read as those of one wire, by what was noted of the gate.
-fn wired_of(role: usize, tied: &[bool; sizes::GATES], gate: usize) -> bool
+fn wired_of(role: usize, links: &[u16; sizes::LINKS], gate: usize) -> bool
     requires { ⌜ gate < Size.gates ⌝ }
-    ensures { λ r. ⌜ r ≡ byRole role (getD (now (tied .entry)) gate false) false ⌝ }
+    ensures { λ r.
+        ⌜ ((library netlist : List ℕ) (gates : ℕ)
+        → Tied library netlist gates (now (links .entry)) → gate < gates
+        → r ≡ visitWired role library netlist gate) ⌝ }
 {
-    if role == SETTING { tied[gate] } else { false }
+    if role != SETTING {
+        return false;
+    }
+    is_tied(links, gate)
 }
 
 // A gate's visits, "the output's 0 before its 1" or "pins in order"; whether a number changed. The costs
@@ -157,18 +162,15 @@ pub fn visit_gate(
     kind: usize,
     library: &[u32],
     netlist: &[u32],
-    first: &[u16; sizes::LINE_PLACES],
-    next: &[u16; sizes::PIN_PLACES],
-    driver: &[u16; sizes::LINE_PLACES],
-    tied: &[bool; sizes::GATES],
+    links: &[u16; sizes::LINKS],
     numbers: &mut [u32; sizes::NUMBERS],
     awake: &mut [u64; sizes::AWAKE_WORDS],
     gate: usize,
 ) -> bool
-    requires { ⌜ GateVisitsFit role kind (now library) (now netlist) (now first) (now next) (now driver)
-        (now tied) (now numbers) (now awake) gate ⌝ }
+    requires { ⌜ GateVisitsFit role kind (now library) (now netlist) (now links) (now numbers) (now awake)
+        gate ⌝ }
     ensures swept { λ r.
-        ⌜ Swept (ruleOf role)
+        ⌜ Swept
         (gateVisits role kind (now (library .entry)) (now (netlist .entry)) gate)
         (now (numbers .entry)) (now (numbers .exit)) r ⌝ }
     ensures wakes { λ _.
@@ -180,7 +182,7 @@ pub fn visit_gate(
     let pins = wide(library[cell + sizes::PINS_AT]);
     let lines = lines_of(netlist, gate);
     let count = visit_count(role, pins);
-    let wired = wired_of(role, tied, gate);
+    let wired = wired_of(role, links, gate);
     let mut costs = [0u32; sizes::COLUMNS];
     let mut stale = true;
     let mut changed = false;
@@ -202,7 +204,7 @@ pub fn visit_gate(
             pins,
         );
         let line = visit_line(role, &lines, i);
-        wake_needing(role, stale, line, gates, first, next, driver, awake);
+        wake_needing(role, stale, line, gates, links, awake);
         changed = either(changed, stale);
         i += 1;
     }

@@ -5,7 +5,7 @@ use native.Mathlib.Omega.{arith}
 use borrow.Author.Needs.{needs}
 use Rattle.awake.specs.Turns.{bitAt}
 use Rattle.awake.proofs.Turns.{wakes-only}
-use Rattle.awake.proofs.Lines.{driver-noted}
+use Rattle.links.proofs.Lines.{driver-noted}
 use Rattle.awake.proofs.wake_driver.Statement.{statement}
 use Rattle.awake.proofs.wake_driver.Tie as tie
 
@@ -45,6 +45,7 @@ pub wake-driver-spec : {M : Type 1} → statement M
 wake-driver-spec =
     tie.close
     (tie.spec
+    (λ c. search needs)
     (λ c. search needs)
     (λ c. search needs)
     (λ c κs. search needs)

@@ -5,17 +5,17 @@ use Prim.Native.Nat.{ℕ, _*_, _≤_}
 use native.Mathlib.Omega.{arith}
 use borrow.Author.Needs.{needs}
 use Rattle.sizes.specs.Sizes as Size
-use Rattle.awake.specs.Lines.{Chained}
+use Rattle.links.specs.Lines.{Chained}
 use Rattle.awake.proofs.Lines.{Walked, walk-starts, walk-goes, walk-ends}
 use Rattle.awake.proofs.wake_readers.Statement.{statement}
 use Rattle.awake.proofs.wake_readers.Tie as tie
 
 abbrev Inv-loop : tie.InvT-loop
-Inv-loop awake₀ first next line pin₀ awake pin =
-    (netlist : List ℕ) (gates : ℕ) → Chained netlist gates first next → Walked netlist gates line pin awake₀ awake
+Inv-loop awake₀ links line pin₀ awake pin =
+    (netlist : List ℕ) (gates : ℕ) → Chained netlist gates links → Walked netlist gates line pin awake₀ awake
 
 abbrev μ-loop : tie.MeasureT-loop
-μ-loop awake₀ first next line pin₀ awake pin = pin
+μ-loop awake₀ links line pin₀ awake pin = pin
 
 -- ---- the places of the code that the answers speak of
 
@@ -67,10 +67,12 @@ wake-readers-spec =
     μ-loop
     (λ c. omega arith)
     (λ c. omega arith)
+    (λ c. omega arith)
     (λ c κs. search needs)
     loop-holds
     (λ c. omega arith)
     wake-requires
+    (λ c. omega (arith, inside (c .before .before .before)))
     (λ c. omega (arith, inside (c .before .before .before)))
     (λ c. omega (arith, inside (c .before .before .before)))
     (λ c κs. search needs)

@@ -5,7 +5,7 @@ use native.Mathlib.Omega.{arith}
 use lib.ListN.{length}
 use Rattle.sizes.specs.Sizes as Size
 use Rattle.netlist.specs.Netlist.{linesWhere}
-use Rattle.loops.specs.Held.{inputAt, inputsHeld}
+use Rattle.netlist.specs.Lines.{inputAt, inputsHeld}
 use Rattle.loops.specs.Settling.{markEach}
 use Rattle.loops.proofs.Walking.{input-size, mark-next, where-end}
 use Rattle.loops.proofs.mark_inputs.Statement.{statement}
@@ -49,7 +49,7 @@ mark-inputs-spec =
     Inv-loop
     μ-loop
     loop-holds
-    (λ c κs. tt)
+    (λ c κs. omega arith)
     (λ c. omega arith)
     (λ c. omega arith)
     loop-again

@@ -1,13 +1,11 @@
 -- `mentions_marked` goes on while the lines that are mentioned are marked. Assumes nothing.
 use mathlib.Core.Bool.{not}
 use mathlib.Core.Path.{_≡_, refl, sym, ap, _∙_}
-use Prim.Native.Nat.{ℕ, _-_, _≤_}
+use Prim.Native.Nat.{_-_, _≤_}
 use native.Mathlib.Omega.{arith}
-use lib.Dec.{eqb}
 use Rattle.sizes.specs.Sizes as Size
-use Rattle.reading.proofs.Laws.{by-test}
 use Rattle.netlist.specs.Netlist.{linesWhere}
-use Rattle.loops.specs.Held.{mentionAt, mentionsHeld}
+use Rattle.netlist.specs.Lines.{mentionAt, mentionsHeld}
 use Rattle.loops.specs.Settling.{allMarked}
 use Rattle.loops.proofs.Walking.{mentions-next, where-end}
 use Rattle.loops.proofs.mentions_marked.Statement.{statement}
@@ -25,14 +23,11 @@ loop-holds : tie.Need-loop-holds Inv-loop μ-loop
 unfolding mentionsHeld
 loop-holds c = (omega arith, refl)
 
-unsaid : {w x : ℕ} → w ≡ x → eqb w 0 ≡ not (not (eqb x 0))
-unsaid {w} {x} e = rw e (by-test (eqb x 0) (λ t. rw t) (λ t. rw t))
-
 returns : tie.Need-returns Inv-loop μ-loop
 returns c =
     let l = c .before .before .before .before in
     let a = l .before .before .before .args in
-    let said = unsaid (c .before .before .word .ensures) in
+    let said = ap not (c .before .before .mentioned .ensures) in
     let next = mentions-next (a .marks .now) (mentionAt (a .netlist .now)) Size.linePlaces (l .loop .l) (omega arith) said in
     sym (l .loop .inv .1 ∙ next (c .before .is-marked .ensures) .stops (c .if1 .taken))
 
@@ -40,7 +35,7 @@ loop-again : tie.Need-loop-again Inv-loop μ-loop
 loop-again c =
     let l = c .before .before .before .before in
     let a = l .before .before .before .args in
-    let said = unsaid (c .before .before .word .ensures) in (
+    let said = ap not (c .before .before .mentioned .ensures) in (
       omega arith,
       let next = mentions-next (a .marks .now) (mentionAt (a .netlist .now)) Size.linePlaces (l .loop .l) (omega arith) said in
           l .loop .inv .1 ∙ next (c .before .is-marked .ensures) .goes (c .if1 .left),

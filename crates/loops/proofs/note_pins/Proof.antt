@@ -6,10 +6,10 @@ use native.Mathlib.Omega.{arith}
 use lib.ListN.{length}
 use Rattle.sizes.specs.Sizes as Size
 use Rattle.reading.proofs.Laws.{clash}
-use Rattle.awake.specs.Lines.{gateLine}
-use Rattle.loops.specs.Held.{eachOf, present, pinLines}
+use Rattle.netlist.specs.Gates.{gateLine, eachOf, present, pinLines}
+use Rattle.netlist.proofs.HeldGates.{each-end}
 use Rattle.loops.specs.Settling.{onceEach, markEach}
-use Rattle.loops.proofs.Walking.{each-end, pins-go, pins-stop}
+use Rattle.loops.proofs.Walking.{pins-go, pins-stop}
 use Rattle.loops.proofs.note_pins.Statement.{statement}
 use Rattle.loops.proofs.note_pins.Tie as tie
 

@@ -5,9 +5,10 @@ use Prim.Native.Nat.{_-_, _≤_}
 use native.Mathlib.Omega.{arith}
 use lib.ListN.{length}
 use Rattle.sizes.specs.Sizes as Size
-use Rattle.loops.specs.Held.{eachOf, gateAt, gatesHeld}
+use Rattle.netlist.specs.Gates.{eachOf, gateAt, gatesHeld}
+use Rattle.netlist.proofs.HeldGates.{gates-start, each-end}
 use Rattle.loops.specs.Settling.{pass}
-use Rattle.loops.proofs.Walking.{gates-start, each-end, settle-size, pass-next, unchanged}
+use Rattle.loops.proofs.Walking.{settle-size, pass-next, unchanged}
 use Rattle.loops.proofs.pass_over.Statement.{statement}
 use Rattle.loops.proofs.pass_over.Tie as tie
 
@@ -25,7 +26,7 @@ abbrev μ-loop : tie.MeasureT-loop
 loop-holds : tie.Need-loop-holds Inv-loop μ-loop
 loop-holds c =
     let a = c .before .before .before .args in
-    let all = gates-start (a .netlist .now) (c .gate-count .result) (c .gate-count .ensures) in
+    let all = gates-start (a .netlist .now) (c .count .result) (c .count .ensures) in
     (omega arith, omega arith, refl, ap (λ gs. pass gs (a .marks .now)) all, λ _. refl)
 
 settle-gate-requires : tie.Need-settle-gate-requires Inv-loop μ-loop
@@ -42,7 +43,7 @@ loop-again c =
       omega arith,
       l .loop .inv .1,
       ap length settled ∙ settle-size (l .loop .marks) g ∙ l .loop .inv .2,
-      pass-next gate (l .before .gate-count .result) (l .loop .gate) (l .loop .marks) (omega arith) settled ∙ l .loop .inv .3,
+      pass-next gate (l .before .count .result) (l .loop .gate) (l .loop .marks) (omega arith) settled ∙ l .loop .inv .3,
       unchanged g (l .loop .inv .4) (s .settle-gate .ensures .0) settled,
     )
 
@@ -51,7 +52,7 @@ unfolding pass
 returns c =
     let l = c .before in
     let a = l .before .before .before .before .args in
-    let none = each-end (gateAt (a .netlist .now)) (l .before .gate-count .result) (l .loop .gate) (omega arith) in
+    let none = each-end (gateAt (a .netlist .now)) (l .before .count .result) (l .loop .gate) (omega arith) in
     record { leaves = sym (ap (λ gs. pass gs (l .loop .marks)) none) ∙ l .loop .inv .3; same = l .loop .inv .4 }
 
 pub pass-over-spec : {M : Type 1} → statement M

@@ -3,10 +3,10 @@ use mathlib.Core.Path.{_≡_, refl, sym, ap, _∙_}
 use Prim.Native.Nat.{_-_, _≤_}
 use native.Mathlib.Omega.{arith}
 use Rattle.sizes.specs.Sizes as Size
-use Rattle.awake.specs.Lines.{gateLine}
-use Rattle.loops.specs.Held.{eachOf, present, pinLines}
+use Rattle.netlist.specs.Gates.{gateLine, eachOf, present, pinLines}
+use Rattle.netlist.proofs.HeldGates.{each-end}
 use Rattle.loops.specs.Settling.{allMarked}
-use Rattle.loops.proofs.Walking.{pins-next, each-end}
+use Rattle.loops.proofs.Walking.{pins-next}
 use Rattle.loops.proofs.pins_marked.Statement.{statement}
 use Rattle.loops.proofs.pins_marked.Tie as tie
 

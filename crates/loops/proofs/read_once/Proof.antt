@@ -5,9 +5,10 @@ use Prim.Native.Nat.{_-_, _≤_}
 use native.Mathlib.Omega.{arith}
 use lib.ListN.{length}
 use Rattle.sizes.specs.Sizes as Size
-use Rattle.loops.specs.Held.{eachOf, gateAt}
+use Rattle.netlist.specs.Gates.{eachOf, gateAt}
+use Rattle.netlist.proofs.HeldGates.{gates-start, each-end}
 use Rattle.loops.specs.Settling.{noMarks, onceEach, pinsOf, readOnce}
-use Rattle.loops.proofs.Walking.{gates-start, each-end, gates-go, gates-stop}
+use Rattle.loops.proofs.Walking.{gates-go, gates-stop}
 use Rattle.loops.proofs.read_once.Statement.{statement}
 use Rattle.loops.proofs.read_once.Tie as tie
 
@@ -21,13 +22,13 @@ Inv-loop netlist gates marks₀ gate₀ marks gate =
 abbrev μ-loop : tie.MeasureT-loop
 μ-loop netlist gates marks₀ gate₀ marks gate = gates - gate
 
-abbrev starts : tie.After-gate-count Inv-loop μ-loop → tie.Start Inv-loop μ-loop
+abbrev starts : tie.After-count Inv-loop μ-loop → tie.Start Inv-loop μ-loop
 starts c = c .before .before
 
 loop-holds : tie.Need-loop-holds Inv-loop μ-loop
 unfolding readOnce
 loop-holds c =
-    let all = gates-start (starts c .args .netlist .now) (c .gate-count .result) (c .gate-count .ensures) in
+    let all = gates-start (starts c .args .netlist .now) (c .count .result) (c .count .ensures) in
     (omega arith, omega arith, refl, ap (λ gs. onceEach noMarks (pinsOf gs)) all)
 
 slice-aggregate : tie.Need-slice-aggregate-note-pins Inv-loop μ-loop
@@ -41,7 +42,7 @@ returns c =
     let n = c .before .before in
     let l = n .before .before .before in
     let table = starts (l .before) .args .netlist .now in
-    let stop = gates-stop table (l .before .gate-count .result) (l .loop .gate) (omega arith) (n .note-pins .ensures) in
+    let stop = gates-stop table (l .before .count .result) (l .loop .gate) (omega arith) (n .note-pins .ensures) in
     sym (sym (l .loop .inv .3) ∙ stop (c .if1 .taken))
 
 loop-again : tie.Need-loop-again Inv-loop μ-loop
@@ -49,7 +50,7 @@ loop-again c =
     let n = c .before .before in
     let l = n .before .before .before in
     let table = starts (l .before) .args .netlist .now in
-    let go = gates-go table (l .before .gate-count .result) (l .loop .gate) (omega arith) (n .note-pins .ensures) in (
+    let go = gates-go table (l .before .count .result) (l .loop .gate) (omega arith) (n .note-pins .ensures) in (
       omega arith,
       l .loop .inv .1,
       n .note-pins .ensures .size ∙ l .loop .inv .2,
@@ -61,7 +62,7 @@ unfolding onceEach flatMap
 returns-2 c =
     let l = c .before in
     let table = starts (l .before) .args .netlist .now in
-    let none = each-end (gateAt table) (l .before .gate-count .result) (l .loop .gate) (omega arith) in
+    let none = each-end (gateAt table) (l .before .count .result) (l .loop .gate) (omega arith) in
     sym (ap (λ gs. onceEach (l .loop .marks) (pinsOf gs)) none) ∙ l .loop .inv .3
 
 pub read-once-spec : {M : Type 1} → statement M

@@ -3,7 +3,7 @@ use mathlib.Core.Path.{_≡_, refl, ap, _∙_}
 use Prim.Native.Nat.{_≤_}
 use native.Mathlib.Omega.{arith}
 use lib.ListN.{length}
-use Rattle.loops.specs.Held.{gatesHeld}
+use Rattle.netlist.specs.Gates.{gatesHeld}
 use Rattle.loops.specs.Settling.{passes, mostPasses}
 use Rattle.loops.proofs.Walking.{passed-size, passes-end, passes-next}
 use Rattle.loops.proofs.settle_lines.Statement.{statement}

@@ -3,8 +3,8 @@ use native.Mathlib.Omega.{arith}
 use denote.Ref.{now}
 use borrow.Author.Needs.{needs}
 use Rattle.sizes.specs.Sizes as Size
-use Rattle.analysis.specs.Own.{ownTables}
-use Rattle.analysis.proofs.Own.{zeros-cleared}
+use Rattle.outcome.specs.Own.{ownTables}
+use Rattle.read_pair.proofs.Own.{zeros-cleared}
 use Rattle.planning.proofs.Printing.{text-printed, refusal-printed}
 use Rattle.planning.proofs.put_plan.Statement.{statement}
 use Rattle.planning.proofs.put_plan.Tie as tie

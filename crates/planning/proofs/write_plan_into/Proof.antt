@@ -1,16 +1,34 @@
--- `write_plan_into`: the analysis, and the plan. Assumes nothing.
+-- `write_plan_into`: the entry and both texts, then the plan. Assumes nothing.
 use denote.Ref.{now}
 use borrow.Author.Needs.{needs}
 use Rattle.outcome.specs.Answer.{lentOf}
 use Rattle.outcome.specs.Outcome.{Given, Lent, givenTexts}
 use Rattle.outcome.proofs.Checking.{texts-checked}
+use Rattle.read_pair.proofs.Reached.{texts-reached, texts-ready}
 use Rattle.planning.specs.Promise.{writtenRead}
-use Rattle.planning.proofs.Promising.{call-refused, call-ready, call-accepted}
+use Rattle.planning.proofs.Promising.{call-entry, call-later, call-made}
 use Rattle.planning.proofs.write_plan_into.Statement.{statement}
 use Rattle.planning.proofs.write_plan_into.Tie as tie
 
-abbrev began : tie.After-analyse-alone → tie.Start
-began c = c .before .before .before .before .before .before .before .before .before .before
+-- ---- the places of the code that the answers speak of
+
+abbrev begins : tie.After-read-texts → tie.Start
+begins c = c .before .before .before .before .before .before .before .before .before
+
+abbrev reads : tie.After-slice-known6 → tie.After-read-texts
+reads c = c .before .before .before .before
+
+abbrev clears : tie.After-slice-known10 → tie.After-clear-all
+clears c = c .before .before .before .before .before .before .before .before
+
+abbrev told-later : tie.After-clear-all → tie.After-slice-known6
+told-later c = c .before .before .before .before .before .before .before .before
+
+abbrev calculates : tie.After-slice-known12 → tie.After-calculate-plan
+calculates c = c .before .before .before .before
+
+abbrev unrefused : tie.After-calculate-plan-arg4 → tie.After-slice-known6
+unrefused c = c .before .before .before .before .before .before
 
 module _ (s : tie.Start) where
   abbrev given : Given
@@ -19,26 +37,38 @@ module _ (s : tie.Start) where
   abbrev lent : Lent
   lent = lentOf (now (s .args .library)) (now (s .args .netlist)) (now (s .args .numbers)) (now (s .args .text))
 
-conclude-plan-requires : tie.Need-conclude-plan-requires
-conclude-plan-requires c κs =
-    let k = c .before .before .before .before .before .before .before .before .before .before .before .before .before in
-    let s = began k in
-    call-ready (given s) (texts-checked _ _) (lent s) _ _ _ (k .analyse-alone .result) (k .analyse-alone .ensures) (s .args .line) (s .args .value) (s .args .kind) (c .before .before .before .before .before .answer2 .given .0 .0) (search needs)
+calculate-plan-requires : tie.Need-calculate-plan-requires
+calculate-plan-requires c κs =
+    let r = reads (unrefused c) in
+    let s = begins r in
+    texts-ready (now (s .args .lib)) (now (s .args .net)) (lent s) _ _ (r .read-texts .result) (r .read-texts .ensures) (search needs)
 
 returns : tie.Need-returns
 unfolding writtenRead
 returns c =
-    let k = c .before .before .before .before .before .before .before .before .before .before .before .before .before in
-    let s = began k in
-    call-refused (given s) (texts-checked _ _) (lent s) _ _ _ (k .analyse-alone .result) (k .analyse-alone .ensures) (s .args .line) (s .args .value) (s .args .kind) _ (search needs) _ (c .before .before .clear-later .ensures)
+    let r = reads (c .before .before .before) in
+    let s = begins r in
+    call-entry (given s) (lent s) (s .args .line) (s .args .value) (s .args .kind) (texts-checked _ _) _ _ (r .read-texts .result)
+    (texts-reached (now (s .args .lib)) (now (s .args .net)) (lent s) _ _ (r .read-texts .result) (r .read-texts .ensures)) _ (search needs)
 
 returns-2 : tie.Need-returns-2
+unfolding writtenRead
 returns-2 c =
-    let a = c .before .before .before .before .before .before .before .before in
-    let told = a .answer2 .given in
-    let k = a .before .before .before .before .before .before .before .before in
-    let s = began k in
-    call-accepted (given s) (texts-checked _ _) (lent s) _ _ _ (k .analyse-alone .result) (k .analyse-alone .ensures) (s .args .line) (s .args .value) (s .args .kind) (told .0 .0) (told .1) _ _ (c .before .before .conclude-plan .ensures)
+    let k = clears c in
+    let r = reads (told-later k) in
+    let s = begins r in
+    call-later (given s) (lent s) (s .args .line) (s .args .value) (s .args .kind) (texts-checked _ _) _ _ (r .read-texts .result)
+    (texts-reached (now (s .args .lib)) (now (s .args .net)) (lent s) _ _ (r .read-texts .result) (r .read-texts .ensures)) _ (search needs)
+    (r .read-texts .kept .1 .1 .1 .0) (r .read-texts .kept .1 .1 .1 .1 .0) _ (k .clear-all .ensures)
+
+returns-3 : tie.Need-returns-3
+returns-3 c =
+    let k = calculates c in
+    let r = reads (unrefused (k .before)) in
+    let s = begins r in
+    call-made (given s) (lent s) (s .args .line) (s .args .value) (s .args .kind) (texts-checked _ _) _ _ (r .read-texts .result)
+    (texts-reached (now (s .args .lib)) (now (s .args .net)) (lent s) _ _ (r .read-texts .result) (r .read-texts .ensures)) (search needs)
+    _ _ _ (k .calculate-plan .ensures)
 
 pub write-plan-into-spec : {M : Type 1} → statement M
 write-plan-into-spec =
@@ -46,11 +76,10 @@ write-plan-into-spec =
     (tie.spec
     (λ c κs. search needs)
     (λ c. search needs)
+    (λ c. search needs)
     (λ c κs. search needs)
     (λ c. search needs)
-    conclude-plan-requires
-    (λ c. search needs)
-    (λ c. search needs)
+    calculate-plan-requires
     (λ c. search needs)
     (λ c. search needs)
     returns
@@ -58,4 +87,9 @@ write-plan-into-spec =
     (λ c. search needs)
     (λ c. search needs)
     (λ c. search needs)
-    returns-2)
+    returns-2
+    (λ c. search needs)
+    (λ c. search needs)
+    (λ c. search needs)
+    (λ c. search needs)
+    returns-3)

@@ -1,7 +1,7 @@
 -- `put_analysis` leaves the report where it stands, or puts the refusal there. Assumes nothing.
 use native.Mathlib.Omega.{arith}
 use denote.Ref.{now}
-use Rattle.analysis.specs.Own.{ownTables}
+use Rattle.outcome.specs.Own.{ownTables}
 use Rattle.printing.proofs.Printing.{accepted, refused-printed}
 use borrow.Author.Needs.{needs}
 use Rattle.printing.proofs.put_analysis.Statement.{statement}

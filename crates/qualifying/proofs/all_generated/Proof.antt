@@ -4,8 +4,8 @@ use Prim.Native.Nat.{_-_, _≤_}
 use native.Mathlib.Omega.{arith}
 use lib.ListN.{length}
 use Rattle.sizes.specs.Sizes as Size
-use Rattle.loops.specs.Held.{eachOf, gateAt, gatesHeld}
-use Rattle.loops.proofs.Walking.{gates-start}
+use Rattle.netlist.specs.Gates.{eachOf, gateAt, gatesHeld}
+use Rattle.netlist.proofs.HeldGates.{gates-start}
 use Rattle.qualifying.specs.Qualifying.{allGenerated, Known}
 use Rattle.qualifying.proofs.Judging.{known-none, generated-stop, generated-on, generated-end}
 use Rattle.qualifying.proofs.all_generated.Statement.{statement}
@@ -22,13 +22,13 @@ Inv-loop library netlist gates known₀ gate₀ known gate =
 abbrev μ-loop : tie.MeasureT-loop
 μ-loop library netlist gates known₀ gate₀ known gate = gates - gate
 
-abbrev starts : tie.After-gate-count Inv-loop μ-loop → tie.Start Inv-loop μ-loop
+abbrev starts : tie.After-count Inv-loop μ-loop → tie.Start Inv-loop μ-loop
 starts c = c .before .before .before
 
 loop-holds : tie.Need-loop-holds Inv-loop μ-loop
 loop-holds c =
     let a = starts c .args in
-    let all = gates-start (a .netlist .now) (c .gate-count .result) (c .gate-count .ensures) in
+    let all = gates-start (a .netlist .now) (c .count .result) (c .count .ensures) in
     (omega arith, omega arith, refl, known-none (a .library .now) Size.cells, ap (λ gs. allGenerated (a .library .now) gs) all)
 
 cell-of-requires : tie.Need-cell-of-requires Inv-loop μ-loop
@@ -45,7 +45,7 @@ returns c =
     let j = c .before .before in
     let k = j .before .before in
     let l = k .before .before in
-    let n = l .before .gate-count .result in
+    let n = l .before .count .result in
     let a = starts (l .before) .args in
     sym (sym (l .loop .inv .4)
     ∙ generated-stop (a .library .now) (a .netlist .now) n (l .loop .gate) (omega arith) (k .cell-of .ensures) (j .judge .ensures .answer) (c .if1 .taken))
@@ -55,7 +55,7 @@ loop-again c =
     let j = c .before .before in
     let k = j .before .before in
     let l = k .before .before in
-    let n = l .before .gate-count .result in
+    let n = l .before .count .result in
     let a = starts (l .before) .args in (
       omega arith,
       l .loop .inv .1,
@@ -69,7 +69,7 @@ returns-2 : tie.Need-returns-2 Inv-loop μ-loop
 returns-2 c =
     let l = c .before in
     let a = starts (l .before) .args in
-    sym (generated-end (a .library .now) (a .netlist .now) (l .before .gate-count .result) (l .loop .gate) (omega arith)) ∙ l .loop .inv .4
+    sym (generated-end (a .library .now) (a .netlist .now) (l .before .count .result) (l .loop .gate) (omega arith)) ∙ l .loop .inv .4
 
 pub all-generated-spec : {M : Type 1} → statement M
 all-generated-spec =

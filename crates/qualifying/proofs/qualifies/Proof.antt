@@ -1,5 +1,5 @@
 -- `qualifies` puts the three answers together. Assumes nothing.
-use Rattle.loops.specs.Held.{gatesHeld}
+use Rattle.netlist.specs.Gates.{gatesHeld}
 use Rattle.loops.specs.Settling.{readOnce}
 use Rattle.qualifying.specs.Qualifying.{allGenerated, qualifying}
 use Rattle.qualifying.proofs.Judging.{comes-looped, comes-unbuilt, comes-first, comes-both}

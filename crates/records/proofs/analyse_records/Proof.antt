@@ -45,16 +45,16 @@ use denote.Signature.{plain}
 use borrow.Rule.Slice.Reshare.{keptS}
 use Rattle.outcome.specs.Answer.{answerRead, lentOf}
 use Rattle.outcome.specs.Demands.{Promised}
-use Rattle.outcome.specs.Progress.{Finished}
+use Rattle.conclusion.specs.Finished.{Finished}
 use Rattle.records.specs.Outcome.{givenRecords, Prepared}
 use Rattle.records.specs.Walk.{declaredProgress, Walked}
 use Rattle.records.specs.declared.Record.{Record}
-use Rattle.outcome.specs.declared.Progress.{Progress}
+use Rattle.read_pair.specs.declared.Progress.{Progress}
 use Rattle.outcome.specs.declared.Answer.{Answer}
 use Rattle.outcome.proofs.Answer as Ans
 use Rattle.outcome.proofs.Answer.Laws as Ans′
-use Rattle.outcome.proofs.Progress as S
-use Rattle.outcome.proofs.Progress.Laws as S′
+use Rattle.read_pair.proofs.Progress as S
+use Rattle.read_pair.proofs.Progress.Laws as S′
 use Rattle.records.proofs.Record as R
 use Rattle.records.proofs.Calling.{ready-then, promised-then}
 use Rattle.records.proofs.Relending.{Withheld, hand-on, take-back}

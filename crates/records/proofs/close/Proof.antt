@@ -1,9 +1,9 @@
 -- `close` ends a call, with what comes behind the last record. Assumes nothing.
 use mathlib.Core.Path.{_≡_, sym, _∙_, subst}
 use denote.Ref.{now}
-use Rattle.outcome.specs.declared.Progress.{Progress}
+use Rattle.read_pair.specs.declared.Progress.{Progress}
 use Rattle.outcome.specs.Answer.{answerRead, lentOf}
-use Rattle.outcome.specs.Progress.{Finished}
+use Rattle.conclusion.specs.Finished.{Finished}
 use borrow.Author.Needs.{needs}
 use Rattle.records.proofs.close.Statement.{statement}
 use Rattle.records.proofs.close.Tie as tie

@@ -1,7 +1,7 @@
 -- `declare` refuses 20 where nothing is refused so far. Assumes nothing.
 use mathlib.Core.Path.{_≡_, refl, sym, _∙_}
 use denote.Ref.{now}
-use Rattle.outcome.proofs.Promising.{entry-shut, later-shut}
+use Rattle.read_pair.proofs.Reached.{entry-shut, later-shut}
 use Rattle.records.proofs.Laws.{declared-stays, declares-some, declares-none}
 use borrow.Author.Needs.{needs}
 use Rattle.records.proofs.declare.Statement.{statement}

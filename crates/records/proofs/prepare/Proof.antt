@@ -1,7 +1,7 @@
 -- `prepare` begins the call, and clears the netlist table where nothing is refused. Assumes nothing.
 use mathlib.Core.Path.{sym, _∙_}
 use denote.Ref.{now}
-use Rattle.outcome.proofs.Promising.{entry-shut, later-shut}
+use Rattle.read_pair.proofs.Reached.{entry-shut, later-shut}
 use Rattle.records.proofs.Calling.{prepared-kept, prepared-cleared}
 use borrow.Author.Needs.{needs}
 use Rattle.records.proofs.prepare.Statement.{statement}

@@ -3,7 +3,7 @@ use mathlib.Core.Path.{sym, _∙_}
 use borrow.Author.Tests.{eq-eqb, ne-eqb}
 use denote.Ref.{now}
 use Rattle.reading.specs.Choice.{pick}
-use Rattle.outcome.proofs.Promising.{entry-shut, later-shut}
+use Rattle.read_pair.proofs.Reached.{entry-shut, later-shut}
 use Rattle.records.specs.Walk.{progressAfter}
 use Rattle.records.proofs.Laws.{stepped-stays, stepped-checks}
 use borrow.Author.Needs.{needs}

@@ -56,11 +56,11 @@ use denote.Signature.{plain}
 use Rattle.records.specs.Walk.{Walked, Stepped}
 use Rattle.records.proofs.Laws.{walked-start, walked-more}
 use Rattle.records.specs.declared.Record.{Record}
-use Rattle.outcome.specs.declared.Progress.{Progress}
+use Rattle.read_pair.specs.declared.Progress.{Progress}
 use Rattle.records.proofs.Record as R
 use Rattle.records.proofs.Record.Laws as R′
-use Rattle.outcome.proofs.Progress as S
-use Rattle.outcome.proofs.Progress.Laws as S′
+use Rattle.read_pair.proofs.Progress as S
+use Rattle.read_pair.proofs.Progress.Laws as S′
 use Rattle.records.proofs.Tested.{holds, fails, either}
 use Rattle.records.proofs.Relending.{Withheld, hand-on, take-back}
 use Rattle.records.proofs.step as step

@@ -1,8 +1,4 @@
--- `mentioned` reads a mark. Assumes nothing.
-use mathlib.Core.Bool.{not}
-use mathlib.Core.Path.{ap}
-use Prim.Native.Nat.{ℕ}
-use lib.Dec.{eqb}
+-- `mentioned` asks the netlist table. Assumes nothing.
 use borrow.Author.Needs.{needs}
 use Rattle.report.specs.Answer.{marked}
 use Rattle.report.proofs.mentioned.Statement.{statement}
@@ -10,7 +6,7 @@ use Rattle.report.proofs.mentioned.Tie as tie
 
 returns : tie.Need-returns
 unfolding marked
-returns c = ap (λ (x : ℕ). not (eqb x 0)) (c .word .ensures)
+returns c = c .mentioned .ensures
 
 pub mentioned-spec : {M : Type 1} → statement M
-mentioned-spec = tie.close (tie.spec (λ c. search needs) (λ c. search needs) (λ c κs. search needs) returns)
+mentioned-spec = tie.close (tie.spec (λ c. search needs) (λ c κs. search needs) returns)

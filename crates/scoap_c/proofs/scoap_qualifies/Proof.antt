@@ -1,45 +1,52 @@
--- `scoap_qualifies` tells by one number what the tables of the analysis say. Assumes nothing.
+-- `scoap_qualifies` tells by one number what the tables of the two texts say. Assumes nothing.
 use native.Mathlib.Omega.{arith}
 use denote.Ref.{now}
 use Rattle.sizes.specs.Sizes as Size
-use Rattle.analysis.specs.Own.{ownTables}
-use Rattle.analysis.proofs.Own.{zeros-cleared}
-use Rattle.scoap_c.proofs.Qualifying.{line-small, qualifies-accepted, qualifies-refused}
+use Rattle.read_pair.proofs.Own.{zeros-cleared}
+use Rattle.scoap_c.proofs.Qualifying.{entry-line, later-line, qualifies-entry, qualifies-later, qualifies-accepted}
 use borrow.Author.Needs.{needs}
 use Rattle.scoap_c.proofs.scoap_qualifies.Statement.{statement}
 use Rattle.scoap_c.proofs.scoap_qualifies.Tie as tie
 
 -- ---- the places of the code that the answers speak of
 
-abbrev begins : tie.After-analyse-into → tie.Start
-begins c = c .before .before .before .before .before .before .before
+abbrev begins : tie.After-read-texts → tie.Start
+begins c = c .before .before .before .before .before
 
-abbrev accepted : tie.After-qualifies → tie.After-analyse-into
-accepted c = c .before .before .before .before .before .before .before .before .before .before
+abbrev reads : tie.After-netlist2 → tie.After-read-texts
+reads c = c .before .before
 
-abbrev refused : tie.After-struct-known → tie.After-analyse-into
-refused c = c .before .before .before .before .before .before .before .before
-
-add-result : tie.Need-add-result
-unfolding ownTables
-add-result c =
-    let k = refused c in
+entry-requires : tie.Need-refusal-code-requires
+entry-requires c κs =
+    let k = reads (c .before .before .before) in
     let a = begins k .args in
-    omega (arith, line-small (now (a .lib)) (now (a .net)) _ (k .analyse-into .result) (k .analyse-into .ensures) (c .before .before .answer2 .given .0 .0) (search needs))
+    entry-line (now (a .lib)) (now (a .net)) _ _ (k .read-texts .result) (k .read-texts .ensures) (c .before .progress .given .0 .0) (search needs)
+
+later-requires : tie.Need-refusal-code-requires-2
+later-requires c κs =
+    let k = reads (c .before .before .before) in
+    let a = begins k .args in
+    later-line (now (a .lib)) (now (a .net)) _ _ (k .read-texts .result) (k .read-texts .ensures) (c .before .progress2 .given .0 .0) (search needs)
 
 returns : tie.Need-returns
-unfolding ownTables
 returns c =
-    let k = accepted c in
+    let k = reads (c .before .before .before .before) in
     let a = begins k .args in
-    qualifies-accepted (now (a .lib)) (now (a .net)) _ (k .analyse-into .result) (k .analyse-into .ensures) (c .before .before .before .before .answer .given .0 .0) (search needs) (c .qualifies .result) (c .qualifies .ensures)
+    qualifies-entry (now (a .lib)) (now (a .net)) _ _ (k .read-texts .result) (k .read-texts .ensures) (c .before .before .progress .given .0 .0) (search needs)
+    (c .refusal-code .result) (c .refusal-code .ensures)
 
 returns-2 : tie.Need-returns-2
-unfolding ownTables
 returns-2 c =
-    let k = refused c in
+    let k = reads (c .before .before .before .before) in
     let a = begins k .args in
-    qualifies-refused (now (a .lib)) (now (a .net)) _ (k .analyse-into .result) (k .analyse-into .ensures) (c .before .before .answer2 .given .0 .0) (search needs)
+    qualifies-later (now (a .lib)) (now (a .net)) _ _ (k .read-texts .result) (k .read-texts .ensures) (c .before .before .progress2 .given .0 .0) (search needs)
+    (c .refusal-code2 .result) (c .refusal-code2 .ensures)
+
+returns-3 : tie.Need-returns-3
+returns-3 c =
+    let k = reads (c .before .before .before .before .before) in
+    let a = begins k .args in
+    qualifies-accepted (now (a .lib)) (now (a .net)) _ _ (k .read-texts .result) (k .read-texts .ensures) (search needs) (c .qualifies .result) (c .qualifies .ensures)
 
 pub scoap-qualifies-spec : {M : Type 1} → statement M
 scoap-qualifies-spec =
@@ -47,17 +54,16 @@ scoap-qualifies-spec =
     (tie.spec
     (λ c. search needs)
     (λ c. search needs)
-    (λ c. search needs)
-    (λ c. search needs)
     (λ c κs. (zeros-cleared Size.library, zeros-cleared Size.netlist))
+    (λ c. search needs)
+    entry-requires
+    (λ c. search needs)
+    later-requires
     (λ c. search needs)
     (λ c. search needs)
     (λ c. search needs)
     (λ c κs. search needs)
     (λ c. search needs)
-    (λ c. search needs)
-    (λ c. search needs)
-    (λ c. search needs)
-    add-result
     returns
-    returns-2)
+    returns-2
+    returns-3)

@@ -2,8 +2,8 @@
 use native.Mathlib.Omega.{arith}
 use denote.Ref.{now}
 use Rattle.sizes.specs.Sizes as Size
-use Rattle.analysis.specs.Own.{ownTables}
-use Rattle.analysis.proofs.Own.{zeros-cleared}
+use Rattle.outcome.specs.Own.{ownTables}
+use Rattle.read_pair.proofs.Own.{zeros-cleared}
 use Rattle.scoap_c.proofs.Coding.{line-below, coded-accepted, coded-refused}
 use borrow.Author.Needs.{needs}
 use Rattle.scoap_c.proofs.scoap_report.Statement.{statement}

@@ -1,37 +1,80 @@
--- `calculate` hands over what `analyse` found. Assumes nothing.
-use mathlib.Core.List.{_++_}
-use mathlib.Core.Path.{_∙_, ap}
+-- `calculate`: the links, the start, the setting half and the observing half. Assumes nothing.
+use mathlib.Core.List.{List, _++_}
+use mathlib.Core.Path.{_≡_, refl, _∙_, ap}
 use lib.ListN.{length, drop}
 use borrow.Author.Needs.{needs}
 use Rattle.sizes.specs.Sizes as Size
-use Rattle.calculation.specs.Calculation.{Analysed}
+use Rattle.cell_library.specs.Cells.{Cell}
+use Rattle.netlist.specs.Netlist.{Statement}
+use Rattle.calculation.specs.Calculation.{Analysed, analysed}
 use Rattle.calculation.specs.Prices.{pricesOf}
 use Rattle.calculation.proofs.Laws.{numbers-length, own-figures}
+use Rattle.calculation.specs.Stored.{Holds, whole}
+use Rattle.sweep.proofs.Calculating.{room, link-fits, half-fits, next-fits, both-ran, start-size, start-costs, calculated}
 use Rattle.sweep.proofs.calculate.Statement.{statement}
 use Rattle.sweep.proofs.calculate.Tie as tie
 
-abbrev analysed : tie.After-hand-over → tie.After-analyse
-analysed c = c .before .before .before
+-- ---- places
 
-abbrev began : tie.After-analyse → tie.Start
+abbrev began : tie.After-link → tie.Start
 began c = c .before .before .before .before .before
+
+abbrev linked : tie.After-start → tie.After-link
+linked c = c .before .before
+
+abbrev started : tie.After-set-lines → tie.After-start
+started c = c .before .before .before
+
+abbrev set : tie.After-observe-lines → tie.After-set-lines
+set c = c .before .before .before
+
+abbrev observed : tie.After-hand-over → tie.After-observe-lines
+observed c = c .before .before .before
+
+-- What both halves come to, at any cells and statements that the tables hold.
+whole-are : (o : tie.After-observe-lines) (cells : List Cell) (ss : List Statement)
+    → let x = set o in
+    let s = started x in
+    let a = began (linked s) .args in
+    Holds (a .library .now) (a .netlist .now) cells ss
+    → whole (record { cc = x .set-lines .result .combinational; sc = x .set-lines .result .sequential; co = o .observe-lines .result .combinational; so = o .observe-lines .result .sequential })
+    (o .observe-lines .last .1 .1 .1 .0) ≡ analysed cells ss
+whole-are o cells ss h =
+    let x = set o in
+    let s = started x in
+    let begun = s .start .ensures in
+    calculated h begun _
+    (both-ran h (linked s .link .ensures) (start-size h begun) (start-costs h begun) (x .set-lines .ensures cells ss h) (o .observe-lines .ensures cells ss h))
 
 pub calculate-spec : {M : Type 1} → statement M
 calculate-spec =
     tie.close
     (tie.spec
-    (λ c κs. search needs)
+    (λ c κs. link-fits (c .before .before .before .before .pre .holds) refl)
+    (λ c κs. (room (began (c .before) .pre .holds), search needs))
+    (λ c κs.
+    let s = c .before .before in
+    let h = began (linked s) .pre .holds in
+    half-fits h (linked s .link .ensures) (start-size h (s .start .ensures)) (start-costs h (s .start .ensures)))
     (λ c κs.
     let x = c .before .before in
-    let p = began x .pre in
-    let e = x .analyse .ensures (p .cells) (p .statements) (p .holds) in
-    (ap (λ (a : Analysed). length (a .numbers)) e ∙ numbers-length (p .cells) (p .statements) (p .holds .sound) (pricesOf (p .statements)) (own-figures (p .holds .sound)), p .room))
+    let s = started x in
+    let p = began (linked s) .pre in
+    let h = p .holds in
+    next-fits h (linked s .link .ensures) (start-size h (s .start .ensures)) (start-costs h (s .start .ensures)) (x .set-lines .ensures (p .cells) (p .statements) h))
+    (λ c κs.
+    let o = c .before .before in
+    let p = began (linked (started (set o))) .pre in (
+      ap (λ (a : Analysed). length (a .numbers)) (whole-are o (p .cells) (p .statements) (p .holds))
+          ∙ numbers-length (p .cells) (p .statements) (p .holds .sound) (pricesOf (p .statements)) (own-figures (p .holds .sound)),
+      p .room,
+    ))
     (λ c. search needs)
     (λ c cells ss h.
-    let o = c .before .before in
-    let x = analysed o in
-    let e = x .analyse .ensures cells ss h in
+    let v = c .before .before in
+    let o = observed v in
+    let e = whole-are o cells ss h in
     record {
-      numbers = o .hand-over .ensures ∙ ap (λ (a : Analysed). a .numbers ++ drop Size.numbers (began x .args .numbers .now)) e;
+      numbers = v .hand-over .ensures ∙ ap (λ (a : Analysed). a .numbers ++ drop Size.numbers (began (linked (started (set o))) .args .numbers .now)) e;
       counts = ap (λ (a : Analysed). a .counts) e;
     }))

@@ -6,7 +6,7 @@ use native.Mathlib.Omega.{arith}
 use lib.ListN.{length, take, drop, set, getD, length-set}
 use lib.Seq.{take-all}
 use Rattle.sizes.specs.Sizes as Size
-use Rattle.gates.proofs.Copying.{copy-next}
+use Rattle.netlist.proofs.Copying.{copy-next}
 use Rattle.sweep.proofs.hand_over.Statement.{statement}
 use Rattle.sweep.proofs.hand_over.Tie as tie
 

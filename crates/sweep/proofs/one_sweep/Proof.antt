@@ -6,7 +6,7 @@ use native.Mathlib.Omega.{arith}
 use lib.ListN.{getD}
 use borrow.Author.Needs.{needs}
 use Rattle.plans.specs.Idle.{inTurn}
-use Rattle.visits.specs.Order.{ruleOf, gateOfTurn, turnVisits}
+use Rattle.visits.specs.Order.{gateOfTurn, turnVisits}
 use Rattle.visits.specs.Renewed.{Swept}
 use Rattle.visits.proofs.Visits.{swept-none, swept-length, next-turn, turn-inside}
 use Rattle.sweep.specs.Order.{firstGates}
@@ -16,12 +16,12 @@ use Rattle.sweep.proofs.one_sweep.Statement.{statement}
 use Rattle.sweep.proofs.one_sweep.Tie as tie
 
 abbrev Inv-loop : tie.InvT-loop
-Inv-loop role kind library netlist first next driver tied numbers₀ awake₀ gates changed₀ turn₀ numbers awake changed turn =
-    Swept (ruleOf role) (firstGates role kind library netlist (come role kind library netlist turn)) numbers₀ numbers changed
+Inv-loop role kind library netlist links numbers₀ awake₀ gates changed₀ turn₀ numbers awake changed turn =
+    Swept (firstGates role kind library netlist (come role kind library netlist turn)) numbers₀ numbers changed
     × Resting role kind library netlist awake numbers
 
 abbrev μ-loop : tie.MeasureT-loop
-μ-loop role kind library netlist first next driver tied numbers₀ awake₀ gates changed₀ turn₀ numbers awake changed turn = gates - turn
+μ-loop role kind library netlist links numbers₀ awake₀ gates changed₀ turn₀ numbers awake changed turn = gates - turn
 
 -- ---- places
 
@@ -60,7 +60,7 @@ visit-gate-requires c κs =
     record {
       linksFit = s .pre .linksFit;
       inside = rw (gate-is t) (turn-inside (s .args .role) (getD (s .args .netlist .now) 0 0) (l .loop .turn) (inside (t .before)));
-      size = swept-length (s .args .role) (l .loop .inv .0) ∙ s .pre .size;
+      size = swept-length (l .loop .inv .0) ∙ s .pre .size;
       awakeSize = r .rest .ensures .size ∙ l .loop .inv .1 .size;
     }
 
@@ -104,7 +104,7 @@ one-sweep-spec =
     (λ c.
     let s = began c in
     let a = s .args in
-    (skips (a .role) (a .kind) (a .library .now) (a .netlist .now) (omega arith) (s .pre .resting) (c .next-awake .ensures) (swept-none (ruleOf (a .role)) (a .numbers .now)), s .pre .resting)))
+    (skips (a .role) (a .kind) (a .library .now) (a .netlist .now) (omega arith) (s .pre .resting) (c .next-awake .ensures) (swept-none (a .numbers .now)), s .pre .resting)))
     (λ c κs. search needs)
     (λ c κs.
     let l = c .before .before .before in

@@ -6,7 +6,6 @@ use Prim.Native.Nat.{_-_, _^_}
 use native.Mathlib.Omega.{arith}
 use lib.ListN.{length}
 use Rattle.sizes.specs.Sizes as Size
-use Rattle.visits.specs.Order.{ruleOf}
 use Rattle.visits.proofs.Visits.{swept-length}
 use Rattle.sweep.specs.Order.{sweepVisits}
 use Rattle.sweep.specs.Waking.{Resting}
@@ -15,13 +14,13 @@ use Rattle.sweep.proofs.run.Statement.{statement}
 use Rattle.sweep.proofs.run.Tie as tie
 
 abbrev Inv-loop : tie.InvT-loop
-Inv-loop role kind library netlist first next driver tied numbers₀ awake₀ count₀ numbers awake count =
+Inv-loop role kind library netlist links numbers₀ awake₀ count₀ numbers awake count =
     (length numbers ≡ Size.numbers)
-    × Before (ruleOf role) (sweepVisits role kind library netlist) numbers₀ count numbers
+    × Before (sweepVisits role kind library netlist) numbers₀ count numbers
     × Resting role kind library netlist awake numbers
 
 abbrev μ-loop : tie.MeasureT-loop
-μ-loop role kind library netlist first next driver tied numbers₀ awake₀ count₀ numbers awake count = 2 ^ 32 - count
+μ-loop role kind library netlist links numbers₀ awake₀ count₀ numbers awake count = 2 ^ 32 - count
 
 abbrev began : tie.At-loop Inv-loop μ-loop → tie.Start Inv-loop μ-loop
 began c = c .before .before .before
@@ -35,7 +34,7 @@ run-spec =
     (λ c.
     let s = c .before .before in
     let a = s .args in
-    (s .pre .sweepFits .size, run-first (ruleOf (a .role)) (sweepVisits (a .role) (a .kind) (a .library .now) (a .netlist .now)) (a .numbers .now), s .pre .sweepFits .resting))
+    (s .pre .sweepFits .size, run-first (sweepVisits (a .role) (a .kind) (a .library .now) (a .netlist .now)) (a .numbers .now), s .pre .sweepFits .resting))
     (λ c κs.
     let l = c .before .before in
     record { linksFit = began l .pre .sweepFits .linksFit; size = l .loop .inv .0; resting = l .loop .inv .2 })
@@ -47,7 +46,7 @@ run-spec =
     omega (arith, run-fits (began l .pre .runs) (l .loop .inv .1) (c .before .one-sweep .ensures .0) (c .if1 .taken)))
     (λ c.
     let l = c .before .before .before .before in
-    (swept-length (began l .args .role) (c .before .one-sweep .ensures .0) ∙ l .loop .inv .0, run-on (began l .pre .runs) (l .loop .inv .1) (c .before .one-sweep .ensures .0) (c .if1 .taken), c .before .one-sweep .ensures .1))
+    (swept-length (c .before .one-sweep .ensures .0) ∙ l .loop .inv .0, run-on (began l .pre .runs) (l .loop .inv .1) (c .before .one-sweep .ensures .0) (c .if1 .taken), c .before .one-sweep .ensures .1))
     (λ c.
     let l = c .before .before .before .before in
     run-ends (began l .pre .runs) (l .loop .inv .1) (c .before .one-sweep .ensures .0) (c .if1 .left)))

@@ -19,7 +19,7 @@ run-all-spec =
             linksFit = p .linksFit;
             size = p .size;
             resting =
-                all-rest (a .role) (a .kind) (a .library .now) (a .netlist .now) (p .linksFit .linked .chained .count) (c .before .before .all-awake .ensures) (p .lowering);
+                all-rest (a .role) (a .kind) (a .library .now) (a .netlist .now) (p .linksFit .linked .chained .count) (c .before .before .all-awake .ensures);
           };
       runs = p .runs;
     })

@@ -12,14 +12,14 @@ use Rattle.trace.proofs.one_sweep.Statement.{statement}
 use Rattle.trace.proofs.one_sweep.Tie as tie
 
 abbrev Inv-loop : tie.InvT-loop
-Inv-loop kind library netlist tied clock numbers₀ marks₀ turns′ changed₀ turn₀ numbers marks changed turn =
+Inv-loop kind library netlist links clock numbers₀ marks₀ turns′ changed₀ turn₀ numbers marks changed turn =
     (turn ≤ turns′)
     × Traced kind library netlist (turns kind library netlist turn) clock numbers₀ marks₀ numbers marks changed
     × (length numbers ≡ Size.numbers)
     × (length marks ≡ Size.marks)
 
 abbrev μ-loop : tie.MeasureT-loop
-μ-loop kind library netlist tied clock numbers₀ marks₀ turns′ changed₀ turn₀ numbers marks changed turn = turns′ - turn
+μ-loop kind library netlist links clock numbers₀ marks₀ turns′ changed₀ turn₀ numbers marks changed turn = turns′ - turn
 
 -- ---- places
 
@@ -30,7 +30,7 @@ abbrev looping : tie.After-visit-arg2 Inv-loop μ-loop → tie.In-loop Inv-loop 
 looping c = c .before .before
 
 few : (c : tie.After-wide Inv-loop μ-loop) → c .wide .result ≤ Size.gates
-few c = omega (arith, c .wide .ensures, began c .pre .0 .few)
+few c = omega (arith, c .wide .ensures, began c .pre .0 .linked .chained .count)
 
 visit-requires : tie.Need-visit-requires Inv-loop μ-loop
 visit-requires c κs =
@@ -38,7 +38,7 @@ visit-requires c κs =
     let w = l .before .before in
     let s = began w in
     let f = s .pre .0 in (
-      record { kindFits = f .kindFits; tablesFit = f .tablesFit; few = f .few; noted = f .noted; size = l .before .loop .inv .2; marksSize = l .before .loop .inv .3 },
+      record { kindFits = f .kindFits; tablesFit = f .tablesFit; linked = f .linked; size = l .before .loop .inv .2; marksSize = l .before .loop .inv .3 },
       omega (arith, w .wide .ensures),
       omega arith,
       omega (arith, few w, s .pre .1),

@@ -6,16 +6,15 @@ use native.Mathlib.Omega.{arith}
 use lib.ListN.{length, getD, length-replicate}
 use borrow.Author.Needs.{needs}
 use Rattle.sizes.specs.Sizes as Size
-use Rattle.sweep.proofs.Calculating.{room}
+use Rattle.sweep.proofs.Calculating.{room, link-fits}
 use Rattle.starting.proofs.Starting.{laid-length}
-use Rattle.gates.specs.Fits.{Tied}
 use Rattle.trace.specs.Marks.{Stands}
 use Rattle.trace.proofs.Running.{after, begins, one-more, tables, few-gates, ends-all, ends-early}
 use Rattle.trace.proofs.trace.Statement.{statement}
 use Rattle.trace.proofs.trace.Tie as tie
 
 abbrev Inv-loop : tie.InvT-loop
-Inv-loop kind library netlist marks₀ gates tied numbers₀ clock₀ left₀ marks numbers clock left =
+Inv-loop kind library netlist marks₀ gates links numbers₀ clock₀ left₀ marks numbers clock left =
     (left ≤ 2 * gates + 1)
     × (clock + 2000 * left ≤ 2000 * (2 * gates + 1))
     × (after kind library netlist (2 * gates + 1 - left) .time ≡ clock)
@@ -24,15 +23,15 @@ Inv-loop kind library netlist marks₀ gates tied numbers₀ clock₀ left₀ ma
     × (length marks ≡ Size.marks)
 
 abbrev μ-loop : tie.MeasureT-loop
-μ-loop kind library netlist marks₀ gates tied numbers₀ clock₀ left₀ marks numbers clock left = left
+μ-loop kind library netlist marks₀ gates links numbers₀ clock₀ left₀ marks numbers clock left = left
 
 -- ---- places
 
-abbrev told : tie.After-start Inv-loop μ-loop → tie.After-note-tied Inv-loop μ-loop
-told c = c .before .before
+abbrev linked : tie.After-start Inv-loop μ-loop → tie.After-link Inv-loop μ-loop
+linked c = c .before .before
 
 abbrev counted : tie.After-start Inv-loop μ-loop → tie.After-wide Inv-loop μ-loop
-counted c = told c .before .before
+counted c = linked c .before .before
 
 abbrev began : tie.After-start Inv-loop μ-loop → tie.Start Inv-loop μ-loop
 began c = counted c .before .before .before .before
@@ -47,13 +46,6 @@ few : (c : tie.After-start Inv-loop μ-loop) → counted c .wide .result ≤ Siz
 few c =
     let s = began c in
     omega (arith, counted c .wide .ensures, few-gates (s .args .kind) (s .args .library .now) (s .args .netlist .now) (s .pre .cells) (s .pre .statements) (s .pre .holds))
-
-wires : (c : tie.After-start Inv-loop μ-loop)
-    → let a = began c .args in
-    Tied (a .library .now) (a .netlist .now) (getD (a .netlist .now) 0 0) (told c .note-tied .last .1 .1 .1 .0)
-wires c =
-    let a = began c .args in
-    subst (λ (n : ℕ). Tied (a .library .now) (a .netlist .now) n (told c .note-tied .last .1 .1 .1 .0)) (counted c .wide .ensures) (told c .note-tied .ensures)
 
 loop-holds : tie.Need-loop-holds Inv-loop μ-loop
 loop-holds c =
@@ -72,8 +64,7 @@ one-sweep-requires c κs =
       record {
         kindFits = s .pre .kindFits;
         tablesFit = tables (a .kind) (a .library .now) (a .netlist .now) (s .pre .cells) (s .pre .statements) (s .pre .holds);
-        few = few-gates (a .kind) (a .library .now) (a .netlist .now) (s .pre .cells) (s .pre .statements) (s .pre .holds);
-        noted = wires (started l);
+        linked = linked (started l) .link .ensures;
         size = i .4;
         marksSize = i .5;
       },
@@ -135,16 +126,7 @@ trace-spec =
     μ-loop
     (λ c. omega (arith, room (c .before .before .before .pre .holds)))
     (λ c κs. search needs)
-    (λ c κs.
-    let w = c .before in
-    let s = w .before .before .before .before in
-    let f = few-gates (s .args .kind) (s .args .library .now) (s .args .netlist .now) (s .pre .cells) (s .pre .statements) (s .pre .holds) in
-    record {
-      count = w .wide .ensures;
-      few = rw (w .wide .ensures) f;
-      tablesFit = tables (s .args .kind) (s .args .library .now) (s .args .netlist .now) (s .pre .cells) (s .pre .statements) (s .pre .holds);
-      size = search needs;
-    })
+    (λ c κs. link-fits (c .before .before .before .before .before .pre .holds) refl)
     (λ c κs. (room (c .before .before .before .before .before .before .before .pre .holds), refl))
     (λ c. omega (arith, few c))
     (λ c. omega (arith, few c))

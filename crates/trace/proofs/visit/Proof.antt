@@ -9,7 +9,8 @@ use borrow.Author.Needs.{needs}
 use Rattle.sizes.specs.Sizes as Size
 use Rattle.sizes.specs.Places.{groupPlace}
 use Rattle.reading.specs.Choice.{pick}
-use Rattle.gates.specs.Tables.{gateCell, gatePins, byRole, visitGroup}
+use Rattle.netlist.specs.Gates.{gateCell}
+use Rattle.gates.specs.Tables.{gatePins, byRole, visitGroup, gateTied}
 use Rattle.gates.specs.Fits.{LinesFit, GateFits}
 use Rattle.trace.specs.Marks.{asWritten, askingColumns}
 use Rattle.trace.proofs.Visits.{lines-fit, rows-room, sum-fits, gather-fits, place-inside, traced-still, traced-lowered}
@@ -33,8 +34,11 @@ gathered c = c .before
 abbrev grouped : tie.After-visit-place → tie.After-visit-group
 grouped c = c .before .before
 
+abbrev told : tie.After-least-row → tie.After-is-tied
+told c = c .before .before .before
+
 abbrev placed : tie.After-least-row → tie.After-visit-place
-placed c = c .before .before .before .before
+placed c = told c .before
 
 -- ---- what was read of the gate
 
@@ -48,7 +52,7 @@ fit : (c : tie.After-lines-of) → LinesFit (c .lines-of .result) (c .before .wi
 fit c =
     let s = began c in
     let a = s .args in
-    lines-fit (a .kind) (a .library .now) (a .netlist .now) (a .tied .now) (a .numbers .now) (a .marks .now) (s .pre .0) (a .gate) (a .value) (s .pre .1) (s .pre .2) (c .lines-of .result) (c .before .wide .result) _
+    lines-fit (a .kind) (a .library .now) (a .netlist .now) (a .links .now) (a .numbers .now) (a .marks .now) (s .pre .0) (a .gate) (a .value) (s .pre .1) (s .pre .2) (c .lines-of .result) (c .before .wide .result) _
     (c .lines-of .ensures) (pins-are c) refl
 
 group-few : (c : tie.After-visit-group) → c .visit-group .result ≤ 3
@@ -72,7 +76,7 @@ low c =
     let x = lined (gathered g) in
     let s = began x in
     let a = s .args in
-    place-inside (a .kind) (a .library .now) (a .netlist .now) (a .tied .now) (a .numbers .now) (a .marks .now) (s .pre .0) (a .gate) (a .value) (s .pre .1) (s .pre .2) (x .lines-of .result) (x .before .wide .result) (groupAt g)
+    place-inside (a .kind) (a .library .now) (a .netlist .now) (a .links .now) (a .numbers .now) (a .marks .now) (s .pre .0) (a .gate) (a .value) (s .pre .1) (s .pre .2) (x .lines-of .result) (x .before .wide .result) (groupAt g)
     (x .lines-of .ensures) (pins-are x) (group-stands g) (c .visit-place .result) (c .visit-place .ensures)
 
 -- The library table is as long as a slice may be.
@@ -92,7 +96,7 @@ room c =
       arith,
       long (x .before .before),
       c .least-row .ensures .few,
-      rows-room (a .kind) (a .library .now) (a .netlist .now) (a .tied .now) (a .numbers .now) (a .marks .now) (s .pre .0) (a .gate) (a .value) (s .pre .1) (s .pre .2) (x .lines-of .result) (x .before .wide .result) (groupAt g)
+      rows-room (a .kind) (a .library .now) (a .netlist .now) (a .links .now) (a .numbers .now) (a .marks .now) (s .pre .0) (a .gate) (a .value) (s .pre .1) (s .pre .2) (x .lines-of .result) (x .before .wide .result) (groupAt g)
           (x .lines-of .ensures) (pins-are x) (group-stands g),
     )
 
@@ -102,7 +106,15 @@ small : (c : tie.After-least-row)
     (began x .args .gate < Size.gates) × (x .before .wide .result ≤ Size.pins)
 small c =
     let x = lined (gathered (grouped (placed c))) in
-    (omega (arith, began x .pre .1, began x .pre .0 .few), fit x .count)
+    (omega (arith, began x .pre .1, began x .pre .0 .linked .chained .count), fit x .count)
+
+-- How the gate's rows are read.
+wired-is : (c : tie.After-least-row)
+    → let a = began (lined (gathered (grouped (placed c)))) .args in
+    told c .is-tied .result ≡ gateTied (a .library .now) (a .netlist .now) (a .gate)
+wired-is c =
+    let s = began (lined (gathered (grouped (placed c)))) in
+    told c .is-tied .ensures _ _ _ (s .pre .0 .linked .tied) (s .pre .1)
 
 returns : tie.Need-returns
 returns c =
@@ -112,8 +124,8 @@ returns c =
     let x = lined (gathered g) in
     let s = began x in
     let a = s .args in
-    traced-still (a .kind) (a .library .now) (a .netlist .now) (a .tied .now) (a .numbers .now) (a .marks .now) (s .pre .0) (a .gate) (a .value) (s .pre .1) (s .pre .2) (x .lines-of .result) (x .before .wide .result) (groupAt g)
-    (x .lines-of .ensures) (pins-are x) (group-stands g) (p .visit-place .result) (p .visit-place .ensures) _ (gathered g .column-costs .ensures) (k .least-row .result) (k .least-row .ensures) (a .clock) (search needs)
+    traced-still (a .kind) (a .library .now) (a .netlist .now) (a .links .now) (a .numbers .now) (a .marks .now) (s .pre .0) (a .gate) (a .value) (s .pre .1) (s .pre .2) (x .lines-of .result) (x .before .wide .result) (groupAt g)
+    (x .lines-of .ensures) (pins-are x) (group-stands g) (p .visit-place .result) (p .visit-place .ensures) _ (wired-is k) _ (gathered g .column-costs .ensures) (k .least-row .result) (k .least-row .ensures) (a .clock) (search needs)
 
 written-same : {h h′ d d′ c c′ : ℕ} → h ≡ h′ → d ≡ d′ → c ≡ c′ → asWritten h d c ≡ asWritten h′ d′ c′
 written-same p q r = rw (p, q, r) refl
@@ -142,14 +154,14 @@ returns-2 c =
     let s = began x in
     let a = s .args in
     let cols = columns-are w in
-    traced-lowered (a .kind) (a .library .now) (a .netlist .now) (a .tied .now) (a .numbers .now) (a .marks .now) (s .pre .0) (a .gate) (a .value) (s .pre .1) (s .pre .2) (x .lines-of .result) (x .before .wide .result) (groupAt g)
-    (x .lines-of .ensures) (pins-are x) (group-stands g) (p .visit-place .result) (p .visit-place .ensures) _ (gathered g .column-costs .ensures) (k .least-row .result) (k .least-row .ensures)
+    traced-lowered (a .kind) (a .library .now) (a .netlist .now) (a .links .now) (a .numbers .now) (a .marks .now) (s .pre .0) (a .gate) (a .value) (s .pre .1) (s .pre .2) (x .lines-of .result) (x .before .wide .result) (groupAt g)
+    (x .lines-of .ensures) (pins-are x) (group-stands g) (p .visit-place .result) (p .visit-place .ensures) _ (wired-is k) _ (gathered g .column-costs .ensures) (k .least-row .result) (k .least-row .ensures)
     _ (a .clock) _ _ _ refl
     (c .before .before .before .before .before .as-written .ensures
     ∙ written-same (c .before .before .before .before .before .before .before .word2 .ensures ∙ ap (λ (n : ℕ). getD (a .library .now) (n + Size.headingAt) 0) (celled x .cell-place .ensures))
     (c .before .before .before .before .before .before .word3 .ensures ∙ ap (λ (n : ℕ). getD (a .library .now) (n + 1 + 2 * k .least-row .result .row) 0) (group-stands g)) cols)
-    (c .before .before .asking-columns .ensures ∙ asking-same (s .pre .0 .noted .each (a .gate) (s .pre .1)) (x .lines-of .ensures) (pins-are x) cols)
-    (ap (λ (n : ℕ). Size.gatesAt + a .gate * Size.gateWords + 1 + n) (pins-are x))
+    (c .before .before .before .asking-columns .ensures ∙ asking-same (wired-is k) (x .lines-of .ensures) (pins-are x) cols)
+    (ap₂ (λ (n m : ℕ). n + 1 + m) (c .before .place-of .ensures) (pins-are x))
     (omega (arith, c .before .before .before .before .before .before .before .before .before .before .if1 .left))
     _ (c .note .ensures)
 
@@ -167,23 +179,23 @@ visit-spec =
     let x = c .before .before .before in
     let s = began x in
     let a = s .args in
-    gather-fits (a .kind) (a .library .now) (a .netlist .now) (a .tied .now) (a .numbers .now) (a .marks .now) (s .pre .0) (a .gate) (a .value) (s .pre .1) (s .pre .2) (x .lines-of .result) (x .before .wide .result) _
+    gather-fits (a .kind) (a .library .now) (a .netlist .now) (a .links .now) (a .numbers .now) (a .marks .now) (s .pre .0) (a .gate) (a .value) (s .pre .1) (s .pre .2) (x .lines-of .result) (x .before .wide .result) _
     (x .lines-of .ensures) (pins-are x) refl _ refl)
     (λ c. search needs)
     (λ c κs. search needs)
     (λ c. omega (arith, group-few c))
     (λ c. let f = gate-fits (began (lined (gathered c))) in omega (arith, group-few c))
     (unfold byRole pick in (λ c κs. let x = lined (gathered (c .before)) in (began x .pre .0 .kindFits, fit x, omega (arith, began x .pre .2))))
-    (λ c.
+    (λ c κs.
     let s = began (lined (gathered (grouped c))) in
-    omega (arith, s .pre .1, s .pre .0 .few))
+    omega (arith, s .pre .1, s .pre .0 .linked .chained .count))
     (λ c κs.
     let g = grouped (c .before .before .before) in
     let x = lined (gathered g) in
     let s = began x in
     let a = s .args in (
       fit x .count,
-      sum-fits (a .kind) (a .library .now) (a .netlist .now) (a .tied .now) (a .numbers .now) (a .marks .now) (s .pre .0) (a .gate) (a .value) (s .pre .1) (s .pre .2) (x .lines-of .result) (x .before .wide .result) (groupAt g)
+      sum-fits (a .kind) (a .library .now) (a .netlist .now) (a .links .now) (a .numbers .now) (a .marks .now) (s .pre .0) (a .gate) (a .value) (s .pre .1) (s .pre .2) (x .lines-of .result) (x .before .wide .result) (groupAt g)
           (x .lines-of .ensures) (pins-are x) (group-stands g) _ (gathered g .column-costs .ensures .size),
     ))
     (λ c. omega (arith, low (placed c)))
@@ -200,14 +212,12 @@ visit-spec =
     (λ c κs. search needs)
     (λ c κs. search needs)
     (λ c κs. search needs)
-    (λ c. omega (arith, small (c .before .before .before .before .before .before .before .before)))
-    (λ c κs. small (c .before .before .before .before .before .before .before .before .before .before) .1)
+    (λ c κs. small (c .before .before .before .before .before .before .before .before .before) .1)
     (λ c. search needs)
-    (λ c. omega (arith, began (lined (gathered (grouped (placed (c .before .before .before .before .before .before .before .before .before .before .before .before))))) .pre .3))
-    (λ c. omega (arith, small (c .before .before .before .before .before .before .before .before .before .before .before .before)))
-    (λ c. omega (arith, small (c .before .before .before .before .before .before .before .before .before .before .before .before)))
-    (λ c. omega (arith, small (c .before .before .before .before .before .before .before .before .before .before .before .before)))
-    (λ c. omega (arith, small (c .before .before .before .before .before .before .before .before .before .before .before .before)))
-    (λ c. omega (arith, small (c .before .before .before .before .before .before .before .before .before .before .before .before)))
+    (λ c. omega (arith, began (lined (gathered (grouped (placed (c .before .before .before .before .before .before .before .before .before .before .before))))) .pre .3))
+    (λ c κs. omega (arith, small (c .before .before .before .before .before .before .before .before .before .before .before)))
+    (λ c. omega (arith, small (c .before .before .before .before .before .before .before .before .before .before .before .before), c .place-of .ensures))
+    (λ c. omega (arith, small (c .before .before .before .before .before .before .before .before .before .before .before .before), c .place-of .ensures))
+    (λ c. omega (arith, small (c .before .before .before .before .before .before .before .before .before .before .before .before), c .place-of .ensures))
     (λ c κs. let x = lined (gathered (grouped (placed (c .before .before .before .before .before .before .before .before .before .before .before .before)))) in (fit x .most 0 (omega arith), began x .pre .2, began x .pre .0 .marksSize))
     returns-2)

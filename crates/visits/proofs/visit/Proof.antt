@@ -1,4 +1,4 @@
--- `visit` stores what the least row sum comes to by the role. Assumes nothing.
+-- `visit` stores the lesser of the number and the least row sum. Assumes nothing.
 use mathlib.Core.Path.{refl, _∙_}
 use Prim.Native.Nat.{_<_}
 use native.Mathlib.Omega.{arith}
@@ -37,7 +37,7 @@ returns-2 c o led =
     let sum =
     group-same (o .gathered) (readRow (a .wired) (a .lines .now) (a .pins)) (read-narrow (a .wired) (a .lines .now) (a .pins) (o .count) (o .wide))
     (a .library .now) (a .group) (o .few) (o .groupFits) in
-    visited (groupVisit (a .wired) (a .kind) (a .lines .now) (a .pins) (a .library .now) (a .group) (a .place)) (a .numbers .now) inside (c .store .ensures) (a .role)
+    visited (groupVisit (a .wired) (a .kind) (a .lines .now) (a .pins) (a .library .now) (a .group) (a .place)) (a .numbers .now) inside (c .store .ensures)
     (c .before .number-of .ensures ∙ renewed c .lesser-of .ensures ∙ rw (summed c .least-of .ensures, sum))
 
 pub visit-spec : {M : Type 1} → statement M

@@ -7,29 +7,30 @@ use lib.ListN.{length}
 use borrow.Author.Needs.{needs}
 use Rattle.sizes.specs.Sizes as Size
 use Rattle.sizes.specs.Places.{groupPlace}
-use Rattle.awake.specs.Lines.{Chained, Driven}
-use Rattle.gates.specs.Tables.{gateCell, gatePins, gateLines, roleColumns, visitCount, visitGroup, visitWired, gateVisit}
+use Rattle.links.specs.Lines.{Chained, Driven}
+use Rattle.netlist.specs.Gates.{gateCell, gateLines}
+use Rattle.gates.specs.Tables.{gatePins, roleColumns, visitCount, visitGroup, visitWired, gateVisit}
 use Rattle.gates.specs.Fits.{LinesFit, GroupFits, GatherFits, GateFits}
 use Rattle.gates.proofs.Roles.{visit-low, group-low, place-inside}
-use Rattle.visits.specs.Order.{ruleOf, firstVisits}
+use Rattle.visits.specs.Order.{firstVisits}
 use Rattle.plans.specs.Idle.{inTurn}
 use Rattle.visits.specs.Renewed.{Renewed, Swept}
 use Rattle.visits.specs.Waking.{visitLine, DrivenOnce, ChangesWoken}
-use Rattle.visits.proofs.Turning.{rows-same, wired-same, gather-first, led, visit-fits, costs-of, gather-next}
+use Rattle.visits.proofs.Turning.{rows-same, gather-first, led, visit-fits, costs-of, gather-next}
 use Rattle.visits.proofs.Waking.{line-inside, visit-few, woken-same, changes-none, changes-on}
 use Rattle.visits.proofs.Visits.{swept-none, swept-one, swept-length, next-turn, visit-is}
 use Rattle.visits.proofs.visit_gate.Statement.{statement}
 use Rattle.visits.proofs.visit_gate.Tie as tie
 
 abbrev Inv-loop : tie.InvT-loop
-Inv-loop role kind library netlist first next driver tied numbers₀ awake₀ gate gates cell pins lines count wired costs₀ stale₀ changed₀ i₀ numbers awake costs stale changed i =
+Inv-loop role kind library netlist links numbers₀ awake₀ gate gates cell pins lines count wired costs₀ stale₀ changed₀ i₀ numbers awake costs stale changed i =
     (i ≤ count)
-    × Swept (ruleOf role) (firstVisits role kind library netlist gate i) numbers₀ numbers changed
+    × Swept (firstVisits role kind library netlist gate i) numbers₀ numbers changed
     × ChangesWoken role kind library netlist awake₀ numbers₀ awake numbers
     × GatherFits stale role kind lines pins numbers costs
 
 abbrev μ-loop : tie.MeasureT-loop
-μ-loop role kind library netlist first next driver tied numbers₀ awake₀ gate gates cell pins lines count wired costs₀ stale₀ changed₀ i₀ numbers awake costs stale changed i =
+μ-loop role kind library netlist links numbers₀ awake₀ gate gates cell pins lines count wired costs₀ stale₀ changed₀ i₀ numbers awake costs stale changed i =
     count - i
 
 -- ---- places
@@ -83,7 +84,7 @@ wired-are : (c : tie.In-loop Inv-loop μ-loop)
     → let a = began (counted c) .args in decided c .wired-of .result ≡ visitWired (a .role) (a .library .now) (a .netlist .now) (a .gate)
 wired-are c =
     let s = began (counted c) in
-    wired-same (s .args .role) (s .pre .linksFit .noted) (s .pre .inside) (decided c .wired-of .ensures)
+    decided c .wired-of .ensures _ _ _ (s .pre .linksFit .linked .tied) (s .pre .inside)
 
 turn : (c : tie.In-loop Inv-loop μ-loop) → c .before .loop .i < visitCount (began (counted c) .args .role) (counted c .before .before .wide2 .result)
 turn c = rw (counted c .visit-count .ensures) at (c .loop-test .taken)
@@ -123,7 +124,7 @@ rows-fit c =
     (gate-fits d .groups (a .role) (a .kind) (l .before .loop .i) (s .pre .linksFit .roleFits) (s .pre .linksFit .kindFits) (subst (λ (n : ℕ). l .before .loop .i < visitCount (a .role) n) (pins-are d) (turn l)))
 
 numbers-length : (c : tie.In-loop Inv-loop μ-loop) → length (c .before .loop .numbers) ≡ Size.numbers
-numbers-length c = swept-length (began (counted c) .args .role) (c .before .loop .inv .1) ∙ began (counted c) .pre .size
+numbers-length c = swept-length (c .before .loop .inv .1) ∙ began (counted c) .pre .size
 
 visit-requires : tie.Need-visit-requires Inv-loop μ-loop
 visit-requires c κs =
@@ -141,7 +142,7 @@ visit-requires c κs =
 made : (v : tie.After-visit Inv-loop μ-loop)
     → let l = looping (grouped (placed v) .before) in
     let a = began (counted l) .args in
-    Renewed (ruleOf (a .role)) (gateVisit (a .role) (a .kind) (a .library .now) (a .netlist .now) (a .gate) (l .before .loop .i)) (l .before .loop .numbers) (v .visit .last .1 .1 .1 .1 .1 .1 .1 .0) (v .visit .result)
+    Renewed (gateVisit (a .role) (a .kind) (a .library .now) (a .netlist .now) (a .gate) (l .before .loop .i)) (l .before .loop .numbers) (v .visit .last .1 .1 .1 .1 .1 .1 .1 .0) (v .visit .result)
 made v =
     let p = placed v in
     let g = grouped p in
@@ -155,21 +156,21 @@ made v =
     rw this at (v .visit .ensures
     (costs-of (a .role) (s .pre .linksFit .kindFits) (lines-fit d) (rows-fit g) (numbers-length l) (g .before .column-costs .ensures))
     (led (a .role) (s .pre .linksFit .kindFits) (lines-fit d) this (g .before .column-costs .ensures)
-    (λ h. rw (← d .before .lines-of .ensures) at (s .pre .linksFit .linked .leads (a .gate) (l .before .loop .i) (s .pre .inside) (subst (λ (n : ℕ). l .before .loop .i < visitCount (a .role) n) (pins-are d) (turn l)) h))))
+    (λ h. rw (← d .before .lines-of .ensures) at (s .pre .linksFit .needs .leads (a .gate) (l .before .loop .i) (s .pre .inside) (subst (λ (n : ℕ). l .before .loop .i < visitCount (a .role) n) (pins-are d) (turn l)) h))))
 
 -- The arrays, for the count of gates that was read.
-chained : (c : tie.After-visit-count Inv-loop μ-loop) → let a = began c .args in Chained (a .netlist .now) (gatesRead c .wide .result) (a .first .now) (a .next .now)
+chained : (c : tie.After-visit-count Inv-loop μ-loop) → let a = began c .args in Chained (a .netlist .now) (gatesRead c .wide .result) (a .links .now)
 chained c =
     let a = began c .args in
-    subst (λ (n : ℕ). Chained (a .netlist .now) n (a .first .now) (a .next .now)) (sym (gatesRead c .wide .ensures)) (began c .pre .linksFit .linked .chained)
+    subst (λ (n : ℕ). Chained (a .netlist .now) n (a .links .now)) (sym (gatesRead c .wide .ensures)) (began c .pre .linksFit .linked .chained)
 
-driven : (c : tie.After-visit-count Inv-loop μ-loop) → let a = began c .args in Driven (a .netlist .now) (gatesRead c .wide .result) (a .driver .now)
+driven : (c : tie.After-visit-count Inv-loop μ-loop) → let a = began c .args in Driven (a .netlist .now) (gatesRead c .wide .result) (a .links .now)
 driven c =
     let a = began c .args in
-    subst (λ (n : ℕ). Driven (a .netlist .now) n (a .driver .now)) (sym (gatesRead c .wide .ensures)) (began c .pre .linksFit .linked .driven)
+    subst (λ (n : ℕ). Driven (a .netlist .now) n (a .links .now)) (sym (gatesRead c .wide .ensures)) (began c .pre .linksFit .linked .driven)
 
 once : (c : tie.After-visit-count Inv-loop μ-loop) → DrivenOnce (began c .args .netlist .now) (gatesRead c .wide .result)
-once c = subst (DrivenOnce (began c .args .netlist .now)) (sym (gatesRead c .wide .ensures)) (began c .pre .linksFit .linked .once)
+once c = subst (DrivenOnce (began c .args .netlist .now)) (sym (gatesRead c .wide .ensures)) (began c .pre .linksFit .needs .once)
 
 -- The line whose number the turn renews.
 line-is : (c : tie.After-visit-line Inv-loop μ-loop)
@@ -212,12 +213,12 @@ loop-again c =
     let done = next-turn (λ i. gateVisit (a .role) (a .kind) (a .library .now) (a .netlist .now) (a .gate) i ∷ []) (l .before .loop .i) (inv .1) (swept-one (made v)) in (
       omega (arith, l .loop-test .taken),
       rw (c .either .ensures) done,
-      changes-on (a .role) (a .kind) (a .library .now) (a .netlist .now) (s .pre .linksFit .linked) (a .gate) (l .before .loop .i) (s .pre .inside)
+      changes-on (a .role) (a .kind) (a .library .now) (a .netlist .now) (s .pre .linksFit .needs) (a .gate) (l .before .loop .i) (s .pre .inside)
           (subst (λ (n : ℕ). l .before .loop .i < visitCount (a .role) n) (pins-are d) (turn l))
           (inv .2) (made v)
           (woken-same (gatesRead d .wide .ensures) (line-is x) woken),
       gather-next (a .role) (s .pre .linksFit .kindFits) (lines-fit d) (rows-fit g) (numbers-length l) (g .before .column-costs .ensures) (made v)
-          (swept-length (a .role) done ∙ s .pre .size),
+          (swept-length done ∙ s .pre .size),
     )
 
 returns : tie.Need-returns Inv-loop μ-loop
@@ -242,11 +243,11 @@ visit-gate-spec =
     (λ c κs. search needs)
     (λ c κs. let s = c .before .before .before .before .before .before .before in s .pre .linksFit .tablesFit .gates (s .args .gate) (s .pre .inside) .room)
     (λ c κs. search needs)
-    (λ c κs. let s = began c in omega (arith, s .pre .inside, s .pre .linksFit .few))
+    (λ c κs. let s = began c in omega (arith, s .pre .inside, s .pre .linksFit .linked .chained .count))
     (unfold inTurn in
     (λ c.
     let s = began (c .before) in
-    (omega arith, swept-none (ruleOf (s .args .role)) (s .args .numbers .now), changes-none _ _ _ _ _ _, gather-first (s .args .role) (s .pre .linksFit .kindFits) (lines-fit (c .before)) (s .pre .size) refl)))
+    (omega arith, swept-none (s .args .numbers .now), changes-none _ _ _ _ _ _, gather-first (s .args .role) (s .pre .linksFit .kindFits) (lines-fit (c .before)) (s .pre .size) refl)))
     (λ c κs. c .before .before .before .before .loop .inv .3)
     (λ c. let f = gate-fits (counted (looping c)) in omega arith)
     (λ c κs. let l = looping c in (began (counted l) .pre .linksFit .kindFits, turn-low l))

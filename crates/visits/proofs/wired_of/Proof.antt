@@ -1,5 +1,5 @@
 -- `wired_of` goes by the role. Assumes nothing.
-use mathlib.Core.Path.{sym}
+use mathlib.Core.Path.{sym, _∙_}
 use native.Mathlib.Omega.{arith}
 use borrow.Author.Needs.{needs}
 use Rattle.gates.proofs.Roles.{role-set, role-observed}
@@ -10,6 +10,6 @@ pub wired-of-spec : {M : Type 1} → statement M
 wired-of-spec =
     tie.close
     (tie.spec
-    (λ c. search needs)
-    (λ c. sym (role-set _ _ _ (omega (arith, c .before .if1 .taken))))
-    (λ c. sym (role-observed _ _ _ (λ h. absurd (omega (arith, h, c .if1 .left))))))
+    (λ c library netlist gates t h. sym (role-observed _ _ _ (c .if1 .taken)))
+    (λ c κs. search needs)
+    (λ c library netlist gates t h. c .is-tied .ensures library netlist gates t h ∙ sym (role-set _ _ _ (omega (arith, c .before .if1 .left)))))

@@ -1,2 +1,0 @@
-pub mod Netlist
-pub mod Own

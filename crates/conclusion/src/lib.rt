@@ -1,0 +1,73 @@
+// The end of a call that analyses: from where reading left it, its refusal, or the numbers and the report.
+// specs/Finished.antt says what it does.
+//
+// For the crates above: `finish`, which `analysis` and `records` call once the library and the netlist are read.
+use calculation::Counts;
+use outcome::Answer;
+use outcome::Summary;
+use read_pair::Progress;
+use read_pair::clear_all;
+use reading::REPORT_LONG;
+use reading::Refusal;
+use report::Written;
+ghost use mathlib.Core.List.{List};
+ghost use Rattle.cell_library.specs.Cells.{Cell};
+ghost use Rattle.netlist.specs.Netlist.{Statement};
+ghost use Rattle.calculation.specs.Stored.{Holds, Ready};
+ghost use Rattle.outcome.specs.Answer.{answerRead, lentOf};
+ghost use Rattle.conclusion.specs.Finished.{Concluded, ReadyIfUnrefused, Finished};
+
+// Calculates and reports, from tables that hold an accepted library and netlist.
+fn conclude(library: &[u32], netlist: &[u32], numbers: &mut [u32], report: &mut [u8]) -> Answer
+    requires { ⌜ Ready (now library) (now netlist) (now numbers) ⌝ }
+    ensures { λ r. ⌜ ((cells : List Cell) (ss : List Statement)
+        → Holds (now (library .entry)) (now (netlist .entry)) cells ss
+        → Concluded cells ss (now (numbers .entry)) (now (report .entry))
+        (now (numbers .exit)) (now (report .exit)) (answerRead r)) ⌝ }
+{
+    let counts = sweep::calculate(library, netlist, numbers);
+    let written = report::write_report(netlist, numbers, counts, report);
+    match written {
+        Written::TooLong => Answer::Refused(Refusal {
+            number: REPORT_LONG,
+            line: 0,
+        }),
+        Written::Length(n) => Answer::Accepted(Summary {
+            length: n,
+            counts: counts,
+        }),
+    }
+}
+
+// The end of a call: its refusal, or the numbers and the report.
+pub fn finish(
+    library: &mut [u32],
+    netlist: &mut [u32],
+    numbers: &mut [u32],
+    report: &mut [u8],
+    progress: Progress,
+) -> Answer
+    requires { ⌜ ReadyIfUnrefused progress (now library) (now netlist) (now numbers) ⌝ }
+    ensures { λ r. ⌜ Finished progress
+        (lentOf (now (library .entry)) (now (netlist .entry)) (now (numbers .entry)) (now (report .entry)))
+        (lentOf (now (library .exit)) (now (netlist .exit)) (now (numbers .exit)) (now (report .exit)))
+        (answerRead r) ⌝ }
+{
+    match progress {
+        Progress::AtEntry(r) => Answer::Refused(r),
+        Progress::Later(r) => {
+            clear_all(library, netlist, numbers, report);
+            Answer::Refused(r)
+        }
+        Progress::Unrefused => {
+            let answer = conclude(library, netlist, numbers, report);
+            match answer {
+                Answer::Accepted(s) => Answer::Accepted(s),
+                Answer::Refused(r) => {
+                    clear_all(library, netlist, numbers, report);
+                    Answer::Refused(r)
+                }
+            }
+        }
+    }
+}

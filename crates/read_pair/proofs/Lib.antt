@@ -1,0 +1,4 @@
+pub mod Entering
+pub mod Netlist
+pub mod Reached
+pub mod Own
