@@ -4,10 +4,9 @@ use mathlib.Core.Bool.{false}
 use mathlib.Core.List.{List, [], _++_}
 use mathlib.Core.Path.{_≡_, refl, sym, _∙_}
 use Prim.Native.Nat.{ℕ}
-use borrow.Author.Tests.{ltb-false, le-leb}
+use borrow.Author.Tests.{ltb-false}
 use lib.Dec.{ltb}
 use lib.ListN.{length, drop, replicate}
-use Rattle.reading.specs.Choice.{pick}
 use Rattle.reading.specs.Numbers as No
 use Rattle.reading.specs.Refusal.{Read, refused, read, weigh}
 use Rattle.reading.specs.declared.Refusal.{Refusal}
@@ -15,7 +14,8 @@ use Rattle.reading.proofs.Laws.{refused-read, then-read, weigh-one}
 use Rattle.cell_library.specs.Cells.{Cell}
 use Rattle.netlist.specs.Netlist.{Statement}
 use Rattle.calculation.specs.Calculation.{analysed}
-use Rattle.report.specs.Report.{reportAfter}
+use Rattle.writer.specs.Buffer.{leftBy}
+use Rattle.writer.proofs.Buffer.{text-fits}
 use Rattle.calculation.specs.Stored.{Holds}
 use Rattle.outcome.specs.declared.Answer.{Answer}
 use Rattle.outcome.specs.declared.Answer.the-variants as Answers
@@ -48,11 +48,11 @@ module _ (s : Progress) (m : Lent) where
       → Concluded cells ss (m .numbers) (m .report) na ra (answerRead a)) where
     made-from : (cells : List Cell) (ss : List Statement) (x : Summary) → Concluded cells ss (m .numbers) (m .report) na ra (read x)
         → (o : Read Accepted) → conclude cells ss (length (m .report)) ≡ o → Made o m (lentOf (m .library) (m .netlist) na ra) (read x)
-    unfolding answer made reportAfter pick
+    unfolding answer made leftBy
     made-from cells ss x c (refused number line) q = refused-read (sym (rw q at (c .answers)))
     made-from cells ss x c (read b) q =
         let same = concludes cells ss (length (m .report)) b q in
-        let within = le-leb (length (reportOf ss (analysed cells ss))) (length (m .report)) (ltb-false _ _ (fits cells ss (length (m .report)) b q)) in
+        let within = text-fits No.reportLong (length (m .report)) (reportOf ss (analysed cells ss)) (ltb-false _ _ (fits cells ss (length (m .report)) b q)) in
         let report : ra ≡ reportOf ss (analysed cells ss) ++ drop (length (reportOf ss (analysed cells ss))) (m .report) = rw within at (c .report) in
         record {
           answers = rw q at (c .answers);

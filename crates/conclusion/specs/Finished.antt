@@ -5,23 +5,25 @@ use mathlib.Core.Path.{_≡_}
 use Prim.Native.Nat.{ℕ}
 use lib.ListN.{length, drop}
 use Rattle.sizes.specs.Sizes as Size
+use Rattle.reading.specs.Numbers as No
 use Rattle.reading.specs.Refusal.{Read, refused, read}
 use Rattle.cell_library.specs.Cells.{Cell}
 use Rattle.netlist.specs.Netlist.{Statement}
 use Rattle.calculation.specs.Calculation.{analysed}
 use Rattle.calculation.specs.Stored.{Holds, Ready}
-use Rattle.report.specs.Report.{reportAfter}
+use Rattle.writer.specs.Buffer.{textWithin, leftBy}
 use Rattle.outcome.specs.declared.Summary.{Summary}
 use Rattle.outcome.specs.Outcome as O
 use Rattle.read_pair.specs.declared.Progress.{Progress}
 use Rattle.read_pair.specs.declared.Progress.the-variants.{Unrefused, AtEntry, Later}
 
 -- The calculation and the report of accepted cells and statements.
-pub record Concluded (cells : List Cell) (ss : List Statement) (numbersBefore reportBefore numbersAfter reportAfter′ : List ℕ)
+pub record Concluded (cells : List Cell) (ss : List Statement) (numbersBefore reportBefore numbersAfter reportAfter : List ℕ)
     (said : Read Summary) : Type 0 where
   pub answers : said ≡ O.answer (O.conclude cells ss (length reportBefore))
   pub numbers : numbersAfter ≡ analysed cells ss .numbers ++ drop Size.numbers numbersBefore
-  pub report : reportAfter′ ≡ reportAfter (O.reportOf ss (analysed cells ss)) reportBefore
+  pub report : reportAfter
+      ≡ leftBy (textWithin No.reportLong (length reportBefore) (O.reportOf ss (analysed cells ss))) reportBefore
 
 -- What the calculation and the report leave in tables that hold what was read.
 unfoldable pub made : Read O.Accepted → O.Lent → O.Lent

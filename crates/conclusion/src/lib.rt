@@ -8,8 +8,7 @@ use outcome::Summary;
 use read_pair::Progress;
 use read_pair::clear_all;
 use reading::REPORT_LONG;
-use reading::Refusal;
-use report::Written;
+use writer::Written;
 ghost use mathlib.Core.List.{List};
 ghost use Rattle.cell_library.specs.Cells.{Cell};
 ghost use Rattle.netlist.specs.Netlist.{Statement};
@@ -26,12 +25,10 @@ fn conclude(library: &[u32], netlist: &[u32], numbers: &mut [u32], report: &mut 
         (now (numbers .exit)) (now (report .exit)) (answerRead r)) ⌝ }
 {
     let counts = sweep::calculate(library, netlist, numbers);
-    let written = report::write_report(netlist, numbers, counts, report);
+    let end = report::put_report(report, 0, netlist, numbers, counts);
+    let written = writer::close(report, end, REPORT_LONG);
     match written {
-        Written::TooLong => Answer::Refused(Refusal {
-            number: REPORT_LONG,
-            line: 0,
-        }),
+        Written::Refused(r) => Answer::Refused(r),
         Written::Length(n) => Answer::Accepted(Summary {
             length: n,
             counts: counts,

@@ -1,26 +1,23 @@
 -- What a line of given fields comes to, case by case.
 -- Assumes nothing.
-use mathlib.Core.Bool.{Bool, true, false, not, _&&_}
-use mathlib.Core.List.{List, [], _∷_, _++_, map}
+use mathlib.Core.Bool.{Bool, true, _&&_}
+use mathlib.Core.List.{List, map}
 use mathlib.Core.Option.{Option, none, some}
-use mathlib.Core.Path.{_≡_, refl, sym, ap, _∙_}
+use mathlib.Core.Path.{_≡_, refl}
 use Prim.Native.Nat.{ℕ, _^_, _≤_, _<_}
 use native.Mathlib.Omega.{arith}
-use lib.Dec.{leb, ltb, eqb}
-use lib.ListN.{length, drop}
+use lib.ListN.{length}
 use borrow.Author.Tests.{lt-ltb, le-ltb, le-leb, lt-leb, eq-eqb, ne-eqb}
 use Rattle.reading.specs.Choice.{pick}
-use Rattle.reading.specs.Refusal.{Read, refused, read, _>>=_, _>>_, weigh, form}
-use Rattle.reading.proofs.Laws.{by-test, clash, and-left, and-right}
+use Rattle.reading.specs.Numbers as No
+use Rattle.reading.specs.Refusal.{Read, refused, _>>=_, _>>_, weigh, form}
+use Rattle.reading.proofs.Laws.{by-test, and-right}
 use Rattle.text.specs.Numeral.{decimal, nameForm}
-use Rattle.writer.specs.Put.{Put}
-use Rattle.writer.proofs.Steps.{put-front}
+use Rattle.writer.specs.Buffer.{textWithin}
 use Rattle.truth_tables.specs.Entries.{cellOf, entryBytes}
 use Rattle.truth_tables.specs.Tables.{allOf}
-use Rattle.prime_rows.specs.Masks.{isBit, isOne, Bits}
-use Rattle.generator.specs.Generated.{withPins, tableLine, wrongCount, entryOf, judged, fitted, judgedInto, leftBy, answerRead, lengthRead, Comes}
-use Rattle.generator.specs.declared.Generated.{Generated}
-use Rattle.generator.specs.declared.Generated.the-variants.{Length, Refused}
+use Rattle.prime_rows.specs.Masks.{isBit, isOne}
+use Rattle.generator.specs.Generated.{withPins, tableLine, wrongCount, entryOf, judged, judgedInto}
 
 module _ (room : ℕ) (formed : Bool) (name digits bits : List ℕ) where
   -- The pins of the line.
@@ -63,21 +60,6 @@ module _ (room : ℕ) (formed : Bool) (name digits bits : List ℕ) where
         abbrev pub made : List ℕ
         made = entryBytes (cellOf name n (map isOne bits))
 
-        comes-made : judged (tableLine formed name digits bits) ≡ read made
-        unfolding judged form _>>=_ withPins entryOf wrongCount weigh pick _>>_
+        pub comes-made : comesTo ≡ textWithin No.reportLong room made
+        unfolding judgedInto judged form _>>=_ withPins entryOf wrongCount weigh pick _>>_
         comes-made = rw (by-pins, e, le-leb n 4 h, eq-eqb (length bits) (2 ^ n) l, le-ltb 4 n h) refl
-
-        pub comes-long : room < length made → comesTo ≡ refused 17 0
-        unfolding judgedInto _>>=_ fitted weigh pick _>>_
-        comes-long q = rw (comes-made, lt-ltb room (length made) q) refl
-
-        pub comes-whole : length made ≤ room → comesTo ≡ read made
-        unfolding judgedInto _>>=_ fitted weigh pick _>>_
-        comes-whole q = rw (comes-made, le-ltb room (length made) q) refl
-
--- An entry that was put into a buffer whole.
-pub put-whole : (entry before after : List ℕ) (next : ℕ) → Put 0 entry before after next → next ≤ length before → Comes (read entry) before after (Length next)
-unfolding answerRead lengthRead leftBy
-put-whole entry before after next p h =
-    let all : next ≡ length entry = omega (arith, p .moved) in
-    record { answers = ap (λ (k : ℕ). read k) all; leaves = put-front p (omega (arith, p .moved)) }

@@ -3,4 +3,4 @@ pub mod Groups
 pub mod Listing
 pub mod Tables
 pub mod Judging
-pub mod Shown
+pub mod Bounded

@@ -1,24 +1,22 @@
 -- What the generator makes of a text, and what it leaves in a lent buffer. Document 02, K6.
 -- Assumes nothing.
-use mathlib.Core.Bool.{Bool, true, false, not, _&&_}
-use mathlib.Core.List.{List, [], _∷_, _++_, map}
+use mathlib.Core.Bool.{Bool, true, not, _&&_}
+use mathlib.Core.List.{List, [], _∷_, map}
 use mathlib.Core.Option.{Option, none, some}
-use mathlib.Core.Path.{_≡_}
 use Prim.Native.Nat.{ℕ, _^_}
 use lib.Dec.{leb, ltb, eqb}
-use lib.ListN.{length, drop, replicate}
+use lib.ListN.{length}
 use Rattle.sizes.specs.Sizes as Size
 use Rattle.reading.specs.Choice.{pick}
 use Rattle.reading.specs.Numbers as No
-use Rattle.reading.specs.Refusal.{Read, refused, read, _>>=_, _>>_, weigh, form, refusal-open}
+use Rattle.reading.specs.Refusal.{Read, read, _>>=_, _>>_, weigh, form, refusal-open}
 use Rattle.text.specs.Lines.{lines, lines-open}
 use Rattle.text.specs.Numeral.{decimal, nameForm, numeral-open}
+use Rattle.writer.specs.Buffer.{textWithin}
 use Rattle.cell_library.specs.Library.{Fields}
 use Rattle.truth_tables.specs.Entries.{cellOf, entryBytes, entries-open}
 use Rattle.truth_tables.specs.Tables.{allOf}
 use Rattle.prime_rows.specs.Masks.{isBit, isOne}
-use Rattle.generator.specs.declared.Generated.{Generated}
-use Rattle.generator.specs.declared.Generated.the-variants.{Length, Refused}
 
 -- ---- the line
 
@@ -72,36 +70,13 @@ judged o = form No.libraryForm 1 o >>= entryOf
 unfoldable pub generated : List ℕ → Read (List ℕ)
 generated text = weigh 0 ((No.textLong, ltb Size.textBytes (length text)) ∷ []) >> judged (oneLine (lines text))
 
--- ---- in a lent buffer
-
--- "17 when the buffer is too short", of so many bytes.
-unfoldable pub fitted : ℕ → List ℕ → Read (List ℕ)
-fitted room entry = weigh 0 ((No.reportLong, ltb room (length entry)) ∷ []) >> read entry
+-- ---- in a lent buffer, which has room for so many bytes: "17 report longer than its buffer"
 
 unfoldable pub judgedInto : ℕ → Option TableLine → Read (List ℕ)
-judgedInto room o = judged o >>= fitted room
+judgedInto room o = judged o >>= textWithin No.reportLong room
 
 unfoldable pub generatedInto : List ℕ → ℕ → Read (List ℕ)
-generatedInto text room = generated text >>= fitted room
-
--- The entry in the buffer's front, and what stood behind it; a refusal at entry leaves all as it was, any other all zero.
-unfoldable pub leftBy : Read (List ℕ) → List ℕ → List ℕ
-leftBy (refused number line) before = pick (No.ofEntry number) before (replicate (length before) 0)
-leftBy (read entry) before = entry ++ drop (length entry) before
-
--- What an answer says: the entry's length, or the refusal.
-unfoldable pub answerRead : Generated → Read ℕ
-answerRead (Length n) = read n
-answerRead (Refused r) = refused (r .number) (r .line)
-
-unfoldable pub lengthRead : Read (List ℕ) → Read ℕ
-lengthRead (refused number line) = refused number line
-lengthRead (read entry) = read (length entry)
-
--- A call that comes to this, into a buffer.
-pub record Comes (o : Read (List ℕ)) (before after : List ℕ) (r : Generated) : Type 0 where
-  pub answers : answerRead r ≡ lengthRead o
-  pub leaves : after ≡ leftBy o before
+generatedInto text room = generated text >>= textWithin No.reportLong room
 
 -- Opens the page's definitions, where a figure computes with them.
 unfoldable pub generated-open : ℕ

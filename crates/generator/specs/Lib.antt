@@ -1,3 +1,3 @@
 pub mod Printed
 pub mod Generated
-pub mod Shown
+pub mod Bounded

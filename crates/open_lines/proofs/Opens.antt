@@ -3,12 +3,10 @@
 use mathlib.Core.Bool.{Bool, true, false, _||_}
 use mathlib.Core.List.{List, [], _∷_, _++_, append-nil, append-assoc}
 use mathlib.Core.Path.{_≡_, refl, sym, ap, fun-ext, _∙_}
-use Prim.Native.Nat.{ℕ, zero, suc, _+_, _*_, _^_, _≤_, _<_, min}
+use Prim.Native.Nat.{ℕ, zero, suc, _+_, _*_, _≤_, _<_}
 use native.Mathlib.Omega.{arith}
 use borrow.Author.Tests.{le-ltb}
-use lib.Dec.{ltb}
-use lib.ListN.{length, take, drop, length-append, replicate, length-replicate}
-use lib.Seq.{take-at, length-sets}
+use lib.ListN.{length, drop, length-append, replicate, length-replicate}
 use Rattle.sizes.specs.Sizes as Size
 use Rattle.reading.specs.Choice.{pick}
 use Rattle.reading.specs.Numbers as No
@@ -16,11 +14,11 @@ use Rattle.reading.specs.Refusal.{Read, refused, read, _>>=_, _>>_, weigh}
 use Rattle.reading.specs.declared.Refusal.{Refusal}
 use Rattle.reading.proofs.Laws.{by-test}
 use Rattle.text.specs.Bytes.{bytes}
-use Rattle.writer.specs.Decimal.{decimalBytes}
 use Rattle.writer.specs.Put.{Put}
 use Rattle.writer.specs.Refused.{refusalBytes}
-use Rattle.writer.proofs.Decimal.{decimal-below, decimal-length}
-use Rattle.writer.proofs.Steps.{put-front}
+use Rattle.writer.specs.Buffer.{shown}
+use Rattle.writer.proofs.Decimal.{decimal-below}
+use Rattle.writer.proofs.Buffer.{refusal-short, put-prints}
 use Rattle.cell_library.specs.Cells.{Cell}
 use Rattle.cell_library.specs.Library.{library}
 use Rattle.netlist.specs.declared.Rules.the-variants.{Old}
@@ -40,7 +38,7 @@ use Rattle.read_pair.specs.Progress.{Reached}
 use Rattle.outcome.specs.Outcome.{entryBy, givenBy, readPair, textLong, reportOf}
 use Rattle.outcome.proofs.Accepting.{read-as}
 use Rattle.outcome.proofs.Entering.{entered}
-use Rattle.outcome.specs.Printed.{reported, shown, printed}
+use Rattle.outcome.specs.Printed.{reported, printed}
 use Rattle.open_lines.specs.Copied.{copyBytes, copied, copyPrinted, Accepted, Copied}
 
 -- ---- the lines, one more
@@ -91,11 +89,6 @@ copy-length net ss h =
     rw (length-append net (openLines (linesWhere (undeclared ss) Size.lines 1)))
     (omega (arith, opens-length (undeclared ss) Size.lines 1 (omega arith)))
 
-refusal-length : (number line : ℕ) → length (refusalBytes number line) ≤ 50
-unfolding refusalBytes bytes
-refusal-length number line =
-    simp length-append (omega (arith, decimal-length number .1, decimal-length line .1))
-
 -- The lines that the table says are those of the statements that it holds.
 pub table-copy : {table : List ℕ} {ss : List Statement} → NetlistHolds table ss → (net : List ℕ)
     → net ++ openLines (linesWhere (wordsUndeclared table) Size.lines 1) ≡ copyOf net ss
@@ -137,23 +130,12 @@ module _ (lib net : List ℕ) where
 
   module _ (before : List ℕ) (room : copyBytes ≡ length before) (after : List ℕ) (said : ℕ) where
     put-all : (bs : List ℕ) → copyPrinted lib net ≡ bs → length bs ≤ copyBytes → Put 0 bs before after said → Copied lib net before after said
-    put-all bs e h p =
-        let fits : length bs ≤ length before = omega arith in
-        let counts : said ≡ length bs = omega (arith, p .moved) in
-        let front = put-front p fits in
-        record {
-          answers = rw e counts;
-          leaves = rw e front;
-          prints = rw (e, counts, front) (take-at bs (drop (length bs) before) (length bs) refl);
-          within = omega arith;
-          long = room ∙ sym (ap length (p .stored) ∙ length-sets before 0 bs);
-          accepted = accepted;
-        }
+    put-all bs e h p = record { bytes = rw e (put-prints p (omega arith) room); accepted = accepted }
 
     pub put-refused : (r : Refusal) → copied lib net ≡ refused (r .number) (r .line)
         → Put 0 (refusalBytes (r .number) (r .line)) before after said → Copied lib net before after said
     unfolding copyPrinted shown
-    put-refused r e p = put-all (refusalBytes (r .number) (r .line)) (rw e) (omega (arith, refusal-length (r .number) (r .line))) p
+    put-refused r e p = put-all (refusalBytes (r .number) (r .line)) (rw e) (omega (arith, refusal-short (r .number) (r .line))) p
 
   -- ---- where the reading by the old rules stands
 

@@ -2,20 +2,21 @@
 -- with `open,L` added at its end for each such line, ascending; it reads the files, and reports a refused one, as `scoap` does."
 -- Assumes nothing.
 use mathlib.Core.Bool.{_||_}
-use mathlib.Core.List.{List, [], _∷_, _++_}
+use mathlib.Core.List.{List, [], _∷_}
 use mathlib.Core.Path.{_≡_}
 use Prim.Native.Nat.{ℕ, _+_, _*_, _≤_}
-use lib.ListN.{length, take, drop}
+use lib.ListN.{length}
 use Rattle.sizes.specs.Sizes as Size
 use Rattle.reading.specs.Numbers as No
-use Rattle.reading.specs.Refusal.{Read, refused, read, _>>=_, _>>_, weigh}
+use Rattle.reading.specs.Refusal.{Read, read, _>>=_, _>>_, weigh}
+use Rattle.writer.specs.Buffer.{shown, Prints}
 use Rattle.cell_library.specs.Cells.{Cell}
 use Rattle.cell_library.specs.Library.{library}
 use Rattle.netlist.specs.declared.Rules.the-variants.{Old}
 use Rattle.netlist.specs.Netlist.{Statement, netlist}
 use Rattle.calculation.specs.Calculation.{analysed}
 use Rattle.outcome.specs.Outcome.{textLong, givenBy, readPair, reportOf}
-use Rattle.outcome.specs.Printed.{shown, printed}
+use Rattle.outcome.specs.Printed.{printed}
 use Rattle.copying.specs.Copy.{copyOf}
 use Rattle.copying.specs.Kept.{Kept}
 
@@ -40,13 +41,8 @@ pub record Accepted (lib net : List ℕ) (cells : List Cell) (ss : List Statemen
   pub keeps : Kept cells net ss
   pub reports : length (copyOf net ss) ≤ Size.textBytes → printed lib (copyOf net ss) ≡ reportOf ss (analysed cells ss)
 
--- What `put_copy` promises: by equation its answer, which counts the bytes to print, and the whole buffer afterwards; that
--- nothing of them is cut off; and what the copy keeps.
+-- What `put_copy` promises: what is printed stands in the buffer's front, nothing of it cut off; and what the copy keeps.
 pub record Copied (lib net before after : List ℕ) (said : ℕ) : Type 0 where
-  pub answers : said ≡ length (copyPrinted lib net)
-  pub leaves : after ≡ copyPrinted lib net ++ drop (length (copyPrinted lib net)) before
-  pub prints : take said after ≡ copyPrinted lib net
-  pub within : said ≤ copyBytes
-  pub long : copyBytes ≡ length after
+  pub bytes : Prints copyBytes (copyPrinted lib net) before after said
   pub accepted : (cells : List Cell) (ss : List Statement) → length lib ≤ Size.textBytes → length net ≤ Size.textBytes
       → library lib ≡ read cells → netlist Old cells net ≡ read ss → Accepted lib net cells ss

@@ -43,7 +43,7 @@ module _ (lib net : List ℕ) (m : Lent) where
       from (refused number line) e = unfold _>>_ in subst (Within anyNumber lastLine) e at-entry
       from (read u) e = unfold _>>_ in let k = entered _ _ _ _ _ (texts-entry New lib net m ∙ e) in h (k .lib-short) (k .net-short)
 
-  texts-within : Within anyNumber lastLine (outcome (givenTexts lib net) m)
+  pub texts-within : Within anyNumber lastLine (outcome (givenTexts lib net) m)
   unfolding outcome reading conclude
   texts-within =
       behind-entry (reading (givenTexts lib net) (length (m .report)))

@@ -4,9 +4,9 @@ use mathlib.Core.Bool.{_||_}
 use mathlib.Core.List.{List, [], _∷_}
 use Prim.Native.Nat.{ℕ}
 use Rattle.reading.specs.Numbers as No
-use Rattle.reading.specs.Refusal.{Read, refused, read, _>>=_, _>>_, weigh}
+use Rattle.reading.specs.Refusal.{Read, read, _>>=_, _>>_, weigh}
 use Rattle.calculation.specs.Calculation.{analysed}
-use Rattle.writer.specs.Refused.{refusalBytes}
+use Rattle.writer.specs.Buffer.{shown}
 use Rattle.outcome.specs.Outcome.{textLong, givenTexts, readPair, reportOf}
 
 -- What two texts come to: a report, or a refusal, 2 to 15 or 20. "Table sizes published are those of the tables that `scoap`
@@ -16,11 +16,7 @@ reported lib net =
     weigh 0 ((No.textLong, textLong lib || textLong net) ∷ [])
     >> (readPair (givenTexts lib net) >>= λ p. read (reportOf (p .statements) (analysed (p .cells) (p .statements))))
 
--- "it prints all of" the report. "On refusal the program prints `refused,number,line`".
-unfoldable pub shown : Read (List ℕ) → List ℕ
-shown (refused number line) = refusalBytes number line
-shown (read report) = report
-
--- "The program `scoap` reads `lib.txt` and `net.txt` and has a report buffer of 65,536 bytes."
+-- "The program `scoap` reads `lib.txt` and `net.txt` and has a report buffer of 65,536 bytes", and "prints all of" the report. "On refusal
+-- the program prints `refused,number,line`".
 unfoldable pub printed : List ℕ → List ℕ → List ℕ
 printed lib net = shown (reported lib net)

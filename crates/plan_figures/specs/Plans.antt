@@ -9,6 +9,7 @@ use Rattle.text.specs.Bytes.{text}
 use Rattle.reading.specs.Refusal.{Read, refused, read}
 use Rattle.outcome.specs.Outcome.{givenTexts}
 use Rattle.cheapest.specs.Text.{text-open}
+use Rattle.writer.specs.Buffer.{textWithin}
 use Rattle.planning.specs.Promise.{known, askedNumber, kindOf, planRead, planOutcome}
 use Rattle.figures.specs.Entries.{c1130, nand2, and2}
 use Rattle.figures.specs.Figures.{outcome-open, lent}
@@ -18,7 +19,7 @@ unfoldable pub planned : List String → List String → ℕ → ℕ → ℕ →
 planned lib net l v kind = planOutcome (givenTexts (text lib) (text net)) (lent (replicate 100 0)) l v kind
 
 unfoldable pub plans-open : ℕ
-unfolding outcome-open text-open known askedNumber kindOf planRead planOutcome lent planned
+unfolding outcome-open text-open textWithin known askedNumber kindOf planRead planOutcome lent planned
 plans-open = 0
 
 -- "For the C1130 entry and the net text .."

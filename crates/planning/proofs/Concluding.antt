@@ -1,14 +1,13 @@
 -- The end of the call.
 -- Assumes nothing.
-use mathlib.Core.Bool.{Bool, true, false, _&&_}
-use mathlib.Core.List.{List, [], _∷_, _++_}
-use mathlib.Core.Path.{_≡_, refl, sym, ap, subst, _∙_}
-use Prim.Native.Nat.{ℕ, zero, suc, _+_, _≤_, _<_, min}
-use native.Mathlib.Nat.{zero-add}
+use mathlib.Core.Bool.{true, _&&_}
+use mathlib.Core.List.{List, _++_}
+use mathlib.Core.Path.{_≡_, refl, sym, ap, _∙_}
+use Prim.Native.Nat.{ℕ, zero, suc, _+_, _≤_, _<_}
 use native.Mathlib.Omega.{arith}
 use borrow.Author.Tests.{lt-ltb, le-ltb, leb-true, ltb-true, ltb-false}
 use lib.Dec.{leb, ltb}
-use lib.ListN.{length, getD, drop, replicate, List·getD-append}
+use lib.ListN.{length, getD, drop, List·getD-append}
 use Rattle.sizes.specs.Sizes as Size
 use Rattle.sizes.specs.Places.{settingPlace}
 use Rattle.reading.specs.Choice.{pick}
@@ -16,12 +15,13 @@ use Rattle.reading.specs.Numbers.{noFigure, planLong}
 use Rattle.reading.specs.Refusal.{Read, refused, read, _>>_, weigh}
 use Rattle.reading.proofs.Laws.{by-test, and-left, and-right, refused-read}
 use Rattle.cost.specs.Cost.{most, never}
-use Rattle.writer.specs.Put.{Put}
-use Rattle.writer.proofs.Steps.{put-front}
+use Rattle.writer.specs.declared.Written.{Written}
+use Rattle.writer.specs.Buffer.{textWithin, lengthRead, writtenRead, Writes, Refuses, Closes}
+use Rattle.writer.proofs.Buffer.{text-fits, text-long, refuses-writes, put-closed}
 use Rattle.cell_library.specs.Cells.{Cell}
 use Rattle.netlist.specs.Netlist.{Statement}
 use Rattle.calculation.specs.Prices.{pricesOf}
-use Rattle.calculation.specs.Nodes.{Kind, combinational, sequential, kindNumber, set, node}
+use Rattle.calculation.specs.Nodes.{kindNumber, set, node}
 use Rattle.calculation.specs.Calculation.{analysed}
 use Rattle.calculation.specs.Acceptance.{BothSound}
 use Rattle.calculation.specs.declared.Counts.{Counts}
@@ -32,7 +32,7 @@ use Rattle.cheapest.specs.Text.{cheapestText}
 use Rattle.cheapest.specs.Plan.{Cheapest}
 use Rattle.cheapest.specs.Asked.{PlanPut, PutWhere}
 use Rattle.calculation.specs.Stored.{Holds, Calculated, HoldsAnalysis}
-use Rattle.planning.specs.Promise.{known, askedNumber, kindOf, planRead, lengthOf, textAfter, PlanConcluded}
+use Rattle.planning.specs.Promise.{known, askedNumber, kindOf, planRead, PlanConcluded}
 
 -- ---- what is asked for
 
@@ -100,17 +100,19 @@ module _ (cells : List Cell) (ss : List Statement) (l v kind : ℕ) (before : Li
   abbrev number : ℕ
   number = askedNumber (analysed cells ss .numbers) l v kind
 
-  pub over-read : most < number → planRead cells ss l v kind (length before) ≡ refused noFigure 0
+  over-read : most < number → planRead cells ss l v kind (length before) ≡ refused noFigure 0
   unfolding planRead weigh _>>_ pick
   over-read h = rw (lt-ltb most number h) refl
 
-  pub long-read : number ≤ most → length before < length text → planRead cells ss l v kind (length before) ≡ refused planLong 0
+  figure-read : number ≤ most → planRead cells ss l v kind (length before) ≡ textWithin planLong (length before) text
   unfolding planRead weigh _>>_ pick
-  long-read h q = rw (le-ltb most number h, lt-ltb (length before) (length text) q) refl
+  figure-read h = rw (le-ltb most number h) refl
 
-  pub fits-read : number ≤ most → length text ≤ length before → planRead cells ss l v kind (length before) ≡ read text
-  unfolding planRead weigh _>>_ pick
-  fits-read h q = rw (le-ltb most number h, le-ltb (length before) (length text) q) refl
+  long-read : number ≤ most → length before < length text → planRead cells ss l v kind (length before) ≡ refused planLong 0
+  long-read h q = figure-read h ∙ text-long planLong (length before) text q
+
+  fits-read : number ≤ most → length text ≤ length before → planRead cells ss l v kind (length before) ≡ read text
+  fits-read h q = figure-read h ∙ text-fits planLong (length before) text q
 
   -- One of the three it is.
   tested : {A : Type 0} → (most < number → A) → (number ≤ most → length before < length text → A) → (number ≤ most → length text ≤ length before → A) → A
@@ -120,43 +122,36 @@ module _ (cells : List Cell) (ss : List Statement) (l v kind : ℕ) (before : Li
       by-test (ltb (length before) (length text)) (λ u. long (ltb-false most number t) (ltb-true (length before) (length text) u))
       (λ u. fits (ltb-false most number t) (ltb-false (length before) (length text) u)))
 
-  ends : (o : Read (List ℕ)) → planRead cells ss l v kind (length before) ≡ o → (after : List ℕ) → after ≡ textAfter o before → (said : Read ℕ) → said ≡ lengthOf o
-      → (number ≤ most → Cheapest cells ss (kindOf kind) l v) → PlanConcluded cells ss l v kind before after said
-  unfolding lengthOf
-  ends o e after a said s plan =
-      record {
-        answers = s ∙ ap lengthOf (sym e);
-        leaves = a ∙ ap (λ (x : Read (List ℕ)). textAfter x before) (sym e);
-        plan = plan;
-        written = λ n q.
-            tested (λ h. refused-read (sym (sym q ∙ s ∙ ap lengthOf (sym e ∙ over-read h))))
-            (λ h k. refused-read (sym (sym q ∙ s ∙ ap lengthOf (sym e ∙ long-read h k))))
-            (λ h k. (h, read-same n (length text) (sym q ∙ s ∙ ap lengthOf (sym e ∙ fits-read h k))));
-        noNumber = λ line q.
-            tested (λ h. h)
-            (λ h k. refusals-differ noFigure planLong line 0 (λ z. omega arith) (sym q ∙ s ∙ ap lengthOf (sym e ∙ long-read h k)))
-            (λ h k. refused-read (sym q ∙ s ∙ ap lengthOf (sym e ∙ fits-read h k)));
-        tooLong = λ line q.
-            tested (λ h. refusals-differ planLong noFigure line 0 (λ z. omega arith) (sym q ∙ s ∙ ap lengthOf (sym e ∙ over-read h)))
-            (λ h k. (h, k)) (λ h k. refused-read (sym q ∙ s ∙ ap lengthOf (sym e ∙ fits-read h k)));
-      }
+  module _ (after : List ℕ) (w : Written) where
+    ends : Writes (planRead cells ss l v kind (length before)) before after w → (number ≤ most → Cheapest cells ss (kindOf kind) l v)
+        → PlanConcluded cells ss l v kind before after (writtenRead w)
+    unfolding lengthRead
+    ends c plan =
+        record {
+          answers = c .answers;
+          leaves = c .leaves;
+          plan = plan;
+          written = λ n q.
+              tested (λ h. refused-read (sym (sym q ∙ c .answers ∙ ap lengthRead (over-read h))))
+              (λ h k. refused-read (sym (sym q ∙ c .answers ∙ ap lengthRead (long-read h k))))
+              (λ h k. (h, read-same n (length text) (sym q ∙ c .answers ∙ ap lengthRead (fits-read h k))));
+          noNumber = λ line q.
+              tested (λ h. h)
+              (λ h k. refusals-differ noFigure planLong line 0 (λ z. omega arith) (sym q ∙ c .answers ∙ ap lengthRead (long-read h k)))
+              (λ h k. refused-read (sym q ∙ c .answers ∙ ap lengthRead (fits-read h k)));
+          tooLong = λ line q.
+              tested (λ h. refusals-differ planLong noFigure line 0 (λ z. omega arith) (sym q ∙ c .answers ∙ ap lengthRead (over-read h)))
+              (λ h k. (h, k)) (λ h k. refused-read (sym q ∙ c .answers ∙ ap lengthRead (fits-read h k)));
+        }
 
-  pub ends-over : most < number → (after : List ℕ) → after ≡ replicate (length before) 0 → (said : Read ℕ) → said ≡ refused noFigure 0 → PlanConcluded cells ss l v kind before after said
-  unfolding textAfter lengthOf
-  ends-over h after a said s = ends (refused noFigure 0) (over-read h) after a said s (λ q. absurd (omega arith))
+    pub ends-over : most < number → Refuses noFigure 0 before after w → PlanConcluded cells ss l v kind before after (writtenRead w)
+    ends-over h r =
+        ends (rw (over-read h) (refuses-writes noFigure 0 before after w refl r)) (λ q. absurd (omega arith))
 
-  module _ (h : number ≤ most) (middle : List ℕ) (end : ℕ) (put : PlanPut cells ss (kindOf kind) l v before middle end) where
-    pub ends-long : length before < end → (after : List ℕ) → after ≡ replicate (length before) 0 → (said : Read ℕ) → said ≡ refused planLong 0 → PlanConcluded cells ss l v kind before after said
-    unfolding textAfter lengthOf
-    ends-long q after a said s =
-        ends (refused planLong 0) (long-read h (omega (arith, put .put .moved))) after a said s (λ z. put .plan)
-
-    pub ends-fitting : end ≤ length before → (said : Read ℕ) → said ≡ read end → PlanConcluded cells ss l v kind before middle said
-    unfolding textAfter lengthOf
-    ends-fitting q said s =
-        let fits : length text ≤ length before = omega (arith, put .put .moved) in
-        let same : end ≡ length text = omega (arith, put .put .moved) in
-        ends (read text) (fits-read h fits) middle (put-front (put .put) fits) said (s ∙ ap read same) (λ z. put .plan)
+    pub ends-written : number ≤ most → (middle : List ℕ) (end : ℕ) → PlanPut cells ss (kindOf kind) l v before middle end
+        → Closes planLong end middle after w → PlanConcluded cells ss l v kind before after (writtenRead w)
+    ends-written h middle end put c =
+        ends (rw (figure-read h) (put-closed planLong refl (put .put) c)) (λ z. put .plan)
 
 -- ---- the plan that is put
 

@@ -1,85 +1,51 @@
 -- What is printed of two texts, from the promise of `write_plan` on tables of its own and a buffer of 65,536 bytes.
 -- Assumes nothing.
-use mathlib.Core.List.{List, _++_}
-use mathlib.Core.Path.{_≡_, refl, sym, ap, _∙_}
-use Prim.Native.Nat.{ℕ, _≤_}
+use mathlib.Core.List.{List}
+use mathlib.Core.Path.{_≡_, refl, ap, _∙_}
+use Prim.Native.Nat.{ℕ}
 use native.Mathlib.Omega.{arith}
-use lib.ListN.{length, take, drop, length-append}
-use lib.Seq.{take-append-seam, drop-append-seam, length-sets}
+use lib.ListN.{length}
 use Rattle.sizes.specs.Sizes as Size
-use Rattle.reading.specs.Refusal.{Read, refused, read}
-use Rattle.reading.specs.declared.Refusal.{Refusal}
-use Rattle.reading.proofs.Laws.{refused-read, then-read, bind-read}
-use Rattle.text.specs.Bytes.{bytes}
-use Rattle.writer.specs.Put.{Put}
-use Rattle.writer.specs.Refused.{refusalBytes}
-use Rattle.writer.proofs.Decimal.{decimal-length}
-use Rattle.writer.proofs.Steps.{put-front}
-use Rattle.outcome.specs.Outcome as O
-use Rattle.outcome.specs.Outcome.{givenTexts}
+use Rattle.reading.specs.Choice.{pick}
+use Rattle.reading.specs.Refusal.{Read, refused, read, _>>=_, _>>_}
+use Rattle.reading.proofs.Bounds.{text-not-entry}
+use Rattle.writer.specs.declared.Written.{Written}
+use Rattle.writer.specs.Buffer.{leftBy, writtenRead, ShownBy, Writes}
+use Rattle.writer.proofs.Buffer.{writes-prints}
+use Rattle.outcome.specs.Outcome.{Given, Lent, Pair, entry, readPair, zeroed, givenTexts}
 use Rattle.outcome.specs.Own.{ownTables}
-use Rattle.planning.specs.declared.Written.{Written}
-use Rattle.planning.specs.declared.Written.the-variants.{Length, Refused}
-use Rattle.planning.specs.Promise.{writtenRead, planOutcome, lengthOf, textAfter, planFilled, planLater, planFrom, planLeft, PlanPromised}
-use Rattle.planning.specs.Printed.{planShown, planPrinted, PlanPrinted}
+use Rattle.outcome.proofs.Checking.{Checked, texts-checked}
+use Rattle.outcome.proofs.Fitting.{entry-number, pair-number}
+use Rattle.planning.specs.Promise.{planOutcome, planFilled, planLater, planFrom, planLeft, PlanPromised}
+use Rattle.planning.specs.Printed.{planPrinted, PlanPrinted}
 
-refusal-short : (number line : ℕ) → length (refusalBytes number line) ≤ 50
-unfolding refusalBytes bytes
-refusal-short number line = simp length-append (omega (arith, decimal-length number .1, decimal-length line .1))
+-- What is left in the text buffer, by what the call comes to alone.
+text-left : (g : Given) → Checked g → (m : Lent) (l v kind : ℕ) → planLeft g m l v kind .report ≡ leftBy (planOutcome g m l v kind) (m .report)
+unfolding planLeft planFrom planLater planFilled planOutcome leftBy zeroed pick _>>_ _>>=_
+text-left g checked m l v kind = from-entry (entry g m) refl
+  where
+    from-pair : entry g m ≡ read tt → (o : Read Pair) → readPair g ≡ o → planLeft g m l v kind .report ≡ leftBy (planOutcome g m l v kind) (m .report)
+    from-pair e (refused number line) q =
+        rw (e, q, text-not-entry number (pair-number g checked number line q)) refl
+    from-pair e (read p) q = rw (e, q) refl
 
--- Where there is a text, nothing was refused, and the buffer has the text in its front.
-front-text : (g : O.Given) (m : O.Lent) (l v kind : ℕ) (text : List ℕ) → planOutcome g m l v kind ≡ read text
-    → planLeft g m l v kind .report ≡ text ++ drop (length text) (m .report)
-unfolding planOutcome planLeft planFrom planLater planFilled textAfter
-front-text g m l v kind text e =
-    then-read (O.entry g m) _ text
-    (λ u p r. bind-read (O.readPair g) _ text
-    (λ x q t. rw (p, q, t) refl) r) e
+    from-entry : (o : Read (Unit {0})) → entry g m ≡ o → planLeft g m l v kind .report ≡ leftBy (planOutcome g m l v kind) (m .report)
+    from-entry (refused number line) e = rw (e, entry-number g checked m number line e) refl
+    from-entry (read u) e = from-pair e (readPair g) refl
 
-module _ (lib net before : List ℕ) (l v kind : ℕ) where
-  abbrev outcome : Read (List ℕ)
-  outcome = planOutcome (givenTexts lib net) (ownTables before) l v kind
+module _ (lib net before : List ℕ) (l v kind : ℕ) (mid : Lent) (w : Written)
+    (p : PlanPromised (givenTexts lib net) (ownTables before) mid l v kind (writtenRead w)) where
+  writes : Writes (planOutcome (givenTexts lib net) (ownTables before) l v kind) before (mid .report) w
+  unfolding ownTables
+  writes =
+      record {
+        answers = p .answers;
+        leaves = ap (λ (m : Lent). m .report) (p .leaves)
+            ∙ text-left (givenTexts lib net) (texts-checked lib net) (ownTables before) l v kind;
+      }
 
-  pub text-printed : (after : O.Lent) (w : Written) → PlanPromised (givenTexts lib net) (ownTables before) after l v kind (writtenRead w)
-      → (n : ℕ) → w ≡ Length n → Size.reportBytes ≡ length (after .report) → PlanPrinted lib net l v kind before (after .report) n
-  unfolding lengthOf planPrinted planShown ownTables writtenRead
-  text-printed after w promised n is long = go (rw is at promised) outcome refl
-    where
-      go : PlanPromised (givenTexts lib net) (ownTables before) after l v kind (read n) → (o : Read (List ℕ)) → outcome ≡ o
-          → PlanPrinted lib net l v kind before (after .report) n
-      go p (refused number line) e = refused-read (sym (p .answers ∙ ap lengthOf e))
-      go p (read text) e =
-          let size : n ≡ length text = cc (p .answers ∙ ap lengthOf e) in
-          let left = ap (λ (m : O.Lent). m .report) (p .leaves) in
-          let front = front-text (givenTexts lib net) (ownTables before) l v kind text e in
-          let whole : after .report ≡ text ++ drop (length text) before = left ∙ front in
-          record {
-            answers = rw e size;
-            leaves = rw (e, front) (whole ∙ ap (λ (t : List ℕ). text ++ t) (sym (drop-append-seam text (drop (length text) before))));
-            prints = rw (e, size, whole) (take-append-seam text (drop (length text) before));
-            long = long;
-          }
-
-  pub refusal-printed : (mid : O.Lent) (w : Written) → PlanPromised (givenTexts lib net) (ownTables before) mid l v kind (writtenRead w)
-      → (r : Refusal) → w ≡ Refused r → Size.reportBytes ≡ length (mid .report) → (after : List ℕ) (said : ℕ)
-      → Put 0 (refusalBytes (r .number) (r .line)) (mid .report) after said → PlanPrinted lib net l v kind before after said
-  unfolding lengthOf planPrinted planShown writtenRead
-  refusal-printed mid w promised r is long after said q = go (rw is at promised) outcome refl
-    where
-      go : PlanPromised (givenTexts lib net) (ownTables before) mid l v kind (refused (r .number) (r .line)) → (o : Read (List ℕ))
-          → outcome ≡ o → PlanPrinted lib net l v kind before after said
-      go p (read text) e = refused-read (p .answers ∙ ap lengthOf e)
-      go p (refused number line) e =
-          let same : refused (r .number) (r .line) ≡ refused number line = p .answers ∙ ap lengthOf e in
-          let b = refusalBytes number line in
-          let same-number : r .number ≡ number = cc same in
-          let same-line : r .line ≡ line = cc same in
-          let put : Put 0 b (mid .report) after said = rw (same-number, same-line) at q in
-          let size : said ≡ length b = omega (arith, put .moved, refusal-short number line) in
-          let whole : after ≡ b ++ drop (length b) (mid .report) = put-front put (omega (arith, refusal-short number line)) in
-          record {
-            answers = rw e size;
-            leaves = rw e (whole ∙ ap (λ (m : O.Lent). b ++ drop (length b) (m .report)) (p .leaves));
-            prints = rw (e, size, whole) (take-append-seam b (drop (length b) (mid .report)));
-            long = long ∙ sym (ap length (put .stored) ∙ length-sets (mid .report) 0 b);
-          }
+  pub plan-printed : Size.reportBytes ≡ length (mid .report) → (after : List ℕ) (said : ℕ) → ShownBy (writtenRead w) (mid .report) after said
+      → PlanPrinted lib net l v kind before after said
+  unfolding planPrinted ownTables
+  plan-printed long after said s =
+      rw (text-left (givenTexts lib net) (texts-checked lib net) (ownTables before) l v kind) (writes-prints (omega arith) long writes s)

@@ -14,6 +14,7 @@ use Rattle.reading.proofs.Bounds.{Within, within-then, within-weigh}
 use Rattle.reading.proofs.Laws.{refused-read}
 use Rattle.cell_library.specs.Cells.{Cell}
 use Rattle.netlist.specs.Netlist.{Statement}
+use Rattle.writer.specs.Buffer.{textWithin, lengthRead}
 use Rattle.calculation.specs.Stored.{Holds}
 use Rattle.outcome.specs.Answer.{lentOf}
 use Rattle.outcome.specs.Outcome.{Given, Lent, Pair, entry, readPair, zeroed}
@@ -25,7 +26,7 @@ use Rattle.read_pair.specs.declared.Progress.the-variants.{Unrefused, AtEntry, 
 use Rattle.read_pair.specs.Progress.{Reached}
 use Rattle.read_pair.proofs.Reached.{stands-hold, zeroed-same}
 use Rattle.planning.specs.Parts.{PlanMade}
-use Rattle.planning.specs.Promise.{planRead, planOutcome, lengthOf, planFilled, planLater, planFrom, planLeft, PlanConcluded, PlanPromised}
+use Rattle.planning.specs.Promise.{planRead, planOutcome, planFilled, planLater, planFrom, planLeft, PlanConcluded, PlanPromised}
 
 -- The numbers that a plan's own refusals have.
 abbrev pub ownNumber : ℕ → Bool
@@ -33,12 +34,14 @@ ownNumber number = eqb number No.noFigure || eqb number No.planLong
 
 pub plan-number : (cells : List Cell) (ss : List Statement) (l v kind space number line : ℕ) → planRead cells ss l v kind space ≡ refused number line
     → ownNumber number ≡ true
-unfolding planRead
+unfolding planRead textWithin
 plan-number cells ss l v kind space number line e =
-    subst (Within ownNumber 0) e (within-then ownNumber 0 (weigh 0 _) _ (within-weigh ownNumber 0 0 _ (omega arith) refl) tt) .0
+    subst (Within ownNumber 0) e
+    (within-then ownNumber 0 (weigh 0 _) _ (within-weigh ownNumber 0 0 _ (omega arith) refl)
+    (within-then ownNumber 0 (weigh 0 _) _ (within-weigh ownNumber 0 0 _ (omega arith) refl) tt)) .0
 
-pub length-refused : (o : Read (List ℕ)) (number line : ℕ) → refused number line ≡ lengthOf o → o ≡ refused number line
-unfolding lengthOf
+pub length-refused : (o : Read (List ℕ)) (number line : ℕ) → refused number line ≡ lengthRead o → o ≡ refused number line
+unfolding lengthRead
 length-refused (refused n k) number line e = cc
 length-refused (read text) number line e = refused-read e
 
@@ -61,7 +64,7 @@ module _ (g : Given) (m : Lent) (l v kind : ℕ) where
         (λ p. true≢false (sym (pair-number g checked No.reportLong line p)))
         (λ x p. true≢false (sym (plan-number (x .cells) (x .statements) l v kind (length (m .report)) No.reportLong line p)))
 
-    keeps : (after : Lent) (said : Read ℕ) → said ≡ lengthOf (planOutcome g m l v kind) → after ≡ planLeft g m l v kind
+    keeps : (after : Lent) (said : Read ℕ) → said ≡ lengthRead (planOutcome g m l v kind) → after ≡ planLeft g m l v kind
         → ((p : Pair) → entry g m ≡ read tt → readPair g ≡ read p → PlanConcluded (p .cells) (p .statements) l v kind (m .report) (after .report) said)
         → PlanPromised g m after l v kind said
     keeps after said a b c =
@@ -77,7 +80,7 @@ module _ (g : Given) (m : Lent) (l v kind : ℕ) where
     module _ (library′ netlist′ : List ℕ) (s : Progress) (h : Reached g (entry g m) (m .library) (m .netlist) library′ netlist′ s) where
       pub call-entry : (r : Refusal) → s ≡ AtEntry r
           → PlanPromised g m (lentOf library′ netlist′ (m .numbers) (m .report)) l v kind (refused (r .number) (r .line))
-      unfolding Reached planOutcome lengthOf planLeft planFrom _>>_
+      unfolding Reached planOutcome lengthRead planLeft planFrom _>>_
       call-entry r e =
           let q = rw e at h in
           keeps _ (refused (r .number) (r .line)) (rw (q .0) refl) (rw (q .0) (λ i. lentOf (q .1 i) (q .2 i) (m .numbers) (m .report)))
@@ -86,7 +89,7 @@ module _ (g : Given) (m : Lent) (l v kind : ℕ) where
       pub call-later : (r : Refusal) → s ≡ Later r → length library′ ≡ length (m .library) → length netlist′ ≡ length (m .netlist)
           → (after : Lent) → after ≡ zeroed (lentOf library′ netlist′ (m .numbers) (m .report))
           → PlanPromised g m after l v kind (refused (r .number) (r .line))
-      unfolding Reached planOutcome lengthOf planLeft planFrom planLater _>>_ _>>=_
+      unfolding Reached planOutcome lengthRead planLeft planFrom planLater _>>_ _>>=_
       call-later r e same-library same-netlist after z =
           let q = rw e at h in
           keeps after (refused (r .number) (r .line)) (rw (q .0, q .1) refl) (rw (q .0, q .1) (z ∙ zeroed-same m library′ netlist′ same-library same-netlist))
@@ -96,7 +99,7 @@ module _ (g : Given) (m : Lent) (l v kind : ℕ) where
           → ((cells : List Cell) (ss : List Statement) → Holds library′ netlist′ cells ss
           → PlanMade cells ss l v kind (m .numbers) (m .report) numbers′ text′ told)
           → PlanPromised g m (lentOf library′ netlist′ numbers′ text′) l v kind told
-      unfolding Reached planOutcome lengthOf planLeft planFrom planLater planFilled _>>_ _>>=_
+      unfolding Reached planOutcome lengthRead planLeft planFrom planLater planFilled _>>_ _>>=_
       call-made e numbers′ text′ told f =
           let q = rw e at h in
           let b = q .1 in

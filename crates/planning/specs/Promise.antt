@@ -1,17 +1,18 @@
 -- What a call that writes out the cheapest way answers and leaves. Document 02, K3.
 -- Assumes nothing.
-use mathlib.Core.Bool.{Bool, true, _&&_}
+use mathlib.Core.Bool.{Bool, _&&_}
 use mathlib.Core.List.{List, [], _∷_, _++_}
 use mathlib.Core.Path.{_≡_}
 use Prim.Native.Nat.{ℕ, zero, suc, _≤_, _<_}
 use lib.Dec.{leb, ltb}
-use lib.ListN.{length, getD, drop, replicate}
+use lib.ListN.{length, getD, drop}
 use Rattle.sizes.specs.Sizes as Size
 use Rattle.sizes.specs.Places.{settingPlace}
 use Rattle.reading.specs.Choice.{pick}
 use Rattle.reading.specs.Numbers as No
 use Rattle.reading.specs.Refusal.{Read, refused, read, _>>=_, _>>_, weigh}
 use Rattle.cost.specs.Cost.{most, never}
+use Rattle.writer.specs.Buffer.{textWithin, lengthRead, leftBy}
 use Rattle.cell_library.specs.Cells.{Cell}
 use Rattle.cell_library.specs.Layout.{libraryWords}
 use Rattle.netlist.specs.Netlist.{Statement}
@@ -21,8 +22,6 @@ use Rattle.calculation.specs.Calculation.{analysed}
 use Rattle.cheapest.specs.Text.{cheapestText}
 use Rattle.cheapest.specs.Plan.{Cheapest}
 use Rattle.outcome.specs.Outcome as O
-use Rattle.planning.specs.declared.Written.{Written}
-use Rattle.planning.specs.declared.Written.the-variants.{Length, Refused}
 
 -- "A line outside 1 to 1,000, or an unknown value or kind, counts as never."
 unfoldable pub known : ℕ → ℕ → ℕ → Bool
@@ -39,9 +38,8 @@ kindOf (suc n) = sequential
 -- The text of a line, a value and a kind, in a buffer that has room for `space` bytes: "18 ..; then 19", both at line 0.
 unfoldable pub planRead : List Cell → List Statement → ℕ → ℕ → ℕ → ℕ → Read (List ℕ)
 planRead cells ss l v kind space =
-    let text = cheapestText (kindOf kind) cells ss l v in
-    weigh 0 ((No.noFigure, ltb most (askedNumber (analysed cells ss .numbers) l v kind)) ∷ (No.planLong, ltb space (length text)) ∷ [])
-    >> read text
+    weigh 0 ((No.noFigure, ltb most (askedNumber (analysed cells ss .numbers) l v kind)) ∷ [])
+    >> textWithin No.planLong space (cheapestText (kindOf kind) cells ss l v)
 
 -- ---- the call
 
@@ -49,20 +47,6 @@ planRead cells ss l v kind space =
 -- is lent, the text buffer in the report's place.
 unfoldable pub planOutcome : O.Given → O.Lent → ℕ → ℕ → ℕ → Read (List ℕ)
 planOutcome g m l v kind = O.entry g m >> (O.readPair g >>= λ p. planRead (p .cells) (p .statements) l v kind (length (m .report)))
-
--- The answer: the text's length, or the refusal.
-unfoldable pub lengthOf : Read (List ℕ) → Read ℕ
-lengthOf (refused number line) = refused number line
-lengthOf (read text) = read (length text)
-
-unfoldable pub writtenRead : Written → Read ℕ
-writtenRead (Length n) = read n
-writtenRead (Refused r) = refused (r .number) (r .line)
-
--- The text buffer afterwards: "and zero that buffer alone; on acceptance, bytes past the text keep their values".
-unfoldable pub textAfter : Read (List ℕ) → List ℕ → List ℕ
-textAfter (refused number line) before = replicate (length before) 0
-textAfter (read text) before = text ++ drop (length text) before
 
 -- What is lent, behind the library and the netlist: the tables hold what was read and the numbers of its analysis, also where the
 -- call refuses by 18 or 19.
@@ -72,7 +56,7 @@ planFilled p m l v kind =
       library = libraryWords (p .cells) ++ drop Size.library (m .library);
       netlist = netlistWords (p .statements) ++ drop Size.netlist (m .netlist);
       numbers = analysed (p .cells) (p .statements) .numbers ++ drop Size.numbers (m .numbers);
-      report = textAfter (planRead (p .cells) (p .statements) l v kind (length (m .report))) (m .report);
+      report = leftBy (planRead (p .cells) (p .statements) l v kind (length (m .report))) (m .report);
     }
 
 -- "every other check .. whose refusals treat that buffer as the report's": at entry all stays as it was, later all is zero.
@@ -92,8 +76,8 @@ planLeft g m l v kind = planFrom (O.entry g m) (O.readPair g) m l v kind
 
 -- Of an accepted library and netlist:
 pub record PlanConcluded (cells : List Cell) (ss : List Statement) (l v kind : ℕ) (before after : List ℕ) (said : Read ℕ) : Type 0 where
-  pub answers : said ≡ lengthOf (planRead cells ss l v kind (length before))
-  pub leaves : after ≡ textAfter (planRead cells ss l v kind (length before)) before
+  pub answers : said ≡ lengthRead (planRead cells ss l v kind (length before))
+  pub leaves : after ≡ leftBy (planRead cells ss l v kind (length before)) before
   -- Wherever the number is a figure there is a plan in document 01's own sense for just that line, value and kind, whose rows are
   -- those by which the sweeps last lowered each number, whose exact cost is the number, and whose text is the one written. So it
   -- is when a text is written, and when 19 says that it is longer than the buffer.
@@ -109,7 +93,7 @@ pub record PlanConcluded (cells : List Cell) (ss : List Statement) (l v kind : �
 -- What the call promises: by equation its answer, the refusal and its line, and every entry of every lent slice afterwards; that it
 -- never refuses by 17; and of an accepted library and netlist, what was said above.
 pub record PlanPromised (g : O.Given) (before after : O.Lent) (l v kind : ℕ) (said : Read ℕ) : Type 0 where
-  pub answers : said ≡ lengthOf (planOutcome g before l v kind)
+  pub answers : said ≡ lengthRead (planOutcome g before l v kind)
   pub leaves : after ≡ planLeft g before l v kind
   -- "(17 isn't made here)"
   pub noReport : (line : ℕ) → said ≡ refused No.reportLong line → ⊥

@@ -1,7 +1,7 @@
 // The cheapest way to set a line, written out from two texts: document 02, K3.
 //
 // Open to others: `write_plan`, over two texts, three tables and a text buffer that the caller lends, with a line, a
-// value and a kind; the type `Written`; `put_plan`, what the program prints. They have no condition on their input;
+// value and a kind; `put_plan`, what the program prints. They have no condition on their input;
 // specs/Promise.antt and specs/Printed.antt say what they promise. For the crates above: `write_plan_into`.
 use cheapest::put_cheapest;
 use cost::MOST;
@@ -12,15 +12,13 @@ use read_pair::clear_all;
 use read_pair::read_texts;
 use reading::NO_FIGURE;
 use reading::PLAN_LONG;
-use reading::Refusal;
-use table::clear_bytes;
 use table::word;
+use writer::Written;
 ghost use mathlib.Core.List.{List};
 ghost use mathlib.Core.Path.{_≡_};
-ghost use lib.ListN.{length, replicate};
 ghost use Rattle.sizes.specs.Sizes as Size;
 ghost use Rattle.table.specs.Blocks.{cleared};
-ghost use Rattle.reading.specs.Refusal.{refused};
+ghost use Rattle.writer.specs.Buffer.{writtenRead};
 ghost use Rattle.cell_library.specs.Cells.{Cell};
 ghost use Rattle.netlist.specs.Netlist.{Statement};
 ghost use Rattle.calculation.specs.Stored.{Holds, Ready, HoldsAnalysis, SomeAnalysis};
@@ -28,13 +26,7 @@ ghost use Rattle.outcome.specs.Answer.{lentOf};
 ghost use Rattle.outcome.specs.Outcome.{givenTexts};
 ghost use Rattle.planning.specs.Parts.{PlanMade};
 ghost use Rattle.planning.specs.Printed.{PlanPrinted};
-ghost use Rattle.planning.specs.Promise.{known, askedNumber, writtenRead, PlanConcluded, PlanPromised};
-
-// The text's length, or a refusal. `writtenRead` gives its cases.
-pub enum Written {
-    Length(usize),
-    Refused(Refusal),
-}
+ghost use Rattle.planning.specs.Promise.{known, askedNumber, PlanConcluded, PlanPromised};
 
 // "A line outside 1 to 1,000, or an unknown value or kind, counts as never."
 fn is_known(line: usize, value: usize, kind: usize) -> bool
@@ -57,15 +49,6 @@ fn asked_number(numbers: &[u32], line: usize, value: usize, kind: usize) -> u32
     }
 }
 
-// A refusal at line 0, which zeroes the text buffer.
-fn refuse(text: &mut [u8], number: u32) -> Written
-    ensures zeroed { λ _. ⌜ now (text .exit) ≡ replicate (length (now (text .entry))) 0 ⌝ }
-    ensures told { λ r. ⌜ writtenRead r ≡ refused number 0 ⌝ }
-{
-    clear_bytes(text);
-    Written::Refused(Refusal { number, line: 0 })
-}
-
 // The end of the call, from tables that hold an accepted library and netlist with the numbers of their analysis.
 fn conclude_plan(
     library: &[u32],
@@ -83,13 +66,10 @@ fn conclude_plan(
 {
     let number = asked_number(numbers, line, value, kind);
     if MOST < number {
-        return refuse(text, NO_FIGURE);
+        return writer::refuse(text, NO_FIGURE, 0);
     }
     let end = put_cheapest(library, netlist, text, line, value, kind);
-    if text.len() < end {
-        return refuse(text, PLAN_LONG);
-    }
-    Written::Length(end)
+    writer::close(text, end, PLAN_LONG)
 }
 
 // The numbers of an accepted library and netlist, and the plan.
@@ -215,8 +195,5 @@ pub fn put_plan(
         0,
         0,
     );
-    match written {
-        Written::Length(n) => n,
-        Written::Refused(r) => writer::put_refusal(text, 0, r),
-    }
+    writer::show(text, written)
 }

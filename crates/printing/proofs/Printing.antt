@@ -4,11 +4,11 @@
 use mathlib.Core.Bool.{_||_}
 use mathlib.Core.List.{List, [], _∷_, _++_}
 use mathlib.Core.Path.{_≡_, refl, sym, ap, _∙_}
-use Prim.Native.Nat.{ℕ, _+_, _≤_, min}
+use Prim.Native.Nat.{ℕ, _+_, _≤_}
 use native.Mathlib.Omega.{arith}
 use borrow.Author.Tests.{le-ltb}
-use lib.ListN.{length, take, drop, length-append}
-use lib.Seq.{take-at, drop-append-seam, length-sets}
+use lib.ListN.{length, drop}
+use lib.Seq.{take-append-seam}
 use Rattle.sizes.specs.Sizes as Size
 use Rattle.reading.specs.Choice.{pick}
 use Rattle.reading.specs.Numbers as No
@@ -19,11 +19,10 @@ use Rattle.text.specs.Bytes.{bytes}
 use Rattle.cell_library.specs.Cells.{Cell}
 use Rattle.netlist.specs.Netlist.{Statement, mentioned}
 use Rattle.calculation.specs.Calculation.{analysed}
-use Rattle.writer.specs.Decimal.{decimalBytes}
 use Rattle.writer.specs.Put.{Put}
 use Rattle.writer.specs.Refused.{refusalBytes}
-use Rattle.writer.proofs.Decimal.{decimal-length}
-use Rattle.writer.proofs.Steps.{put-front}
+use Rattle.writer.specs.Buffer.{lengthRead, shown, ShownBy}
+use Rattle.writer.proofs.Buffer.{answer-prints}
 use Rattle.report.proofs.Laws.{report-fits}
 use Rattle.outcome.specs.declared.Answer.{Answer}
 use Rattle.outcome.specs.declared.Answer.the-variants.{Accepted, Refused}
@@ -33,7 +32,7 @@ use Rattle.outcome.specs.Demands.{Promised}
 use Rattle.outcome.specs.Outcome as O
 use Rattle.outcome.specs.Outcome.{Given, Lent, givenBy, givenTexts}
 use Rattle.outcome.specs.Own.{ownTables}
-use Rattle.outcome.specs.Printed.{reported, shown, printed}
+use Rattle.outcome.specs.Printed.{reported, printed}
 use Rattle.printing.specs.Printed.{shownOf, Printed}
 
 -- ---- neither 1 nor 17 can arise
@@ -53,6 +52,15 @@ unfolding reportsOf _>>=_
 reports-bind (refused number line) f g same = refl
 reports-bind (read a) f g same = same a
 
+-- The report's length, of an analysis that is accepted.
+pub reportLength : Read Summary → Read ℕ
+reportLength o = o >>= λ s. read (s .length)
+
+lengths-by : (o : Read O.Accepted) → reportLength (O.answer o) ≡ lengthRead (reportsOf o)
+unfolding O.answer O.summary reportsOf lengthRead reportLength _>>=_
+lengths-by (refused number line) = refl
+lengths-by (read a) = refl
+
 -- "a report buffer of 65,536 bytes" has room for every report
 always-reported : (cells : List Cell) (ss : List Statement) (space : ℕ) → Size.reportBytes ≤ space
     → reportsOf (O.conclude cells ss space) ≡ read (O.reportOf ss (analysed cells ss))
@@ -61,13 +69,6 @@ always-reported cells ss space h =
     let a = analysed cells ss in
     let fits : length (O.reportOf ss a) ≤ space = omega (arith, report-fits (λ l. mentioned l ss) (a .numbers) (a .counts)) in
     rw (le-ltb space (length (O.reportOf ss a)) fits) refl
-
--- ---- a refusal is short
-
-refusal-length : (number line : ℕ) → length (refusalBytes number line) ≤ 50
-unfolding refusalBytes bytes
-refusal-length number line =
-    simp length-append (omega (arith, decimal-length number .1, decimal-length line .1))
 
 module _ (lib net before : List ℕ) where
   abbrev given : Given
@@ -92,69 +93,55 @@ module _ (lib net before : List ℕ) where
   unfolding O.outcome O.left O.leftFrom O.leftLater O.filled ownTables
   filled-by a e = then-read (O.entry given lent) _ a (λ u p q. rw (p, q)) e
 
-  module _ (room : Size.reportBytes ≡ length before) (after : Lent) (same : length (after .report) ≡ length before) (r : Answer)
-      (p : Promised given lent after (answerRead r)) where
+  -- ---- what the analysis answers and leaves is what is printed
+
+  module _ (room : Size.reportBytes ≡ length before) (after : Lent) (same : length (after .report) ≡ length before) (said : Read Summary)
+      (p : Promised given lent after said) where
     left-by : after .report ≡ O.left given lent .report
     left-by = ap (λ (m : Lent). m .report) (p .leaves)
 
-    -- ---- accepted: the report stands where it is printed from
+    came : reportsOf (O.outcome given lent) ≡ reported lib net
+    came = outcome-reported (omega arith)
 
-    accepted-by : (s : Summary) → answerRead r ≡ read s → (o : Read O.Accepted) → O.outcome given lent ≡ o
-        → Printed lib net before (after .report) (s .length)
-    unfolding reportsOf O.answer O.summary printed shown shownOf
-    accepted-by s e (refused number line) q = refused-read (sym (ap O.answer q) ∙ sym (p .answers) ∙ e)
-    accepted-by s e (read a) q =
-        let says : read s ≡ read (O.summary a) = sym e ∙ p .answers ∙ ap O.answer q in
-        let sums : s ≡ O.summary a = cc in
-        let counts : s .length ≡ length (a .report) = ap (λ (x : Summary). x .length) sums in
-        let prints : printed lib net ≡ a .report = ap shown (sym (outcome-reported (omega arith)) ∙ ap reportsOf q) in
-        let stands : after .report ≡ a .report ++ drop (length (a .report)) before = left-by ∙ filled-by a q in
-        let front : take (s .length) (after .report) ≡ a .report = rw (stands, counts) (take-at (a .report) _ _ refl) in
+    lengths : reportLength said ≡ lengthRead (reported lib net)
+    lengths = rw (p .answers) (lengths-by (O.outcome given lent) ∙ ap lengthRead came)
+
+    front-by : (o : Read O.Accepted) → O.outcome given lent ≡ o → (text : List ℕ) → reportsOf o ≡ read text → (rest : List ℕ) × (after .report ≡ text ++ rest)
+    unfolding reportsOf
+    front-by (refused number line) q text e = refused-read e
+    front-by (read a) q text e =
+        let is : a .report ≡ text = cc in
+        (drop (length (a .report)) before, left-by ∙ filled-by a q ∙ ap (λ (t : List ℕ). t ++ drop (length (a .report)) before) is)
+
+    shows-by : (o : Read O.Accepted) → O.outcome given lent ≡ o → shown (reportsOf o) ≡ shownOf (O.answer o) (after .report)
+    unfolding reportsOf O.answer O.summary shown shownOf
+    shows-by (refused number line) q = refl
+    shows-by (read a) q = rw (left-by ∙ filled-by a q) (sym (take-append-seam (a .report) (drop (length (a .report)) before)))
+
+    pub analysis-printed : (last : List ℕ) (n : ℕ) → ShownBy (reportLength said) (after .report) last n → Printed lib net before last n
+    unfolding printed
+    analysis-printed last n s =
         record {
-          answers = rw prints counts;
-          leaves = rw (prints, filled-by a q, drop-append-seam (a .report) (drop (length (a .report)) before)) stands;
-          prints = rw prints front;
-          within = omega (arith, p .reporting (p .acceptance .wasRead s e) s e .short);
-          long = room ∙ sym same;
+          bytes =
+              rw (← left-by)
+              (answer-prints (reported lib net) (omega arith) (room ∙ sym same)
+              (λ text e. front-by (O.outcome given lent) refl text (came ∙ e))
+              (rw lengths at s));
           tables = after;
-          answer = answerRead r;
+          answer = said;
           promised = p;
-          shows = rw (prints, e) (sym front);
+          shows =
+              ap shown (sym came) ∙ shows-by (O.outcome given lent) refl
+              ∙ ap (λ (a : Read Summary). shownOf a (after .report)) (sym (p .answers));
         }
 
-    pub accepted : (s : Summary) → r ≡ Accepted s → Printed lib net before (after .report) (s .length)
-    unfolding answerRead
-    accepted s e = accepted-by s (ap answerRead e) (O.outcome given lent) refl
+-- ---- the same by the answer of the code
 
-    -- ---- refused: the refusal's bytes are put into the buffer's front
+pub accepted-shown : (r : Answer) (s : Summary) (report : List ℕ) → r ≡ Accepted s → ShownBy (reportLength (answerRead r)) report report (s .length)
+unfolding answerRead reportLength ShownBy _>>=_
+accepted-shown r s report e = rw e (refl, refl)
 
-    module _ (x : Refusal) (last : List ℕ) (next : ℕ) (put : Put 0 (refusalBytes (x .number) (x .line)) (after .report) last next) where
-      refused-by : answerRead r ≡ refused (x .number) (x .line) → (o : Read O.Accepted) → O.outcome given lent ≡ o
-          → Printed lib net before last next
-      unfolding reportsOf O.answer printed shown shownOf
-      refused-by e (read a) q = refused-read (sym e ∙ p .answers ∙ ap O.answer q)
-      refused-by e (refused number line) q =
-          let told : refused (x .number) (x .line) ≡ refused number line = sym e ∙ p .answers ∙ ap O.answer q in
-          let same-number : number ≡ x .number = cc in
-          let same-line : line ≡ x .line = cc in
-          let bs = refusalBytes (x .number) (x .line) in
-          let prints : printed lib net ≡ bs =
-          ap shown (sym (outcome-reported (omega arith)) ∙ ap reportsOf q) ∙ (λ i. refusalBytes (same-number i) (same-line i)) in
-          let short : length bs ≤ 50 = refusal-length (x .number) (x .line) in
-          let end : next ≡ length bs = omega (arith, put .moved) in
-          let stands : last ≡ bs ++ drop (length bs) (after .report) = put-front put (omega arith) in
-          record {
-            answers = rw prints end;
-            leaves = rw (prints, ← left-by) stands;
-            prints = rw (prints, stands, end) (take-at bs _ _ refl);
-            within = omega arith;
-            long = room ∙ sym same ∙ sym (ap length (put .stored) ∙ length-sets (after .report) 0 bs);
-            tables = after;
-            answer = answerRead r;
-            promised = p;
-            shows = rw (prints, e) refl;
-          }
-
-      pub refused-printed : r ≡ Refused x → Printed lib net before last next
-      unfolding answerRead
-      refused-printed e = refused-by (ap answerRead e) (O.outcome given lent) refl
+pub refused-shown : (r : Answer) (x : Refusal) (report last : List ℕ) (next : ℕ) → r ≡ Refused x → Put 0 (refusalBytes (x .number) (x .line)) report last next
+    → ShownBy (reportLength (answerRead r)) report last next
+unfolding answerRead reportLength ShownBy _>>=_
+refused-shown r x report last next e put = rw e put

@@ -4,13 +4,11 @@ use mathlib.Core.Bool.{Bool}
 use mathlib.Core.List.{List, [], _∷_, _++_}
 use Prim.Native.Nat.{ℕ, zero, suc}
 use lib.Dec.{leb, eqb}
-use lib.ListN.{length, getD, drop, replicate}
+use lib.ListN.{getD}
 use Rattle.sizes.specs.Sizes as Size
 use Rattle.sizes.specs.Places.{linePlace}
 use Rattle.text.specs.Bytes.{bytes, bytes-open}
 use Rattle.reading.specs.Choice.{pick}
-use Rattle.reading.specs.Numbers as No
-use Rattle.reading.specs.Refusal.{Read, refused, read}
 use Rattle.writer.specs.Decimal.{decimalBytes, decimal-open}
 use Rattle.calculation.specs.declared.Counts.{Counts}
 use Rattle.cost.specs.Cost.{over, never}
@@ -50,16 +48,7 @@ reportBytes mentioned numbers k = header ++ (linesBytes mentioned numbers Size.l
 abbrev pub longestReport : ℕ
 longestReport = 63947
 
--- The report's length; "17 report longer than its buffer", at "report (line 0)".
-unfoldable pub written : List ℕ → List ℕ → Read ℕ
-written report before = pick (leb (length report) (length before)) (read (length report)) (refused No.reportLong 0)
-
--- "Report bytes past its end keep their values"; a buffer too short is left zero.
-unfoldable pub reportAfter : List ℕ → List ℕ → List ℕ
-reportAfter report before =
-    pick (leb (length report) (length before)) (report ++ drop (length report) before) (replicate (length before) 0)
-
 -- Opens the page's definitions, where a figure computes with them.
 unfoldable pub report-open : ℕ
-unfolding bytes-open decimal-open costBytes costsFrom lineBytes linesBytes sweepsBytes header reportBytes written reportAfter
+unfolding bytes-open decimal-open costBytes costsFrom lineBytes linesBytes sweepsBytes header reportBytes
 report-open = 0

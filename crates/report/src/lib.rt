@@ -1,9 +1,9 @@
 // The report of an analysis: its bytes from the numbers table, the lines that the netlist table
-// mentions and the four sweep counts, written into a buffer that the caller lends. What the bytes are
-// is in specs/Report.antt, what the call answers and leaves in specs/Answer.antt, the laws are in
-// proofs/Laws.antt.
+// mentions and the four sweep counts, put at a cursor of a buffer that the caller lends. What the bytes
+// are is in specs/Report.antt, those of a call's arguments in specs/Arguments.antt, the laws are in
+// proofs/Laws.antt. Whether a report is longer than its buffer is asked at its end (`writer::close`).
 //
-// Open to others: `write_report`, for every input, and the type `Written`.
+// Open to others: `put_report`, for every input.
 ghost use mathlib.Core.Path.{_≡_};
 ghost use mathlib.Core.List.{[], _∷_, _++_};
 ghost use Prim.Native.Nat.{_+_};
@@ -12,7 +12,7 @@ ghost use Rattle.reading.specs.Choice.{pick};
 ghost use Rattle.writer.specs.Decimal.{decimalBytes};
 ghost use Rattle.writer.specs.Put.{Put};
 ghost use Rattle.report.specs.Report.{costBytes, costsFrom, lineBytes, linesBytes, sweepsBytes};
-ghost use Rattle.report.specs.Answer.{marked, reportOf, Reported};
+ghost use Rattle.report.specs.Arguments.{marked, reportOf};
 use calculation::Counts;
 use netlist::lines;
 use writer::put_byte;
@@ -26,12 +26,6 @@ const LINE_END: u8 = 10;
 const LINES: u16 = sizes::LINES as u16;
 
 const COSTS: u32 = sizes::COSTS as u32;
-
-// The report's length, or that it is longer than its buffer: `writtenRead` gives document 01's number.
-pub enum Written {
-    Length(usize),
-    TooLong,
-}
 
 fn put_cost(report: &mut [u8], at: usize, x: u32) -> usize
     ensures { λ r. ⌜ Put at (costBytes x) (now (report .entry)) (now (report .exit)) r ⌝ }
@@ -125,28 +119,20 @@ fn put_sweeps(report: &mut [u8], at: usize, sweeps: Counts) -> usize
     put_count(report, so, sweeps.so, LINE_END)
 }
 
-fn put_report(report: &mut [u8], netlist: &[u32], numbers: &[u32], sweeps: Counts) -> usize
+// The report of the lines that the netlist table mentions, at a cursor; a place past a table's end counts
+// as 0.
+pub fn put_report(
+    report: &mut [u8],
+    at: usize,
+    netlist: &[u32],
+    numbers: &[u32],
+    sweeps: Counts,
+) -> usize
     ensures { λ r.
-        ⌜ Put 0 (reportOf (now (netlist .entry)) (now (numbers .entry)) sweeps) (now (report .entry))
+        ⌜ Put at (reportOf (now (netlist .entry)) (now (numbers .entry)) sweeps) (now (report .entry))
         (now (report .exit)) r ⌝ }
 {
-    let lines = put_bytes(report, 0, b"line,cc0,cc1,sc0,sc1,co,so\n");
+    let lines = put_bytes(report, at, b"line,cc0,cc1,sc0,sc1,co,so\n");
     let counts = put_lines(report, lines, netlist, numbers);
     put_sweeps(report, counts, sweeps)
-}
-
-// Writes the report of the lines that the netlist table mentions; a place past a table's end counts
-// as 0. A buffer that is too short for the report is left zero.
-pub fn write_report(netlist: &[u32], numbers: &[u32], sweeps: Counts, report: &mut [u8]) -> Written
-    ensures { λ r.
-        ⌜ Reported (reportOf (now (netlist .entry)) (now (numbers .entry)) sweeps)
-        (now (report .entry)) (now (report .exit)) r ⌝ }
-{
-    let end = put_report(report, netlist, numbers, sweeps);
-    if end <= report.len() {
-        Written::Length(end)
-    } else {
-        table::clear_bytes(report);
-        Written::TooLong
-    }
 }

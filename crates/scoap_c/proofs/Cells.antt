@@ -1,62 +1,49 @@
 -- The number that the generator's call for C answers.
 -- Assumes nothing.
 use mathlib.Core.List.{List}
-use mathlib.Core.Path.{_≡_, refl, sym, ap, _∙_}
-use Prim.Native.Nat.{ℕ, _+_, _*_, _≤_, _<_}
+use mathlib.Core.Path.{_≡_, ap}
+use Prim.Native.Nat.{ℕ, _<_}
 use native.Mathlib.Omega.{arith}
+use borrow.Author.Tests.{le-leb}
 use lib.ListN.{length}
 use Rattle.reading.specs.Refusal.{Read, refused, read}
-use Rattle.reading.specs.declared.Refusal.{Refusal}
+use Rattle.reading.proofs.Bounds.{Within, anyNumber}
 use Rattle.reading.proofs.Laws.{refused-read}
-use Rattle.generator.specs.Generated.{generatedInto, answerRead, lengthRead, Comes}
-use Rattle.generator.specs.Shown.{Bounded}
-use Rattle.generator.specs.declared.Generated.{Generated}
-use Rattle.generator.specs.declared.Generated.the-variants.{Length, Refused}
-use Rattle.generator.proofs.Shown.{bounded}
-use Rattle.scoap_c.specs.Cell.{cellNumber, CellCoded}
-use Rattle.scoap_c.specs.Coded.{codeLines, Decoded}
-use Rattle.scoap_c.proofs.Coding.{decoded}
+use Rattle.writer.specs.declared.Written.{Written}
+use Rattle.writer.specs.Buffer.{codeLines, codeOf, lengthRead, writtenRead, LineBelow, Writes}
+use Rattle.writer.proofs.Buffer.{told-line, told-code}
+use Rattle.generator.specs.Generated.{generatedInto}
+use Rattle.generator.specs.Bounded.{Bounded}
+use Rattle.generator.proofs.Bounded.{bounded}
+use Rattle.scoap_c.specs.Cell.{CellCoded}
 
-read-same : (o : Read (List ℕ)) (n : ℕ) → Bounded o → read n ≡ lengthRead o → (n ≡ cellNumber o) × (n < codeLines) × ((number line : ℕ) → o ≡ refused number line → Decoded n number line)
-unfolding Bounded lengthRead cellNumber
-read-same (refused number line) n b e = refused-read (sym e)
-read-same (read entry) n b e =
-    let size : n ≡ length entry = cc in
-    (size, omega (arith, b), λ number line q. refused-read (sym q))
-
-refused-same : (o : Read (List ℕ)) (number line : ℕ) → Bounded o → refused number line ≡ lengthRead o → (o ≡ refused number line) × (1 ≤ number) × (line ≤ 1)
+told-within : (o : Read (List ℕ)) → Bounded o → Within anyNumber 1 (lengthRead o)
 unfolding Bounded lengthRead
-refused-same (refused k l) number line b e =
-    let same-number : number ≡ k = cc in
-    let same-line : line ≡ l = cc in
-    (rw (same-number, same-line) refl, rw same-number (b .0), rw same-line (b .2))
-refused-same (read entry) number line b e = refused-read e
+told-within (refused number line) b = (le-leb 1 number (b .0), b .2)
+told-within (read entry) b = tt
 
-module _ (line before after : List ℕ) where
-  pub cell-accepted : (n : ℕ) → Comes (generatedInto line (length before)) before after (Length n) → CellCoded line before after n
-  unfolding answerRead
-  cell-accepted n c =
-      let s = read-same (generatedInto line (length before)) n (bounded line (length before)) (c .answers) in
-      record { answers = s .0; leaves = c .leaves; accepted = λ entry e. s .1; refusal = s .2 }
+below : (o : Read (List ℕ)) → Bounded o → (entry : List ℕ) → o ≡ read entry → codeOf (lengthRead o) < codeLines
+unfolding Bounded lengthRead codeOf
+below (refused k l) b entry e = refused-read e
+below (read text) b entry e = omega (arith, b)
 
-  module _ (r : Refusal) (c : Comes (generatedInto line (length before)) before after (Refused r)) where
-    told : (generatedInto line (length before) ≡ refused (r .number) (r .line)) × (1 ≤ r .number) × (r .line ≤ 1)
-    unfolding answerRead
-    told = refused-same (generatedInto line (length before)) (r .number) (r .line) (bounded line (length before)) (c .answers)
+module _ (line before after : List ℕ) (w : Written) (c : Writes (generatedInto line (length before)) before after w) where
+  abbrev came : Read (List ℕ)
+  came = generatedInto line (length before)
 
-    pub cell-line : r .line ≤ 1
-    cell-line = told .2
+  within : Within anyNumber 1 (lengthRead came)
+  within = told-within came (bounded line (length before))
 
-    pub cell-refused : CellCoded line before after (r .number * codeLines + r .line)
-    unfolding cellNumber
-    cell-refused =
-        record {
-          answers = rw (told .0) refl;
-          leaves = c .leaves;
-          accepted = λ entry e. refused-read (sym (told .0) ∙ e);
-          refusal =
-              λ number at e.
-              let same-number : r .number ≡ number = cc (told .0) in
-              let same-line : r .line ≡ at = cc (told .0) in
-              rw (← same-number, ← same-line) (decoded (r .number) (r .line) (told .1) (omega (arith, told .2)));
-        }
+  pub cell-line : LineBelow (writtenRead w)
+  cell-line = rw (c .answers) (told-line 1 (omega arith) (lengthRead came) within)
+
+  pub cell-coded : (said : ℕ) → said ≡ codeOf (writtenRead w) → CellCoded line before after said
+  unfolding lengthRead
+  cell-coded said e =
+      let is : said ≡ codeOf (lengthRead came) = rw (c .answers) at e in
+      record {
+        answers = is;
+        leaves = c .leaves;
+        accepted = λ entry q. rw is (below came (bounded line (length before)) entry q);
+        refusal = λ number at q. rw is (told-code 1 (omega arith) (lengthRead came) within number at (ap lengthRead q));
+      }

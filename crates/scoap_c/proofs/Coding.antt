@@ -3,12 +3,14 @@
 use mathlib.Core.Bool.{true, false, true≢false}
 use mathlib.Core.List.{List}
 use mathlib.Core.Path.{_≡_, refl, sym, ap, subst, _∙_}
-use Prim.Native.Nat.{ℕ, zero, suc, _+_, _*_, _/_, _≤_, _<_}
+use Prim.Native.Nat.{ℕ, zero, suc, _/_, _≤_, _<_}
 use native.Mathlib.Omega.{arith}
 use lib.ListN.{length, replicate}
 use Rattle.reading.specs.Numbers as No
-use Rattle.reading.specs.Refusal.{Read, refused, read}
+use Rattle.reading.specs.Refusal.{Read, refused, read, _>>=_}
 use Rattle.reading.specs.declared.Refusal.{Refusal}
+use Rattle.writer.specs.Buffer.{codeLines, refusalCode, codeOf, Decoded}
+use Rattle.writer.proofs.Buffer.{decoded}
 use Rattle.report.specs.Report.{longestReport}
 use Rattle.outcome.specs.declared.Answer.{Answer}
 use Rattle.outcome.specs.declared.Answer.the-variants.{Accepted, Refused}
@@ -21,10 +23,7 @@ use Rattle.outcome.proofs.Bounds.{refusal-told}
 use Rattle.outcome.proofs.Checking.{texts-checked}
 use Rattle.outcome.proofs.Fitting.{short-refused}
 use Rattle.outcome.specs.Own.{ownTables}
-use Rattle.scoap_c.specs.Coded.{codeLines, numberOf, Decoded, Seen, Coded}
-
-pub decoded : (number line : ℕ) → 1 ≤ number → line < codeLines → Decoded (number * codeLines + line) number line
-decoded number line h k = record { above = omega arith; numberIs = omega arith; lineIs = omega arith }
+use Rattle.scoap_c.specs.Coded.{numberOf, Seen, Coded}
 
 pub own-fit : (report : List ℕ) → O.tableShort (ownTables report) ≡ false
 unfolding O.tableShort ownTables
@@ -37,7 +36,7 @@ module _ (lib net before : List ℕ) (after : Lent) (r : Answer) (p : Promised (
       (h .0, omega arith)
 
   refusal-decoded : (number line : ℕ) → answerRead r ≡ refused number line → Decoded (numberOf (answerRead r)) number line
-  unfolding numberOf
+  unfolding numberOf codeOf _>>=_
   refusal-decoded number line e =
       let h = told number line e in
       rw e (decoded number line (h .0) (h .1))
@@ -46,11 +45,11 @@ module _ (lib net before : List ℕ) (after : Lent) (r : Answer) (p : Promised (
   length-short s e = p .reporting (p .acceptance .wasRead s e) s e .short
 
   length-below : (s : Summary) → answerRead r ≡ read s → numberOf (answerRead r) < codeLines
-  unfolding numberOf
+  unfolding numberOf codeOf _>>=_
   length-below s e = rw e (omega (arith, length-short s e))
 
   seen-by : (o : Read Summary) → answerRead r ≡ o → numberOf o < codeLines → Seen lib net (after .report) (numberOf o)
-  unfolding numberOf
+  unfolding numberOf codeOf _>>=_
   seen-by (refused number line) e h = absurd (omega (arith, told number line e .0))
   seen-by (read s) e h =
       let pair = p .acceptance .wasRead s e in
@@ -131,7 +130,7 @@ module _ (lib net before : List ℕ) (after : Lent) (r : Answer) (p : Promised (
       }
 
   pub coded-accepted : (s : Summary) → r ≡ Accepted s → Coded lib net before (after .report) (s .length)
-  unfolding numberOf answerRead
+  unfolding numberOf codeOf _>>=_ answerRead
   coded-accepted s e = subst (Coded lib net before (after .report)) (ap (λ (x : Answer). numberOf (answerRead x)) e) coded
 
   module _ (x : Refusal) (e : r ≡ Refused x) where
@@ -139,6 +138,7 @@ module _ (lib net before : List ℕ) (after : Lent) (r : Answer) (p : Promised (
     unfolding answerRead
     line-below = told (x .number) (x .line) (ap answerRead e) .1
 
-    pub coded-refused : Coded lib net before (after .report) (x .number * codeLines + x .line)
-    unfolding numberOf answerRead
-    coded-refused = subst (Coded lib net before (after .report)) (ap (λ (y : Answer). numberOf (answerRead y)) e) coded
+    pub coded-refused : (said : ℕ) → said ≡ refusalCode (x .number) (x .line) → Coded lib net before (after .report) said
+    unfolding numberOf codeOf _>>=_ answerRead
+    coded-refused said is =
+        subst (Coded lib net before (after .report)) (ap (λ (y : Answer). numberOf (answerRead y)) e ∙ sym is) coded

@@ -3,7 +3,7 @@
 use mathlib.Core.Bool.{true≢false}
 use mathlib.Core.List.{List, [], _++_, append-nil}
 use mathlib.Core.Path.{_≡_, refl, sym, ap, subst, _∙_}
-use Prim.Native.Nat.{ℕ, _+_, _*_, _/_, _≤_, _<_}
+use Prim.Native.Nat.{ℕ, _/_, _≤_, _<_}
 use native.Mathlib.Omega.{arith}
 use borrow.Author.Tests.{leb-true}
 use lib.ListN.{length, drop, replicate, length-replicate}
@@ -14,6 +14,8 @@ use Rattle.reading.specs.Refusal.{Read, refused, read, _>>_}
 use Rattle.reading.specs.declared.Refusal.{Refusal}
 use Rattle.reading.proofs.Bounds.{Within, anyNumber}
 use Rattle.reading.proofs.Laws.{refused-read}
+use Rattle.writer.specs.Buffer.{codeLines, refusalCode}
+use Rattle.writer.proofs.Buffer.{decoded}
 use Rattle.cell_library.specs.Layout.{libraryWords}
 use Rattle.netlist.specs.Layout.{netlistWords}
 use Rattle.outcome.specs.Outcome as O
@@ -28,9 +30,8 @@ use Rattle.read_pair.specs.Progress.{Reached}
 use Rattle.read_pair.proofs.Reached.{stands-hold}
 use Rattle.qualifying.specs.Qualifying.{qualifying, Says}
 use Rattle.qualifying.proofs.Laws.{qualifying-says}
-use Rattle.scoap_c.specs.Coded.{codeLines, Decoded}
 use Rattle.scoap_c.specs.Qualifies.{qualifiesRead, qualifiesNumber, QualifiesCoded}
-use Rattle.scoap_c.proofs.Coding.{decoded, own-fit}
+use Rattle.scoap_c.proofs.Coding.{own-fit}
 
 -- Nothing stands past the published size of a table of its own.
 no-rest : (n : ℕ) (xs : List ℕ) → xs ++ drop n (replicate n 0) ≡ xs
@@ -76,7 +77,7 @@ module _ (lib net : List ℕ) where
   refused-same : (number line n k : ℕ) → _≡_ {A = Read O.Pair} (refused number line) (refused n k) → (number ≡ n) × (line ≡ k)
   refused-same number line n k e = (cc, cc)
 
-  coded-refused : (number line : ℕ) → qualifiesRead lib net ≡ refused number line → QualifiesCoded lib net (number * codeLines + line)
+  coded-refused : (number line : ℕ) → qualifiesRead lib net ≡ refused number line → QualifiesCoded lib net (refusalCode number line)
   unfolding qualifiesNumber
   coded-refused number line e =
       let t = told number line e in
@@ -132,10 +133,10 @@ module _ (lib net : List ℕ) where
     pub later-line : (r : Refusal) → s ≡ Later r → r .line < codeLines
     later-line r e = told (r .number) (r .line) (later r e) .1
 
-    pub qualifies-entry : (r : Refusal) → s ≡ AtEntry r → (n : ℕ) → n ≡ r .number * codeLines + r .line → QualifiesCoded lib net n
+    pub qualifies-entry : (r : Refusal) → s ≡ AtEntry r → (n : ℕ) → n ≡ refusalCode (r .number) (r .line) → QualifiesCoded lib net n
     qualifies-entry r e n is = rw is (coded-refused (r .number) (r .line) (at-entry r e))
 
-    pub qualifies-later : (r : Refusal) → s ≡ Later r → (n : ℕ) → n ≡ r .number * codeLines + r .line → QualifiesCoded lib net n
+    pub qualifies-later : (r : Refusal) → s ≡ Later r → (n : ℕ) → n ≡ refusalCode (r .number) (r .line) → QualifiesCoded lib net n
     qualifies-later r e n is = rw is (coded-refused (r .number) (r .line) (later r e))
 
     pub qualifies-accepted : s ≡ Unrefused → (n : ℕ) → n ≡ qualifying library′ netlist′ → QualifiesCoded lib net n

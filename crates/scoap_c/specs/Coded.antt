@@ -3,36 +3,26 @@
 use mathlib.Core.Bool.{true, false}
 use mathlib.Core.List.{List}
 use mathlib.Core.Path.{_≡_}
-use Prim.Native.Nat.{ℕ, _+_, _*_, _/_, _%_, _≤_, _<_}
+use Prim.Native.Nat.{ℕ, _/_, _≤_, _<_}
 use lib.ListN.{length, getD, take, replicate}
 use Rattle.sizes.specs.Sizes as Size
 use Rattle.reading.specs.Numbers as No
-use Rattle.reading.specs.Refusal.{Read, refused, read}
+use Rattle.reading.specs.Refusal.{Read, refused, read, _>>=_}
 use Rattle.netlist.specs.Netlist.{mentioned}
 use Rattle.calculation.specs.declared.Counts.{Counts}
 use Rattle.calculation.specs.Nodes.{Kind, Purpose, node}
 use Rattle.calculation.specs.Plans.{Exact}
 use Rattle.calculation.specs.Settled.{Settled}
+use Rattle.writer.specs.Buffer.{codeLines, codeOf, Decoded}
 use Rattle.report.specs.Report.{reportBytes, longestReport}
 use Rattle.outcome.specs.declared.Summary.{Summary}
 use Rattle.outcome.specs.Demands.{Reported, PairRead, Promised}
 use Rattle.outcome.specs.Outcome as O
 use Rattle.outcome.specs.Own.{ownTables}
 
--- "the refusal number times 1,000,000 plus the line"
-abbrev pub codeLines : ℕ
-codeLines = 1000000
-
 -- "gets one number back: the report's length when accepted, else the refusal number times 1,000,000 plus the line."
 unfoldable pub numberOf : Read Summary → ℕ
-numberOf (refused number line) = number * codeLines + line
-numberOf (read s) = s .length
-
--- A refusal's number and line, from the one number.
-pub record Decoded (said number line : ℕ) : Type 0 where
-  pub above : codeLines ≤ said
-  pub numberIs : said / codeLines ≡ number
-  pub lineIs : said % codeLines ≡ line
+numberOf o = codeOf (o >>= λ s. read (s .length))
 
 -- What a caller has of an accepted pair who sees its bytes alone: they are the report of numbers and counts of which demands 2
 -- and 3 hold, and no more than the longest report has.

@@ -3,15 +3,15 @@
 use mathlib.Core.List.{List, []}
 use mathlib.Core.Logic.{_↔_}
 use mathlib.Core.Path.{_≡_}
-use Prim.Native.Nat.{ℕ, _+_, _*_, _/_, _≤_}
+use Prim.Native.Nat.{ℕ, _/_, _≤_}
 use Rattle.reading.specs.Numbers as No
 use Rattle.reading.specs.Refusal.{Read, refused, read, _>>_}
+use Rattle.writer.specs.Buffer.{codeLines, refusalCode, Decoded}
 use Rattle.cell_library.specs.Layout.{libraryWords}
 use Rattle.netlist.specs.Layout.{netlistWords}
 use Rattle.outcome.specs.Outcome as O
 use Rattle.outcome.specs.Own.{ownTables}
 use Rattle.qualifying.specs.Qualifying.{qualifying, Says}
-use Rattle.scoap_c.specs.Coded.{codeLines, Decoded}
 
 -- What the two texts come to, on tables of its own: the entry, then the library and the netlist. Nothing is calculated or reported.
 unfoldable pub qualifiesRead : List ℕ → List ℕ → Read O.Pair
@@ -19,7 +19,7 @@ qualifiesRead lib net = O.entry (O.givenTexts lib net) (ownTables []) >> O.readP
 
 -- "the refusal number times 1,000,000 plus the line", or what is said of the tables of what was read.
 unfoldable pub qualifiesNumber : Read O.Pair → ℕ
-qualifiesNumber (refused number line) = number * codeLines + line
+qualifiesNumber (refused number line) = refusalCode number line
 qualifiesNumber (read p) = qualifying (libraryWords (p .cells)) (netlistWords (p .statements))
 
 -- Its number by equation; what it says of an accepted pair; that a refusal's number and line are told by the number; and which

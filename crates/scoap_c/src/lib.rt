@@ -4,23 +4,16 @@
 // Open to others: `scoap_report`, `scoap_plan`, `scoap_cell`, `scoap_built_in` and `scoap_qualifies`. They have no
 // condition on their input; specs/Coded.antt, specs/Plan.antt, specs/Cell.antt, specs/BuiltIn.antt and
 // specs/Qualifies.antt say what they promise.
-use generator::Generated;
 use netlist::Rules;
 use outcome::Answer;
-use planning::Written;
 use read_pair::Progress;
 use read_pair::read_texts;
-use reading::Refusal;
-ghost use mathlib.Core.Path.{_≡_};
-ghost use Prim.Native.Nat.{_+_, _*_, _<_};
+use writer::refusal_code;
 ghost use Rattle.scoap_c.specs.BuiltIn.{BuiltInCoded};
 ghost use Rattle.scoap_c.specs.Cell.{CellCoded};
-ghost use Rattle.scoap_c.specs.Coded.{codeLines, Coded};
+ghost use Rattle.scoap_c.specs.Coded.{Coded};
 ghost use Rattle.scoap_c.specs.Plan.{PlanCoded};
 ghost use Rattle.scoap_c.specs.Qualifies.{QualifiesCoded};
-
-// "the refusal number times 1,000,000 plus the line"
-const CODE_LINES: u64 = 1_000_000;
 
 // For C: tables of its own, and one number for the answer: the report's length when accepted, else
 // the refusal number times 1,000,000 plus the line.
@@ -43,7 +36,7 @@ pub extern "C" fn scoap_report(lib: &[u8], net: &[u8], report: &mut [u8]) -> u64
     );
     match answer {
         Answer::Accepted(s) => s.length as u64,
-        Answer::Refused(r) => r.number as u64 * CODE_LINES + r.line as u64,
+        Answer::Refused(r) => refusal_code(r),
     }
 }
 
@@ -53,11 +46,8 @@ pub extern "C" fn scoap_report(lib: &[u8], net: &[u8], report: &mut [u8]) -> u64
 pub extern "C" fn scoap_cell(line: &[u8], entry: &mut [u8]) -> u64
     ensures { λ r. ⌜ CellCoded (now (line .entry)) (now (entry .entry)) (now (entry .exit)) r ⌝ }
 {
-    let answer = generator::put_entry(line, entry);
-    match answer {
-        Generated::Length(n) => n as u64,
-        Generated::Refused(r) => r.number as u64 * CODE_LINES + r.line as u64,
-    }
+    let written = generator::put_entry(line, entry);
+    writer::code(written)
 }
 
 // For C: the text of the built-in library, and its length; 17 where the buffer is too short.
@@ -65,11 +55,8 @@ pub extern "C" fn scoap_cell(line: &[u8], entry: &mut [u8]) -> u64
 pub extern "C" fn scoap_built_in(text: &mut [u8]) -> u64
     ensures { λ r. ⌜ BuiltInCoded (now (text .entry)) (now (text .exit)) r ⌝ }
 {
-    if text.len() < built_in::BYTES {
-        table::clear_bytes(text);
-        return reading::REPORT_LONG as u64 * CODE_LINES;
-    }
-    built_in::put_built_in(text) as u64
+    let written = built_in::put_built_in(text);
+    writer::code(written)
 }
 
 // For C: the cheapest way to set a line to a value, written out, on tables of its own, and one number for
@@ -102,18 +89,7 @@ pub extern "C" fn scoap_plan(
         0,
         0,
     );
-    match written {
-        Written::Length(n) => n as u64,
-        Written::Refused(r) => r.number as u64 * CODE_LINES + r.line as u64,
-    }
-}
-
-// A refusal as one number.
-fn refusal_code(r: Refusal) -> u64
-    requires { ⌜ r .line < codeLines ⌝ }
-    ensures { λ n. ⌜ n ≡ r .number * codeLines + r .line ⌝ }
-{
-    r.number as u64 * CODE_LINES + r.line as u64
+    writer::code(written)
 }
 
 // For C: of which netlists document 02, K8, speaks, on tables of its own: 0, 1 or 2 as `qualifies` answers, else

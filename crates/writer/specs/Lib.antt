@@ -2,3 +2,4 @@ pub mod Put
 pub mod Decimal
 pub mod Octal
 pub mod Refused
+pub mod Buffer

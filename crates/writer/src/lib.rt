@@ -1,11 +1,15 @@
-// Writing bytes into a lent buffer: a byte, several, a number in decimal or in octal, a refusal.
+// Writing bytes into a lent buffer: a byte, several, a number in decimal or in octal, a refusal; and the
+// end of every call that writes a text: its length, or a refusal, with the number for C and what is printed.
 //
 // A cursor is a place of the buffer. Bytes past the buffer's end are not stored, and the cursor then
 // stands past the end, at the length and 1, so that a caller asks once, at the end, whether all was
-// stored. No call has a condition. specs/Put.antt says what a call leaves, specs/Decimal.antt and
-// specs/Octal.antt what the digits of a number are, specs/Refused.antt what is printed of a refusal.
+// stored. specs/Put.antt says what a call leaves, specs/Decimal.antt and specs/Octal.antt what the digits
+// of a number are, specs/Refused.antt what is printed of a refusal, specs/Buffer.antt what a text in a
+// buffer, or a refusal, comes to.
 //
-// For the crates above: `put_byte`, `put_bytes`, `put_decimal`, `put_octal`, `put_refusal`.
+// Open to others: the type `Written`. For the crates above: `put_byte`, `put_bytes`, `put_decimal`, `put_octal`,
+// `put_refusal`, `refuse`, `close` and `show`, which have no condition; `refusal_code` and `code`, which ask that a
+// refusal's line is below 1,000,000.
 use reading::Refusal;
 ghost use mathlib.Core.List.{[], _∷_};
 ghost use mathlib.Core.Path.{_≡_};
@@ -16,12 +20,22 @@ ghost use Rattle.writer.specs.Decimal.{decimalBytes, twoDigits, Room};
 ghost use Rattle.writer.specs.Octal.{octalBytes};
 ghost use Rattle.writer.specs.Put.{Put};
 ghost use Rattle.writer.specs.Refused.{refusalBytes};
+ghost use Rattle.writer.specs.Buffer.{writtenRead, Refuses, Closes, codeLines, refusalCode, codeOf, LineBelow, ShownBy};
 
 const ZERO: u8 = 48;
 
 const COMMA: u8 = 44;
 
 const LINE_END: u8 = 10;
+
+// "the refusal number times 1,000,000 plus the line"
+const CODE_LINES: u64 = 1_000_000;
+
+// A text in the front of a lent buffer, by its length, or a refusal. `writtenRead` gives its cases.
+pub enum Written {
+    Length(usize),
+    Refused(Refusal),
+}
 
 pub fn put_byte(buffer: &mut [u8], at: usize, b: u8) -> usize
     ensures { λ r. ⌜ Put at (b ∷ []) (now (buffer .entry)) (now (buffer .exit)) r ⌝ }
@@ -157,4 +171,53 @@ pub fn put_refusal(buffer: &mut [u8], at: usize, r: Refusal) -> usize
     let line = put_byte(buffer, comma, COMMA);
     let end = put_digits(buffer, line, r.line as u64);
     put_byte(buffer, end, LINE_END)
+}
+
+// A refusal that leaves the buffer zero.
+pub fn refuse(buffer: &mut [u8], number: u32, line: usize) -> Written
+    ensures { λ r. ⌜ Refuses number line (now (buffer .entry)) (now (buffer .exit)) r ⌝ }
+{
+    table::clear_bytes(buffer);
+    Written::Refused(Refusal { number, line })
+}
+
+// The end of a text that was put into the buffer's front, up to a cursor: its length, or the refusal of a text that is
+// longer than the buffer, at line 0.
+pub fn close(buffer: &mut [u8], end: usize, number: u32) -> Written
+    ensures { λ r. ⌜ Closes number end (now (buffer .entry)) (now (buffer .exit)) r ⌝ }
+{
+    if end <= buffer.len() {
+        Written::Length(end)
+    } else {
+        refuse(buffer, number, 0)
+    }
+}
+
+// How many bytes of the buffer are to be printed: those of its text, or of the refusal, which is put there.
+pub fn show(buffer: &mut [u8], written: Written) -> usize
+    ensures { λ n. ⌜ ShownBy (writtenRead written) (now (buffer .entry)) (now (buffer .exit)) n ⌝ }
+{
+    match written {
+        Written::Length(n) => n,
+        Written::Refused(r) => put_refusal(buffer, 0, r),
+    }
+}
+
+// For C: a refusal by one number.
+pub fn refusal_code(r: Refusal) -> u64
+    requires { ⌜ r .line < codeLines ⌝ }
+    ensures { λ n. ⌜ n ≡ refusalCode (r .number) (r .line) ⌝ }
+{
+    r.number as u64 * CODE_LINES + r.line as u64
+}
+
+// For C: the text's length, or the refusal, by one number.
+pub fn code(written: Written) -> u64
+    requires { ⌜ LineBelow (writtenRead written) ⌝ }
+    ensures { λ n. ⌜ n ≡ codeOf (writtenRead written) ⌝ }
+{
+    match written {
+        Written::Length(n) => n as u64,
+        Written::Refused(r) => refusal_code(r),
+    }
 }

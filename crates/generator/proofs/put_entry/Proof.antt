@@ -13,13 +13,14 @@ use Rattle.reading.specs.Refusal.{_>>=_, _>>_, weigh}
 use Rattle.text.specs.Lines.{fields, fieldsFrom}
 use Rattle.text.proofs.Laws.{fieldsFrom-start}
 use Rattle.text.proofs.Cursors.{field-nth, field-next, field-last}
-use Rattle.generator.specs.Generated.{generated, generatedInto, leftBy, answerRead, lengthRead}
+use Rattle.writer.specs.Buffer.{leftBy, writtenRead, lengthRead}
+use Rattle.generator.specs.Generated.{generated, generatedInto}
 use Rattle.generator.proofs.Tables.{table-from, text-short}
 use Rattle.generator.proofs.put_entry.Statement.{statement}
 use Rattle.generator.proofs.put_entry.Tie as tie
 
 returns : tie.Need-returns
-unfolding generatedInto generated weigh pick _>>_ _>>=_ leftBy answerRead lengthRead
+unfolding generatedInto generated weigh pick _>>_ _>>=_ leftBy writtenRead lengthRead
 returns c =
     let text = c .before .before .before .args .text .now in
     let long : Size.textBytes < length text = omega arith in

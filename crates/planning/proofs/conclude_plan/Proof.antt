@@ -1,13 +1,12 @@
--- `conclude_plan` refuses by 18, or writes and perhaps refuses by 19. Assumes nothing.
-use mathlib.Core.Path.{_≡_, refl, sym, ap, _∙_}
-use Prim.Native.Nat.{ℕ, _≤_}
+-- `conclude_plan` refuses by 18, or writes and closes, perhaps by 19. Assumes nothing.
+use mathlib.Core.Path.{_∙_}
+use Prim.Native.Nat.{_≤_}
 use native.Mathlib.Omega.{arith}
-use lib.ListN.{replicate}
 use borrow.Author.Needs.{needs}
 use Rattle.cost.specs.Cost.{most}
 use Rattle.calculation.specs.Calculation.{analysed}
-use Rattle.planning.specs.Promise.{askedNumber, writtenRead}
-use Rattle.planning.proofs.Concluding.{asked-known, number-is, plan-put, ends-over, ends-long, ends-fitting}
+use Rattle.planning.specs.Promise.{askedNumber}
+use Rattle.planning.proofs.Concluding.{asked-known, number-is, plan-put, ends-over, ends-written}
 use Rattle.planning.proofs.conclude_plan.Statement.{statement}
 use Rattle.planning.proofs.conclude_plan.Tie as tie
 
@@ -19,7 +18,7 @@ returns c cells ss h =
     let n = c .before .before .before .before .before in
     let a = began n .args in
     let same = n .asked-number .ensures ∙ number-is (a .library .now) (a .netlist .now) (a .numbers .now) cells ss h (a .line) (a .value) (a .kind) in
-    ends-over cells ss (a .line) (a .value) (a .kind) (a .text .now) (omega (arith, same, c .before .before .before .before .if1 .taken)) _ (c .before .before .refuse .ensures .0) _ (c .before .before .refuse .ensures .1)
+    ends-over cells ss (a .line) (a .value) (a .kind) (a .text .now) _ _ (omega (arith, same, c .before .before .before .before .if1 .taken)) (c .before .before .refuse .ensures)
 
 put-cheapest-requires : tie.Need-put-cheapest-requires
 put-cheapest-requires c κs =
@@ -39,26 +38,15 @@ put-cheapest-requires c κs =
 
 returns-2 : tie.Need-returns-2
 returns-2 c cells ss h =
-    let n = c .before .before .before .before .before .before .before .before .before .before in
+    let q = c .before .before in
+    let p = q .before .before .before .before in
+    let n = p .before .before .before in
     let a = began n .args in
-    let p = c .before .before .before .before .before .before .before in
     let same = n .asked-number .ensures ∙ number-is (a .library .now) (a .netlist .now) (a .numbers .now) cells ss h (a .line) (a .value) (a .kind) in
-    let small : askedNumber (analysed cells ss .numbers) (a .line) (a .value) (a .kind) ≤ most = omega (arith, same, c .before .before .before .before .before .before .before .before .before .if1 .left) in
-    ends-long cells ss (a .line) (a .value) (a .kind) (a .text .now) small _ (p .put-cheapest .result)
+    let small : askedNumber (analysed cells ss .numbers) (a .line) (a .value) (a .kind) ≤ most = omega (arith, same, p .before .before .if1 .left) in
+    ends-written cells ss (a .line) (a .value) (a .kind) (a .text .now) _ _ small _ (p .put-cheapest .result)
     (plan-put cells ss (a .line) (a .value) (a .kind) (a .library .now) (a .netlist .now) (a .text .now) _ _ (p .put-cheapest .ensures) (h .holds) small)
-    (omega (arith, p .put-cheapest .kept .1 .1 .0, c .before .before .before .before .if2 .taken)) _ (c .before .before .refuse2 .ensures .0 ∙ ap (λ (n : ℕ). replicate n 0) (p .put-cheapest .kept .1 .1 .0)) _ (c .before .before .refuse2 .ensures .1)
-
-returns-3 : tie.Need-returns-3
-unfolding writtenRead
-returns-3 c cells ss h =
-    let n = c .before .before .before .before .before .before in
-    let a = began n .args in
-    let p = c .before .before .before in
-    let same = n .asked-number .ensures ∙ number-is (a .library .now) (a .netlist .now) (a .numbers .now) cells ss h (a .line) (a .value) (a .kind) in
-    let small : askedNumber (analysed cells ss .numbers) (a .line) (a .value) (a .kind) ≤ most = omega (arith, same, c .before .before .before .before .before .if1 .left) in
-    ends-fitting cells ss (a .line) (a .value) (a .kind) (a .text .now) small _ (p .put-cheapest .result)
-    (plan-put cells ss (a .line) (a .value) (a .kind) (a .library .now) (a .netlist .now) (a .text .now) _ _ (p .put-cheapest .ensures) (h .holds) small)
-    (omega (arith, p .put-cheapest .kept .1 .1 .0, c .if2 .left)) _ refl
+    (q .close .ensures)
 
 pub conclude-plan-spec : {M : Type 1} → statement M
 conclude-plan-spec =
@@ -71,6 +59,4 @@ conclude-plan-spec =
     put-cheapest-requires
     (λ c κs. search needs)
     (λ c. search needs)
-    returns-2
-    (λ c. search needs)
-    returns-3)
+    returns-2)

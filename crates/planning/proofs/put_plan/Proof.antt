@@ -1,11 +1,10 @@
 -- `put_plan` leaves the text where it stands, or puts the refusal there. Assumes nothing.
-use native.Mathlib.Omega.{arith}
 use denote.Ref.{now}
 use borrow.Author.Needs.{needs}
 use Rattle.sizes.specs.Sizes as Size
 use Rattle.outcome.specs.Own.{ownTables}
 use Rattle.read_pair.proofs.Own.{zeros-cleared}
-use Rattle.planning.proofs.Printing.{text-printed, refusal-printed}
+use Rattle.planning.proofs.Printing.{plan-printed}
 use Rattle.planning.proofs.put_plan.Statement.{statement}
 use Rattle.planning.proofs.put_plan.Tie as tie
 
@@ -14,25 +13,13 @@ use Rattle.planning.proofs.put_plan.Tie as tie
 abbrev begins : tie.After-write-plan-into → tie.Start
 begins c = c .before .before .before .before .before .before .before
 
-abbrev planned : tie.After-numbers2 → tie.After-write-plan-into
-planned c = c .before .before .before
-
 returns : tie.Need-returns
 unfolding ownTables
 returns c =
-    let k = planned (c .before .before .before) in
+    let k = c .before .before .before .before .before in
     let a = begins k .args in
-    text-printed (now (a .lib)) (now (a .net)) (now (a .text)) (a .line) (a .value) (a .kind) _ (k .write-plan-into .result)
-    (k .write-plan-into .ensures) (c .before .written .given .0 .0) (search needs) (search needs)
-
-returns-2 : tie.Need-returns-2
-unfolding ownTables
-returns-2 c =
-    let k = planned (c .before .before .before .before .before) in
-    let a = begins k .args in
-    refusal-printed (now (a .lib)) (now (a .net)) (now (a .text)) (a .line) (a .value) (a .kind) _ (k .write-plan-into .result)
-    (k .write-plan-into .ensures) (c .before .before .before .written2 .given .0 .0) (search needs) (search needs) _ (c .put-refusal .result)
-    (c .put-refusal .ensures)
+    plan-printed (now (a .lib)) (now (a .net)) (now (a .text)) (a .line) (a .value) (a .kind) _ (k .write-plan-into .result)
+    (k .write-plan-into .ensures) (search needs) _ (c .show .result) (c .show .ensures)
 
 pub put-plan-spec : {M : Type 1} → statement M
 put-plan-spec =
@@ -42,8 +29,5 @@ put-plan-spec =
     (λ c. search needs)
     (λ c. search needs)
     (λ c κs. (zeros-cleared Size.library, zeros-cleared Size.netlist))
-    (λ c. search needs)
-    (λ c. search needs)
     (λ c κs. search needs)
-    returns
-    returns-2)
+    returns)

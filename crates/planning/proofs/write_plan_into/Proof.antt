@@ -4,8 +4,8 @@ use borrow.Author.Needs.{needs}
 use Rattle.outcome.specs.Answer.{lentOf}
 use Rattle.outcome.specs.Outcome.{Given, Lent, givenTexts}
 use Rattle.outcome.proofs.Checking.{texts-checked}
+use Rattle.writer.specs.Buffer.{writtenRead}
 use Rattle.read_pair.proofs.Reached.{texts-reached, texts-ready}
-use Rattle.planning.specs.Promise.{writtenRead}
 use Rattle.planning.proofs.Promising.{call-entry, call-later, call-made}
 use Rattle.planning.proofs.write_plan_into.Statement.{statement}
 use Rattle.planning.proofs.write_plan_into.Tie as tie

@@ -1,8 +1,7 @@
 -- `put_analysis` leaves the report where it stands, or puts the refusal there. Assumes nothing.
-use native.Mathlib.Omega.{arith}
 use denote.Ref.{now}
 use Rattle.outcome.specs.Own.{ownTables}
-use Rattle.printing.proofs.Printing.{accepted, refused-printed}
+use Rattle.printing.proofs.Printing.{analysis-printed, accepted-shown, refused-shown}
 use borrow.Author.Needs.{needs}
 use Rattle.printing.proofs.put_analysis.Statement.{statement}
 use Rattle.printing.proofs.put_analysis.Tie as tie
@@ -20,14 +19,16 @@ unfolding ownTables
 returns c =
     let k = analysed (c .before .before .before) in
     let a = begins k .args in
-    accepted (now (a .lib)) (now (a .net)) (now (a .report)) (search needs) _ (search needs) (k .analyse .result) (k .analyse .ensures) (c .before .answer .given .0 .0) (search needs)
+    analysis-printed (now (a .lib)) (now (a .net)) (now (a .report)) (search needs) _ (search needs) _ (k .analyse .ensures) _ _
+    (accepted-shown (k .analyse .result) (c .before .answer .given .0 .0) _ (search needs))
 
 returns-2 : tie.Need-returns-2
 unfolding ownTables
 returns-2 c =
     let k = analysed (c .before .before .before .before .before) in
     let a = begins k .args in
-    refused-printed (now (a .lib)) (now (a .net)) (now (a .report)) (search needs) _ (search needs) (k .analyse .result) (k .analyse .ensures) (c .before .before .before .answer2 .given .0 .0) _ (c .put-refusal .result) (c .put-refusal .ensures) (search needs)
+    analysis-printed (now (a .lib)) (now (a .net)) (now (a .report)) (search needs) _ (search needs) _ (k .analyse .ensures) _ _
+    (refused-shown (k .analyse .result) (c .before .before .before .answer2 .given .0 .0) _ _ _ (search needs) (c .put-refusal .ensures))
 
 pub put-analysis-spec : {M : Type 1} → statement M
 put-analysis-spec =

@@ -1,6 +1,6 @@
 -- `mentioned` asks the netlist table. Assumes nothing.
 use borrow.Author.Needs.{needs}
-use Rattle.report.specs.Answer.{marked}
+use Rattle.report.specs.Arguments.{marked}
 use Rattle.report.proofs.mentioned.Statement.{statement}
 use Rattle.report.proofs.mentioned.Tie as tie
 

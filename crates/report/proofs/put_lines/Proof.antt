@@ -7,7 +7,7 @@ use native.Mathlib.Omega.{arith}
 use borrow.Author.Needs.{needs}
 use lib.ListN.{length}
 use Rattle.sizes.specs.Sizes as Size
-use Rattle.report.specs.Answer.{marked}
+use Rattle.report.specs.Arguments.{marked}
 use Rattle.writer.specs.Put.{Put}
 use Rattle.report.specs.Report.{linesBytes}
 use Rattle.writer.proofs.Steps.{put-none, put-then}

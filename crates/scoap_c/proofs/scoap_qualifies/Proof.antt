@@ -1,5 +1,4 @@
 -- `scoap_qualifies` tells by one number what the tables of the two texts say. Assumes nothing.
-use native.Mathlib.Omega.{arith}
 use denote.Ref.{now}
 use Rattle.sizes.specs.Sizes as Size
 use Rattle.read_pair.proofs.Own.{zeros-cleared}

@@ -1,5 +1,4 @@
 -- `scoap_report` tells the answer of the analysis by one number. Assumes nothing.
-use native.Mathlib.Omega.{arith}
 use denote.Ref.{now}
 use Rattle.sizes.specs.Sizes as Size
 use Rattle.outcome.specs.Own.{ownTables}
@@ -20,15 +19,15 @@ analysed c = c .before .before .before .before .before
 abbrev accepted : tie.After-known-told → tie.After-slice-known2
 accepted c = c .before .before .before
 
-abbrev refused : tie.After-struct-known → tie.After-slice-known2
-refused c = c .before .before .before .before
+abbrev refused : tie.After-known-told2 → tie.After-slice-known2
+refused c = c .before .before .before
 
-add-result : tie.Need-add-result
+refusal-code-requires : tie.Need-refusal-code-requires
 unfolding ownTables
-add-result c =
+refusal-code-requires c κs =
     let k = analysed (refused c) in
     let a = begins k .args in
-    omega (arith, line-below (now (a .lib)) (now (a .net)) (now (a .report)) _ (k .analyse-into .result) (k .analyse-into .ensures) (c .before .before .answer2 .given .0 .0) (search needs))
+    line-below (now (a .lib)) (now (a .net)) (now (a .report)) _ (k .analyse-into .result) (k .analyse-into .ensures) (c .before .answer2 .given .0 .0) (search needs)
 
 returns : tie.Need-returns
 unfolding ownTables
@@ -40,9 +39,10 @@ returns c =
 returns-2 : tie.Need-returns-2
 unfolding ownTables
 returns-2 c =
-    let k = analysed (refused c) in
+    let k = analysed (refused (c .before)) in
     let a = begins k .args in
     coded-refused (now (a .lib)) (now (a .net)) (now (a .report)) _ (k .analyse-into .result) (k .analyse-into .ensures) (c .before .before .answer2 .given .0 .0) (search needs)
+    (c .refusal-code .result) (c .refusal-code .ensures)
 
 pub scoap-report-spec : {M : Type 1} → statement M
 scoap-report-spec =
@@ -54,9 +54,7 @@ scoap-report-spec =
     (λ c κs. (zeros-cleared Size.library, zeros-cleared Size.netlist))
     (λ c. search needs)
     (λ c. search needs)
-    (λ c. search needs)
-    (λ c. search needs)
-    add-result
+    refusal-code-requires
     (λ c. search needs)
     returns
     (λ c. search needs)

@@ -1,36 +1,29 @@
--- What is printed of a text, from the answer and the buffer.
+-- What a text comes to is bounded: its entry fits the program's buffer, its refusal has a small number and line.
 -- Assumes nothing.
-use mathlib.Core.Bool.{Bool, true, false, not, _&&_}
-use mathlib.Core.List.{List, [], _∷_, _++_, map}
+use mathlib.Core.Bool.{true, _&&_}
+use mathlib.Core.List.{List, [], _∷_, map}
 use mathlib.Core.Option.{Option, none, some}
-use mathlib.Core.Path.{_≡_, refl, sym, ap, _∙_}
-use Prim.Native.Nat.{ℕ, _+_, _^_, _≤_, _<_}
+use mathlib.Core.Path.{_≡_, refl}
+use Prim.Native.Nat.{ℕ, _≤_}
 use native.Mathlib.Omega.{arith}
-use lib.Dec.{leb, ltb, eqb}
-use lib.ListN.{length, take, drop, length-append}
-use lib.Seq.{take-append-seam, drop-append-seam, length-sets}
+use lib.Dec.{ltb}
+use lib.ListN.{length}
 use borrow.Author.Tests.{le-ltb, ltb-false}
 use Rattle.sizes.specs.Sizes as Size
 use Rattle.reading.specs.Choice.{pick}
-use Rattle.reading.specs.Refusal.{Read, refused, read, _>>=_, _>>_, weigh, form}
-use Rattle.reading.proofs.Laws.{by-test, clash, and-left, and-right, refused-read}
-use Rattle.reading.specs.declared.Refusal.{Refusal}
-use Rattle.text.specs.Bytes.{bytes}
+use Rattle.reading.specs.Numbers as No
+use Rattle.reading.specs.Refusal.{_>>=_, _>>_, weigh, form}
+use Rattle.reading.proofs.Laws.{by-test, and-left}
 use Rattle.text.specs.Lines.{lines}
 use Rattle.text.specs.Numeral.{decimal, nameForm}
 use Rattle.cell_library.specs.Library.{Fields}
-use Rattle.writer.specs.Decimal.{decimalBytes}
-use Rattle.writer.specs.Put.{Put}
-use Rattle.writer.specs.Refused.{refusalBytes}
-use Rattle.writer.proofs.Decimal.{decimal-length}
-use Rattle.writer.proofs.Steps.{put-front}
+use Rattle.writer.specs.Buffer.{textWithin}
 use Rattle.truth_tables.specs.Entries.{cellOf, entryBytes}
 use Rattle.truth_tables.specs.Tables.{allOf}
 use Rattle.truth_tables.proofs.Lengths.{longestEntry, entry-short}
 use Rattle.prime_rows.specs.Masks.{isBit, isOne}
-use Rattle.generator.specs.Generated.{TableLine, withPins, tableLine, tableAfter, ended, oneLine, wrongCount, entryOf, judged, generated, fitted, generatedInto, leftBy, answerRead, lengthRead, Comes}
-use Rattle.generator.specs.Shown.{entryRoom, shown, Shows, Bounded}
-use Rattle.generator.specs.declared.Generated.the-variants.{Length, Refused}
+use Rattle.generator.specs.Generated.{TableLine, withPins, tableLine, tableAfter, ended, oneLine, wrongCount, entryOf, judged, generated, generatedInto}
+use Rattle.generator.specs.Bounded.{Bounded}
 
 -- ---- a line that is read has a name
 
@@ -66,8 +59,8 @@ text-name (l ∷ (k ∷ ls)) t e = no-line t e
 
 -- ---- a buffer with room for every entry
 
-entry-fits : (room : ℕ) → longestEntry ≤ room → (t : TableLine) → nameForm (t .name) ≡ true → (entryOf t >>= fitted room) ≡ entryOf t
-unfolding entryOf weigh pick _>>_ _>>=_ fitted
+entry-fits : (room : ℕ) → longestEntry ≤ room → (t : TableLine) → nameForm (t .name) ≡ true → (entryOf t >>= textWithin No.reportLong room) ≡ entryOf t
+unfolding entryOf weigh pick _>>_ _>>=_ textWithin
 entry-fits room h t f =
     by-test (wrongCount t)
     (λ e. rw e refl)
@@ -77,7 +70,7 @@ entry-fits room h t f =
     let few : t .pins ≤ 4 = ltb-false 4 (t .pins) q in
     rw (e, q, le-ltb room (length (entryBytes (cellOf (t .name) (t .pins) (map isOne (t .bits))))) (omega (arith, entry-short (t .name) (t .pins) (map isOne (t .bits)) f few))) refl))
 
-judged-fits : (room : ℕ) → longestEntry ≤ room → (o : Option TableLine) → ((t : TableLine) → o ≡ some t → nameForm (t .name) ≡ true) → (judged o >>= fitted room) ≡ judged o
+judged-fits : (room : ℕ) → longestEntry ≤ room → (o : Option TableLine) → ((t : TableLine) → o ≡ some t → nameForm (t .name) ≡ true) → (judged o >>= textWithin No.reportLong room) ≡ judged o
 unfolding judged form _>>=_
 judged-fits room h none f = refl
 judged-fits room h (some t) f = entry-fits room h t (f t refl)
@@ -89,47 +82,10 @@ room-enough text room h =
     (λ e. rw e refl)
     (λ e. rw e (judged-fits room h (oneLine (lines text)) (text-name (lines text))))
 
--- ---- from the answer
-
-pub entry-shown : (o : Read (List ℕ)) (before after : List ℕ) (n : ℕ) → entryRoom ≡ length after → Comes o before after (Length n)
-    → Shows o before after n
-unfolding shown leftBy answerRead lengthRead
-entry-shown (refused number line) before after n long c = refused-read (sym (c .answers))
-entry-shown (read entry) before after n long c =
-    let size : n ≡ length entry = cc (c .answers) in
-    record {
-      answers = size;
-      leaves = c .leaves ∙ ap (λ (l : List ℕ). entry ++ l) (sym (drop-append-seam entry (drop (length entry) before)));
-      prints = rw (size, c .leaves) (take-append-seam entry (drop (length entry) before));
-      long = long;
-    }
-
-refusal-short : (number line : ℕ) → length (refusalBytes number line) ≤ 50
-unfolding refusalBytes bytes
-refusal-short number line = simp length-append (omega (arith, decimal-length number .1, decimal-length line .1))
-
-pub refusal-shown : (o : Read (List ℕ)) (before mid after : List ℕ) (r : Refusal) (said : ℕ) → entryRoom ≡ length mid → Comes o before mid (Refused r)
-    → Put 0 (refusalBytes (r .number) (r .line)) mid after said → Shows o before after said
-unfolding shown leftBy answerRead lengthRead
-refusal-shown (read entry) before mid after r said h c p = refused-read (c .answers)
-refusal-shown (refused number line) before mid after r said h c p =
-    let b = refusalBytes number line in
-    let same-number : r .number ≡ number = cc (c .answers) in
-    let same-line : r .line ≡ line = cc (c .answers) in
-    let q : Put 0 b mid after said = rw (same-number, same-line) at p in
-    let size : said ≡ length b = omega (arith, q .moved, refusal-short number line) in
-    let whole : after ≡ b ++ drop (length b) mid = put-front q (omega (arith, refusal-short number line)) in
-    record {
-      answers = size;
-      leaves = whole ∙ ap (λ (l : List ℕ). b ++ drop (length b) l) (c .leaves);
-      prints = rw (size, whole) (take-append-seam b (drop (length b) mid));
-      long = h ∙ sym (ap length (q .stored) ∙ length-sets mid 0 b);
-    }
-
 -- ---- the bounds of what a text comes to
 
-entry-bounded : (room : ℕ) (t : TableLine) → nameForm (t .name) ≡ true → Bounded (entryOf t >>= fitted room)
-unfolding entryOf weigh pick _>>_ _>>=_ fitted Bounded
+entry-bounded : (room : ℕ) (t : TableLine) → nameForm (t .name) ≡ true → Bounded (entryOf t >>= textWithin No.reportLong room)
+unfolding entryOf weigh pick _>>_ _>>=_ textWithin Bounded
 entry-bounded room t f =
     by-test (wrongCount t)
     (λ e. rw e (omega arith, omega arith, omega arith))
@@ -142,7 +98,7 @@ entry-bounded room t f =
     (λ z. rw (e, q, z) (omega arith, omega arith, omega arith))
     (λ z. rw (e, q, z) (omega (arith, entry-short (t .name) (t .pins) (map isOne (t .bits)) f few)))))
 
-judged-bounded : (room : ℕ) (o : Option TableLine) → ((t : TableLine) → o ≡ some t → nameForm (t .name) ≡ true) → Bounded (judged o >>= fitted room)
+judged-bounded : (room : ℕ) (o : Option TableLine) → ((t : TableLine) → o ≡ some t → nameForm (t .name) ≡ true) → Bounded (judged o >>= textWithin No.reportLong room)
 unfolding judged form _>>=_ Bounded
 judged-bounded room none f = (omega arith, omega arith, omega arith)
 judged-bounded room (some t) f = entry-bounded room t (f t refl)
