@@ -43,13 +43,13 @@ planRead cells ss l v kind space =
 
 -- ---- the call
 
--- "Both come after every other check (17 isn't made here)": the entry, then the library and the netlist, then 18 and 19. `m` is what
--- is lent, the text buffer in the report's place.
+-- "Both come after every other check (17 isn't made here)": the entry, then the library and the netlist, then 18 and 19. `m` is
+-- what is lent, the text buffer in the report's place.
 unfoldable pub planOutcome : O.Given → O.Lent → ℕ → ℕ → ℕ → Read (List ℕ)
 planOutcome g m l v kind = O.entry g m >> (O.readPair g >>= λ p. planRead (p .cells) (p .statements) l v kind (length (m .report)))
 
--- What is lent, behind the library and the netlist: the tables hold what was read and the numbers of its analysis, also where the
--- call refuses by 18 or 19.
+-- What is lent, behind the library and the netlist: the tables hold what was read and the numbers of its analysis, also where
+-- the call refuses by 18 or 19.
 unfoldable pub planFilled : O.Pair → O.Lent → ℕ → ℕ → ℕ → O.Lent
 planFilled p m l v kind =
     record {
@@ -90,8 +90,8 @@ pub record PlanConcluded (cells : List Cell) (ss : List Statement) (l v kind : �
   pub tooLong : (line : ℕ) → said ≡ refused No.planLong line
       → (askedNumber (analysed cells ss .numbers) l v kind ≤ most) × (length before < length (cheapestText (kindOf kind) cells ss l v))
 
--- What the call promises: by equation its answer, the refusal and its line, and every entry of every lent slice afterwards; that it
--- never refuses by 17; and of an accepted library and netlist, what was said above.
+-- What the call promises: by equation its answer, the refusal and its line, and every entry of every lent slice afterwards; that
+-- it never refuses by 17; and of an accepted library and netlist, what was said above.
 pub record PlanPromised (g : O.Given) (before after : O.Lent) (l v kind : ℕ) (said : Read ℕ) : Type 0 where
   pub answers : said ≡ lengthRead (planOutcome g before l v kind)
   pub leaves : after ≡ planLeft g before l v kind

@@ -10,8 +10,8 @@ use Rattle.outcome.specs.Outcome.{Lent, givenTexts}
 use Rattle.outcome.specs.Own.{ownTables}
 use Rattle.planning.specs.Promise.{planOutcome, planLeft, PlanPromised}
 
--- Its number and the whole text buffer afterwards, by equation; that it is `write_plan` on tables of its own, with the whole promise
--- of that call; that a refusal's number and line are told by the number; and which refusals never come.
+-- Its number and the whole text buffer afterwards, by equation; that it is `write_plan` on tables of its own, with the whole
+-- promise of that call; that a refusal's number and line are told by the number; and which refusals never come.
 pub record PlanCoded (lib net before after : List ℕ) (l v kind said : ℕ) : Type 0 where
   pub answers : said ≡ codeOf (lengthRead (planOutcome (givenTexts lib net) (ownTables before) l v kind))
   pub leaves : after ≡ planLeft (givenTexts lib net) (ownTables before) l v kind .report

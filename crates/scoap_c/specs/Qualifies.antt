@@ -13,7 +13,8 @@ use Rattle.outcome.specs.Outcome as O
 use Rattle.outcome.specs.Own.{ownTables}
 use Rattle.qualifying.specs.Qualifying.{qualifying, Says}
 
--- What the two texts come to, on tables of its own: the entry, then the library and the netlist. Nothing is calculated or reported.
+-- What the two texts come to, on tables of its own: the entry, then the library and the netlist. Nothing is calculated, and
+-- nothing reported.
 unfoldable pub qualifiesRead : List ℕ → List ℕ → Read O.Pair
 qualifiesRead lib net = O.entry (O.givenTexts lib net) (ownTables []) >> O.readPair (O.givenTexts lib net)
 

@@ -1,0 +1,102 @@
+// The runs of an analysis again, from numbers that stand, whatever those are. Document 02, K11 and K14.
+//
+// For the crates above, each with what it asks and leaves (specs/Standing.antt): `observe_anew`, CO and SO
+// from their start over the CC and SC that stand, and `go_on`, all four runs from what stands.
+use calculation::Counts;
+use cost::NEVER;
+use links::link;
+use starting::start;
+use sweep::Sweeps;
+use sweep::observe_lines;
+use sweep::set_lines;
+ghost use mathlib.Core.List.{List};
+ghost use mathlib.Core.Path.{_≡_};
+ghost use Prim.Native.Nat.{_≤_, _<_};
+ghost use lib.ListN.{length, getD, set};
+ghost use Rattle.sizes.specs.Sizes as Size;
+ghost use Rattle.reading.specs.Choice.{pick};
+ghost use Rattle.cell_library.specs.Cells.{Cell};
+ghost use Rattle.netlist.specs.Netlist.{Statement};
+ghost use Rattle.calculation.specs.Stored.{Holds, Ready};
+ghost use Rattle.rerun.specs.Standing.{asCost, isBelow, Kept, ObservedAnew, GoneOn};
+
+// A number as a cost: none is above never.
+fn cost_of(x: u32) -> u32
+    ensures { λ r. ⌜ r ≡ asCost x ⌝ }
+{
+    if x < NEVER { x } else { NEVER }
+}
+
+// Keeps the number at a place, if it is one of the first `end` of its line.
+fn keep(standing: &[u32], numbers: &mut [u32; sizes::NUMBERS], end: usize, i: usize)
+    requires { ⌜ (i < Size.numbers) × (Size.numbers ≤ length (now standing))
+        × (length (now numbers) ≡ Size.numbers) ⌝ }
+    ensures { λ _. ⌜ now (numbers .exit) ≡ pick (isBelow end i)
+        (set (now (numbers .entry)) i (asCost (getD (now (standing .entry)) i 0)))
+        (now (numbers .entry)) ⌝ }
+{
+    if i % sizes::COSTS < end {
+        numbers[i] = cost_of(standing[i]);
+    }
+}
+
+// Keeps the first `end` of each line's numbers that stand.
+fn keep_numbers(standing: &[u32], numbers: &mut [u32; sizes::NUMBERS], end: usize)
+    requires { ⌜ (Size.numbers ≤ length (now standing)) × (length (now numbers) ≡ Size.numbers) ⌝ }
+    ensures { λ _. ⌜ Kept end (now (standing .entry)) (now (numbers .entry)) Size.numbers
+        (now (numbers .exit)) ⌝ }
+{
+    let mut i = 0;
+    while i < sizes::NUMBERS {
+        keep(standing, numbers, end, i);
+        i += 1;
+    }
+}
+
+// CO and SO run again from their start, over the CC and SC of numbers that stand.
+pub fn observe_anew(
+    library: &[u32],
+    netlist: &[u32],
+    standing: &[u32],
+    numbers: &mut [u32; sizes::NUMBERS],
+) -> Sweeps
+    requires { ⌜ Ready (now library) (now netlist) (now standing)
+        × (length (now numbers) ≡ Size.numbers) ⌝ }
+    ensures { λ r.
+        ⌜ ((cells : List Cell) (ss : List Statement) → Holds (now (library .entry))
+        (now (netlist .entry)) cells ss → ObservedAnew cells ss (now (standing .entry))
+        (now (numbers .exit)) r) ⌝ }
+{
+    let mut links = [0u16; sizes::LINKS];
+    link(library, netlist, &mut links);
+    start(netlist, numbers);
+    keep_numbers(standing, numbers, sizes::OBSERVED_AT);
+    observe_lines(library, netlist, &links, numbers)
+}
+
+// The four runs from numbers that stand.
+pub fn go_on(
+    library: &[u32],
+    netlist: &[u32],
+    standing: &[u32],
+    numbers: &mut [u32; sizes::NUMBERS],
+) -> Counts
+    requires { ⌜ Ready (now library) (now netlist) (now standing)
+        × (length (now numbers) ≡ Size.numbers) ⌝ }
+    ensures { λ r.
+        ⌜ ((cells : List Cell) (ss : List Statement) → Holds (now (library .entry))
+        (now (netlist .entry)) cells ss → GoneOn cells ss (now (standing .entry))
+        (now (numbers .exit)) r) ⌝ }
+{
+    let mut links = [0u16; sizes::LINKS];
+    link(library, netlist, &mut links);
+    keep_numbers(standing, numbers, sizes::COSTS);
+    let set = set_lines(library, netlist, &links, numbers);
+    let observed = observe_lines(library, netlist, &links, numbers);
+    Counts {
+        cc: set.combinational,
+        sc: set.sequential,
+        co: observed.combinational,
+        so: observed.sequential,
+    }
+}
