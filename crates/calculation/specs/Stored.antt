@@ -1,5 +1,5 @@
--- What the three tables hold: accepted cells and statements, and the numbers of their analysis. Whoever reads, calculates or tells
--- from tables says it by these records.
+-- What the three tables hold: accepted cells and statements, and the numbers of their analysis. Whoever reads, calculates or
+-- tells from tables says it by these records.
 -- Assumes nothing.
 use mathlib.Core.List.{List, _++_}
 use mathlib.Core.Path.{_≡_}

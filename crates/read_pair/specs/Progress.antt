@@ -37,8 +37,8 @@ pub record Begun (text : List ℕ) (net : ℕ) (before : List ℕ) (netlist numb
 
 -- ---- the netlist text
 
--- Nothing happens once a refusal stands; else the text is read against the cells that the library table holds. Behind the entry of
--- the call the reader's own entry refuses nothing.
+-- Nothing happens once a refusal stands; else the text is read against the cells that the library table holds. Behind the entry
+-- of the call the reader's own entry refuses nothing.
 pub record TextRead (rules : Rules) (text lib before : List ℕ) (begun : Progress) (after : List ℕ) (said : Progress) : Type 0 where
   pub stays : (begun ≡ Unrefused → ⊥) → (said ≡ begun) × (after ≡ before)
   pub reads : begun ≡ Unrefused → netlistEntry (length text) (length lib) (length before) ≡ read tt
