@@ -1,0 +1,212 @@
+//! The calls of the proved archive; include/scoap.h describes them. Every Goldstein number of this program comes
+//! from here.
+
+use crate::cost::Cost;
+
+mod c {
+    extern "C" {
+        pub fn scoap_report(
+            lib: *const u8,
+            lib_len: usize,
+            net: *const u8,
+            net_len: usize,
+            report: *mut u8,
+            report_len: usize,
+        ) -> u64;
+        pub fn scoap_plan(
+            lib: *const u8,
+            lib_len: usize,
+            net: *const u8,
+            net_len: usize,
+            line: u64,
+            value: u64,
+            kind: u64,
+            text: *mut u8,
+            text_len: usize,
+        ) -> u64;
+        pub fn scoap_cell(line: *const u8, line_len: usize, entry: *mut u8, entry_len: usize) -> u64;
+        pub fn scoap_qualifies(lib: *const u8, lib_len: usize, net: *const u8, net_len: usize) -> u64;
+    }
+}
+
+/// The longest text that is read, and the most lines, cells, pins and rows of a group (document 01).
+pub const MOST_BYTES: usize = 65_535;
+pub const MOST_LINES: usize = 1_000;
+pub const MOST_CELLS: usize = 32;
+pub const MOST_PINS: usize = 8;
+pub const MOST_ROWS: usize = 16;
+
+const REPORT_ROOM: usize = 65_536;
+/// Above this a plan's length could not be told from a refusal.
+const PLAN_ROOM: usize = 999_999;
+const ENTRY_ROOM: usize = 8_192;
+const REFUSED: u64 = 1_000_000;
+
+#[derive(Clone, Copy, Debug, PartialEq, Eq)]
+pub struct Refusal {
+    pub number: u32,
+    pub line: usize,
+}
+
+fn accepted(answer: u64) -> Result<usize, Refusal> {
+    if answer < REFUSED {
+        return Ok(answer as usize);
+    }
+    Err(Refusal { number: (answer / REFUSED) as u32, line: (answer % REFUSED) as usize })
+}
+
+/// The six numbers of a line, in the report's order.
+pub type Six = [Cost; 6];
+
+/// The numbers of a netlist by line, and the four counts of sweeps.
+#[derive(Clone, Debug, PartialEq, Eq)]
+pub struct Numbers {
+    by_line: Vec<Option<Six>>,
+    pub sweeps: [u32; 4],
+}
+
+impl Numbers {
+    /// The six numbers of a line that the netlist mentions.
+    pub fn of(&self, line: usize) -> &Six {
+        self.by_line[line].as_ref().expect("a line of the report")
+    }
+
+    pub fn lines(&self) -> impl Iterator<Item = usize> + '_ {
+        (1..self.by_line.len()).filter(|&line| self.by_line[line].is_some())
+    }
+}
+
+/// The report's text for a library and a netlist.
+pub fn report_text(lib: &[u8], net: &[u8]) -> Result<String, Refusal> {
+    let mut buffer = vec![0; REPORT_ROOM];
+    // Each slice is valid for its length, and no two overlap.
+    let answer =
+        unsafe { c::scoap_report(lib.as_ptr(), lib.len(), net.as_ptr(), net.len(), buffer.as_mut_ptr(), buffer.len()) };
+    buffer.truncate(accepted(answer)?);
+    Ok(String::from_utf8(buffer).expect("a report of ASCII"))
+}
+
+/// The numbers for a library and a netlist.
+pub fn report(lib: &[u8], net: &[u8]) -> Result<Numbers, Refusal> {
+    report_text(lib, net).map(|text| read_report(&text))
+}
+
+/// Reads a report. It ends with the line of sweeps: a second report after it is not read.
+fn read_report(text: &str) -> Numbers {
+    let mut by_line = vec![None; MOST_LINES + 1];
+    let mut sweeps = [0; 4];
+    for row in text.lines().skip(1) {
+        let mut fields = row.split(',');
+        let first = fields.next().unwrap_or("");
+        if first == "sweeps" {
+            for (count, field) in sweeps.iter_mut().zip(fields) {
+                *count = field.parse().expect("a count of sweeps");
+            }
+            break;
+        }
+        let line: usize = first.parse().expect("a line of the report");
+        let mut six = [Cost::Never; 6];
+        for (cost, field) in six.iter_mut().zip(fields) {
+            *cost = Cost::read(field).expect("a cost of the report");
+        }
+        by_line[line] = Some(six);
+    }
+    Numbers { by_line, sweeps }
+}
+
+/// The plan that sets a line to a value, in combinational (kind 0) or sequential terms (kind 1).
+pub fn plan(lib: &[u8], net: &[u8], line: usize, value: u8, kind: u8) -> Result<String, Refusal> {
+    let mut buffer = vec![0; PLAN_ROOM];
+    // Each slice is valid for its length, and no two overlap.
+    let answer = unsafe {
+        c::scoap_plan(
+            lib.as_ptr(),
+            lib.len(),
+            net.as_ptr(),
+            net.len(),
+            line as u64,
+            u64::from(value),
+            u64::from(kind),
+            buffer.as_mut_ptr(),
+            buffer.len(),
+        )
+    };
+    buffer.truncate(accepted(answer)?);
+    Ok(String::from_utf8(buffer).expect("a plan of ASCII"))
+}
+
+/// The library entry of a truth table of at most four pins.
+pub fn cell(name: &str, pins: usize, bits: &str) -> Result<String, Refusal> {
+    let line = format!("{name},{pins},{bits}\n");
+    let mut buffer = vec![0; ENTRY_ROOM];
+    // Each slice is valid for its length, and the two do not overlap.
+    let answer = unsafe { c::scoap_cell(line.as_ptr(), line.len(), buffer.as_mut_ptr(), buffer.len()) };
+    buffer.truncate(accepted(answer)?);
+    Ok(String::from_utf8(buffer).expect("an entry of ASCII"))
+}
+
+/// What never says of the chip (K8): 0 nothing, 1 that no setting gives a value that is never, 2 exactly so.
+pub fn qualifies(lib: &[u8], net: &[u8]) -> Result<usize, Refusal> {
+    // Each slice is valid for its length.
+    accepted(unsafe { c::scoap_qualifies(lib.as_ptr(), lib.len(), net.as_ptr(), net.len()) })
+}
+
+/// What a refusal's number means, in README's words.
+pub fn words(number: u32) -> &'static str {
+    match number {
+        2 => "the text has more than 65,535 bytes",
+        3 => {
+            "bad form of a library line: a wrong word, a missing or empty field, a bad number or name, an M or a Z \
+              out of place, no line end, or an entry broken off"
+        }
+        4 => "the cell's name was used before",
+        5 => "more than 8 pins",
+        6 => "a wrong count of groups, or a group of more than 16 rows",
+        7 => "a row has a bit above its columns",
+        8 => {
+            "a CC or SC row names no pin while the other group of its line has rows, or a CO or SO row does not \
+              observe the output"
+        }
+        9 => "a 33rd cell",
+        10 => "bad form of a netlist line",
+        11 => "a line number is not 1 to 1,000",
+        12 => "the library has no such cell",
+        13 => "the count of pins differs from the cell's",
+        14 => "the line is driven already, by an input or a gate, or declared open",
+        15 => "the line is marked output already",
+        20 => "a line is read by a pin or marked output, and neither driven nor declared open",
+        21 => "a range on a line that is not marked input above it",
+        22 => "bounds outside 1 to 999, LOW above HIGH, or a second range for the line",
+        _ => "the analyser refuses it",
+    }
+}
+
+#[cfg(test)]
+mod tests {
+    use super::*;
+
+    #[test]
+    fn a_report_is_read_up_to_its_sweeps() {
+        let text = "line,cc0,cc1,sc0,sc1,co,so\n7,1,over,0,never,3,0\nsweeps,2,3,4,5\nhigh\n7,9,9,9,9,9,9\n";
+        let numbers = read_report(text);
+        assert_eq!(numbers.lines().collect::<Vec<_>>(), [7]);
+        assert_eq!(
+            numbers.of(7),
+            &[Cost::Figure(1), Cost::Over, Cost::Figure(0), Cost::Never, Cost::Figure(3), Cost::Figure(0)]
+        );
+        assert_eq!(numbers.sweeps, [2, 3, 4, 5]);
+    }
+
+    #[test]
+    fn the_archive_answers() {
+        let lib = cell("C1130", 3, "10000000").unwrap();
+        assert!(lib.starts_with("Name,C1130,3\nCC,41,M,11,M,3,125\n"));
+        let net = b"input,1\ninput,2\ninput,3\ngate,C1130,4,1,2,3\noutput,4\n";
+        let numbers = report(lib.as_bytes(), net).unwrap();
+        assert_eq!(numbers.of(4)[1], Cost::Figure(4));
+        assert_eq!(plan(lib.as_bytes(), net, 4, 1, 0).unwrap().lines().next(), Some("0,4,1,125"));
+        assert_eq!(qualifies(lib.as_bytes(), net), Ok(2));
+        let refused = Refusal { number: 10, line: 1 };
+        assert_eq!(report(lib.as_bytes(), b"?\n").unwrap_err(), refused);
+    }
+}

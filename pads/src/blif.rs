@@ -1,0 +1,584 @@
+//! Flat BLIF: `.names`, `.latch`, `.subckt` and `.gate`.
+
+use crate::archive::MOST_PINS;
+use crate::cells::{self, Cell, Kind, Op};
+use crate::hub::{Design, Gate, Lines, Source, MOST_GATES};
+use crate::messages::Messages;
+use crate::rows::Table;
+use crate::types::{add_gates, Place, Types};
+use std::collections::HashMap;
+use std::rc::Rc;
+
+/// Largest file that is read.
+pub const MOST_BYTES: usize = 16 << 20;
+
+pub struct Wanted<'a> {
+    pub clock: Option<&'a str>,
+    pub allow_open: bool,
+}
+
+/// Lines joined by a backslash, without comments; each with the number of its first line.
+fn joined(text: &str) -> Vec<(usize, String)> {
+    let mut joined: Vec<(usize, String)> = Vec::new();
+    let mut goes_on = false;
+    for (at, line) in text.lines().enumerate() {
+        let line = line.split('#').next().unwrap_or("").trim_end();
+        let (line, more) = match line.strip_suffix('\\') {
+            Some(line) => (line, true),
+            None => (line, false),
+        };
+        if goes_on {
+            if let Some((_, last)) = joined.last_mut() {
+                last.push(' ');
+                last.push_str(line);
+            }
+        } else if !line.trim().is_empty() {
+            joined.push((at + 1, line.to_string()));
+        } else if more {
+            joined.push((at + 1, String::new()));
+        }
+        goes_on = more;
+    }
+    joined
+}
+
+pub fn read(file: &str, text: &str, wanted: &Wanted, types: &mut Types, messages: &mut Messages) -> Design {
+    let lines = Lines { file, lines: text.lines().collect() };
+    let mut reader = Reader {
+        lines: &lines,
+        messages,
+        design: Design { file: file.to_string(), ..Design::default() },
+        nets: HashMap::new(),
+        outputs: Vec::new(),
+        cover: None,
+        models: 0,
+        ended: false,
+        open_pins: 0,
+        clockless: Vec::new(),
+    };
+    for (number, line) in joined(text) {
+        reader.line(number, &line, types);
+        if reader.messages.full() || reader.design.gates.len() > MOST_GATES {
+            break;
+        }
+    }
+    reader.finish_cover();
+    if reader.design.gates.len() > MOST_GATES {
+        reader.messages.error(file, "more than 100,000 gates, the analyser takes 1,000 lines");
+    }
+    if reader.models == 0 && reader.messages.errors() == 0 {
+        reader.messages.error(file, "no .model: is it BLIF?");
+    }
+    reader.finish(wanted)
+}
+
+/// The rows of a `.names`, until the next statement.
+struct Cover {
+    line: usize,
+    nets: Vec<usize>,
+    rows: Vec<(String, bool)>,
+    wrong: bool,
+}
+
+struct Reader<'a, 'm> {
+    lines: &'a Lines<'a>,
+    messages: &'m mut Messages,
+    design: Design,
+    nets: HashMap<String, usize>,
+    outputs: Vec<(String, usize)>,
+    cover: Option<Cover>,
+    models: usize,
+    ended: bool,
+    open_pins: usize,
+    /// Registers whose clock is not said.
+    clockless: Vec<usize>,
+}
+
+const MOST_COVER: usize = 70_000;
+
+impl Reader<'_, '_> {
+    fn error(&mut self, line: usize, words: impl AsRef<str>) {
+        self.lines.error(self.messages, line, words);
+    }
+
+    fn net(&mut self, name: &str) -> usize {
+        if let Some(&net) = self.nets.get(name) {
+            return net;
+        }
+        let net = self.design.add_net();
+        if name.starts_with('$') {
+            self.design.nets[net].hidden = Some(name.to_string());
+        } else {
+            self.design.nets[net].names.push(name.to_string());
+        }
+        self.nets.insert(name.to_string(), net);
+        net
+    }
+
+    fn line(&mut self, number: usize, line: &str, types: &mut Types) {
+        let words: Vec<&str> = line.split_whitespace().collect();
+        let Some(&first) = words.first() else { return };
+        if !first.starts_with('.') {
+            if self.ended {
+                return;
+            }
+            return self.row(number, &words);
+        }
+        self.finish_cover();
+        let rest = &words[1..];
+        if self.ended && first != ".model" {
+            return;
+        }
+        match first {
+            ".model" => {
+                self.models += 1;
+                if self.models > 1 {
+                    self.error(number, "a second .model: flatten the netlist first (yosys: flatten)");
+                    self.ended = true;
+                } else {
+                    self.design.name = rest.first().unwrap_or(&"").to_string();
+                }
+            }
+            ".inputs" | ".clock" => {
+                for name in rest {
+                    let net = self.net(name);
+                    if first == ".inputs" || !self.design.inputs.contains(&net) {
+                        self.design.nets[net].port = Some(name.to_string());
+                        self.design.inputs.push(net);
+                    }
+                }
+            }
+            ".outputs" => {
+                for name in rest {
+                    let net = self.net(name);
+                    self.outputs.push((name.to_string(), net));
+                }
+            }
+            ".names" => {
+                if rest.is_empty() {
+                    return self.error(number, "a .names without a net");
+                }
+                let nets = rest.iter().map(|name| self.net(name)).collect();
+                self.cover = Some(Cover { line: number, nets, rows: Vec::new(), wrong: false });
+            }
+            ".latch" => self.latch(number, rest),
+            ".subckt" | ".gate" => self.cell(number, rest, types),
+            ".conn" => match rest {
+                [from, to] => {
+                    let (from, to) = (self.net(from), self.net(to));
+                    self.design.wires.push((to, Source::Net(from), number));
+                }
+                _ => self.error(number, "a .conn has two nets"),
+            },
+            ".end" => self.ended = true,
+            ".exdc" | ".mlatch" | ".search" | ".start_kiss" => {
+                self.error(number, format!("{first} is not read here"));
+            }
+            ".cname" => {
+                if let (Some(name), Some(gate)) = (rest.first(), self.design.gates.last_mut()) {
+                    gate.instance = name.to_string();
+                }
+            }
+            ".attr"
+            | ".param"
+            | ".area"
+            | ".delay"
+            | ".wire_load_slope"
+            | ".wire"
+            | ".input_arrival"
+            | ".output_required"
+            | ".default_input_arrival"
+            | ".default_output_required"
+            | ".input_drive"
+            | ".default_input_drive"
+            | ".output_load"
+            | ".default_output_load"
+            | ".latch_order"
+            | ".clock_event"
+            | ".blackbox" => {}
+            _ => self.error(number, format!("{first} is no statement of BLIF")),
+        }
+    }
+
+    fn row(&mut self, number: usize, words: &[&str]) {
+        let Some(cover) = &mut self.cover else {
+            return self.error(number, "a row without a .names above it");
+        };
+        let inputs = cover.nets.len() - 1;
+        let (columns, value) = match words {
+            [value] if inputs == 0 => ("", *value),
+            [columns, value] => (*columns, *value),
+            [all] if all.len() > inputs => all.split_at_checked(inputs).unwrap_or(("", all)),
+            _ => ("", ""),
+        };
+        let words = if columns.len() != inputs {
+            Some(format!("this row has {} columns, the gate has {inputs} inputs", columns.len()))
+        } else if !columns.bytes().all(|b| b"01-".contains(&b)) {
+            Some("a column is neither 0 nor 1 nor -".to_string())
+        } else if value != "0" && value != "1" {
+            Some("the output is neither 0 nor 1".to_string())
+        } else if cover.rows.first().is_some_and(|(_, other)| *other != (value == "1")) {
+            Some("rows of one gate give 0 and 1".to_string())
+        } else if cover.rows.len() >= MOST_COVER {
+            Some("a gate of more than 70,000 rows".to_string())
+        } else {
+            None
+        };
+        match words {
+            Some(words) => {
+                let first = !std::mem::replace(&mut cover.wrong, true);
+                if first {
+                    self.error(number, words);
+                }
+            }
+            None => cover.rows.push((columns.to_string(), value == "1")),
+        }
+    }
+
+    fn finish_cover(&mut self) {
+        let Some(cover) = self.cover.take() else { return };
+        if cover.wrong {
+            return;
+        }
+        let (&output, inputs) = cover.nets.split_last().expect("a net of a .names");
+        let n = inputs.len();
+        match kind_of(n, &cover.rows) {
+            Err(words) => self.error(cover.line, words),
+            Ok(Kind::Table(table)) if n == 0 => {
+                self.design.wires.push((output, Source::Constant(table.bits[0]), cover.line));
+            }
+            Ok(Kind::Table(table)) if n == 1 && table.digits() == "01" => {
+                self.design.wires.push((output, Source::Net(inputs[0]), cover.line));
+            }
+            Ok(kind) => {
+                let cell = Cell {
+                    title: String::new(),
+                    pins: (1..=n).map(|at| format!("I{at}")).collect(),
+                    output: "O".to_string(),
+                    kind,
+                };
+                let pins = inputs.iter().map(|&net| Source::Net(net)).collect();
+                self.gate(cover.line, cell, pins, output);
+            }
+        }
+    }
+
+    fn gate(&mut self, line: usize, cell: Cell, pins: Vec<Source>, output: usize) {
+        self.design.gates.push(Gate {
+            cell: Rc::new(cell),
+            instance: String::new(),
+            pins,
+            output,
+            source: String::new(),
+            line,
+        });
+    }
+
+    fn latch(&mut self, number: usize, words: &[&str]) {
+        let (data, output, how, init) = match *words {
+            [data, output] => (data, output, None, None),
+            [data, output, init] => (data, output, None, Some(init)),
+            [data, output, kind, control] => (data, output, Some((kind, control)), None),
+            [data, output, kind, control, init] => (data, output, Some((kind, control)), Some(init)),
+            _ => {
+                return self
+                    .error(number, "a .latch has an input, an output, perhaps a kind with its clock, and a value")
+            }
+        };
+        match init {
+            Some("0" | "1") => self.design.initial_values += 1,
+            None | Some("2" | "3") => {}
+            Some(other) => return self.error(number, format!("{other} is no initial value (0 to 3)")),
+        }
+        let (kind, control) = match how {
+            None => (cells::plain_register(true), None),
+            Some(("re", clock)) => (cells::plain_register(true), Some(clock)),
+            Some(("fe", clock)) => (cells::plain_register(false), Some(clock)),
+            Some(("ah", gate)) => (cells::plain_latch(true), Some(gate)),
+            Some(("al", gate)) => (cells::plain_latch(false), Some(gate)),
+            Some(("as", _)) => return self.error(number, "an asynchronous latch has no rows here"),
+            Some((other, _)) => return self.error(number, format!("{other} is no kind of latch (re, fe, ah, al)")),
+        };
+        let latch = matches!(&kind, Kind::Register(register) if register.latch);
+        let cell = Cell {
+            title: String::new(),
+            pins: vec!["D".to_string(), if latch { "E" } else { "C" }.to_string()],
+            output: "Q".to_string(),
+            kind,
+        };
+        let (data, output) = (self.net(data), self.net(output));
+        let control = match control.filter(|&name| name != "NIL") {
+            Some(name) => Source::Net(self.net(name)),
+            None => {
+                self.clockless.push(self.design.gates.len());
+                Source::Open
+            }
+        };
+        self.gate(number, cell, vec![Source::Net(data), control], output);
+    }
+
+    fn cell(&mut self, number: usize, words: &[&str], types: &mut Types) {
+        let Some((&title, pairs)) = words.split_first() else {
+            return self.error(number, "a cell without a type");
+        };
+        let kind = match types.find(title) {
+            Some(Ok(kind)) => kind,
+            Some(Err(words)) => return self.error(number, format!("the type {title}: {words}")),
+            None => return self.error(number, format!("this cell {}", types.unknown(title))),
+        };
+        let mut pins = HashMap::new();
+        let mut outputs = HashMap::new();
+        for pair in pairs {
+            let Some((pin, name)) = pair.split_once('=') else {
+                return self.error(number, format!("{pair} is no PIN=NET"));
+            };
+            if name.is_empty() {
+                continue;
+            }
+            let net = self.net(name);
+            if kind.inputs.iter().any(|other| other == pin) {
+                pins.insert(pin.to_string(), Source::Net(net));
+            } else if kind.outputs.iter().any(|cell| cell.output == pin) {
+                outputs.insert(pin.to_string(), net);
+            } else {
+                return self.error(number, format!("the type {title} has no pin {pin} with a function"));
+            }
+        }
+        let place = Place { instance: String::new(), source: String::new(), line: number };
+        self.open_pins += add_gates(&mut self.design, &kind, &place, &pins, &outputs);
+    }
+
+    fn finish(mut self, wanted: &Wanted) -> Design {
+        put_clock(&mut self.design, &self.clockless, wanted.clock, |name| self.nets.get(name).copied(), self.messages);
+        for (name, net) in std::mem::take(&mut self.outputs) {
+            let driven_by_three_state =
+                self.design.gates.iter().any(|gate| gate.output == net && matches!(gate.cell.kind, Kind::Driver(_)));
+            let place = self.design.inputs.iter().position(|&input| input == net);
+            match place {
+                Some(place) if driven_by_three_state => {
+                    self.design.inputs.remove(place);
+                    self.design.inouts.push(net);
+                }
+                _ => {
+                    self.design.nets[net].port.get_or_insert(name.clone());
+                    self.design.outputs.push((name, Source::Net(net)));
+                }
+            }
+        }
+        if self.open_pins > 0 {
+            self.messages
+                .warn(format!("{} pins are connected to nothing: open lines, which can never be set", self.open_pins));
+        }
+        if self.messages.errors() == 0 {
+            self.name_undriven();
+            self.design.settle(self.lines, wanted.allow_open, self.messages);
+        }
+        self.design
+    }
+
+    /// Yosys writes x as a net `$undef` that nothing drives, and constants as `$false` and `$true`.
+    fn name_undriven(&mut self) {
+        if let Some(&net) = self.nets.get("$undef") {
+            let driven = self.design.wires.iter().any(|&(wire, _, _)| wire == net)
+                || self.design.gates.iter().any(|gate| gate.output == net);
+            if !driven {
+                self.design.wires.push((net, Source::Open, 0));
+            }
+        }
+    }
+}
+
+/// Registers without a clock get the one named, or an input of the importer's.
+pub fn put_clock(
+    design: &mut Design,
+    clockless: &[usize],
+    wanted: Option<&str>,
+    find: impl Fn(&str) -> Option<usize>,
+    messages: &mut Messages,
+) {
+    if clockless.is_empty() {
+        if let Some(name) = wanted {
+            messages.warn(format!("--clock {name} is not used: every register has its clock"));
+        }
+        return;
+    }
+    let clock = match wanted {
+        Some(name) => match find(name).filter(|net| design.inputs.contains(net)) {
+            Some(net) => net,
+            None => {
+                messages.error(&design.file, format!("--clock {name}: there is no such input"));
+                return;
+            }
+        },
+        None => {
+            let net = design.add_net();
+            design.nets[net].port = Some("(clock)".to_string());
+            design.inputs.push(net);
+            let mut read = vec![false; design.nets.len()];
+            for source in design.gates.iter().flat_map(|gate| &gate.pins) {
+                if let Source::Net(net) = *source {
+                    read[net] = true;
+                }
+            }
+            let unread: Vec<&str> = design
+                .inputs
+                .iter()
+                .filter(|&&input| input != net && !read[input])
+                .map(|&input| design.nets[input].name())
+                .take(5)
+                .collect();
+            let mut words = format!("{} registers have no clock: they get the input (clock), rising", clockless.len());
+            if !unread.is_empty() {
+                words
+                    .push_str(&format!("; if it is one of the unread inputs, say --clock NAME: {}", unread.join(", ")));
+            }
+            messages.note(words);
+            net
+        }
+    };
+    for &gate in clockless {
+        design.gates[gate].pins[1] = Source::Net(clock);
+    }
+}
+
+/// The function of a cover.
+fn kind_of(n: usize, rows: &[(String, bool)]) -> Result<Kind, String> {
+    // No row at all is the constant 0.
+    let on = rows.first().is_none_or(|(_, value)| *value);
+    if n <= MOST_PINS {
+        let met = |s: u32| {
+            rows.iter().any(|(columns, _)| {
+                columns
+                    .bytes()
+                    .enumerate()
+                    .all(|(pin, column)| column == b'-' || (column == b'1') == (s >> pin & 1 == 1))
+            })
+        };
+        let table = Table::of(n, |s| met(s) == on);
+        return Ok(match exclusive(n, rows) {
+            Some(inverted) if n > 5 => cells::gate(Op::Xor, inverted, vec![false; n]),
+            _ => Kind::Table(table),
+        });
+    }
+    let whole = |columns: &str| columns.bytes().all(|b| b != b'-');
+    if let [(columns, value)] = rows {
+        if whole(columns) {
+            let flipped = columns.bytes().map(|b| b == b'0').collect();
+            return Ok(cells::gate(Op::And, !value, flipped));
+        }
+    }
+    // One literal a row, each pin once.
+    let literals: Vec<Option<(usize, bool)>> = rows
+        .iter()
+        .map(|(columns, _)| {
+            let mut named = columns.bytes().enumerate().filter(|&(_, b)| b != b'-');
+            match (named.next(), named.next()) {
+                (Some((pin, b)), None) => Some((pin, b == b'0')),
+                _ => None,
+            }
+        })
+        .collect();
+    if rows.len() == n && literals.iter().all(Option::is_some) {
+        let mut flipped = vec![None; n];
+        for (pin, flip) in literals.into_iter().flatten() {
+            flipped[pin] = Some(flip);
+        }
+        if let Some(flipped) = flipped.into_iter().collect::<Option<Vec<bool>>>() {
+            return Ok(cells::gate(Op::Or, !on, flipped));
+        }
+    }
+    if let Some(inverted) = exclusive(n, rows) {
+        return Ok(cells::gate(Op::Xor, inverted, vec![false; n]));
+    }
+    Err(format!("a gate of {n} inputs that is no AND, OR or XOR; the analyser takes {MOST_PINS}"))
+}
+
+/// Whether the rows are an exclusive or, and whether it is inverted.
+fn exclusive(n: usize, rows: &[(String, bool)]) -> Option<bool> {
+    if !(2..=16).contains(&n) || rows.len() != 1 << (n - 1) {
+        return None;
+    }
+    let parity = |columns: &str| columns.bytes().filter(|&b| b == b'1').count() % 2;
+    let (first, value) = rows.first()?;
+    let odd = parity(first);
+    let mut seen: Vec<&str> = rows.iter().map(|(columns, _)| columns.as_str()).collect();
+    seen.sort_unstable();
+    seen.dedup();
+    let all = seen.len() == rows.len() && seen.iter().all(|row| !row.contains('-') && parity(row) == odd);
+    all.then_some((odd == 1) != *value)
+}
+
+#[cfg(test)]
+mod tests {
+    use super::*;
+
+    fn design(text: &str) -> (Design, String) {
+        let mut messages = Messages::new();
+        let wanted = Wanted { clock: None, allow_open: false };
+        let design = read("c.blif", text, &wanted, &mut Types::default(), &mut messages);
+        (design, messages.text())
+    }
+
+    #[test]
+    fn a_chip() {
+        let (design, said) = design(
+            ".model chip # a comment\n.inputs a b \\\n c\n.outputs y q io\n.inputs io\n.names a b n\n11 1\n\
+             .names n y\n1 1\n.names $one\n1\n.latch n q re c 0\n.subckt $_TBUF_ A=n E=$one Y=io\n.names a b m\n00 0\n\
+             .subckt $_DFF_PN0_ C=c D=m Q=r R=a\n.end\n",
+        );
+        assert_eq!(said, "");
+        let names: Vec<&str> = design.inputs.iter().map(|&net| design.nets[net].name()).collect();
+        assert_eq!(names, ["a", "b", "c", "io"]);
+        let outputs: Vec<&str> = design.outputs.iter().map(|(name, _)| name.as_str()).collect();
+        assert_eq!(outputs, ["y", "q", "io (drive)"]);
+        // The wire y is another name of n.
+        assert_eq!(design.outputs[0].1, Source::Net(design.gates[0].output));
+        assert_eq!(design.nets[design.gates[0].output].name(), "y");
+        assert_eq!(design.gates.len(), 5);
+        assert_eq!(design.gates[2].pins[1], Source::Constant(true));
+        let Kind::Table(table) = &design.gates[3].cell.kind else { panic!() };
+        assert_eq!(table.digits(), "0111");
+        assert_eq!(design.initial_values, 1);
+    }
+
+    #[test]
+    fn wide_covers() {
+        let ones = "1".repeat(9);
+        let and = kind_of(9, &[(ones.clone(), true)]).unwrap();
+        assert!(matches!(and, Kind::Wide(ref wide) if wide.op == Op::And && !wide.inverted));
+        let rows: Vec<(String, bool)> =
+            (0..9).map(|at| ((0..9).map(|pin| if pin == at { '0' } else { '-' }).collect(), true)).collect();
+        let nand = kind_of(9, &rows).unwrap();
+        assert!(matches!(nand, Kind::Wide(ref wide) if wide.op == Op::Or && wide.flipped.iter().all(|&f| f)));
+        let odd: Vec<(String, bool)> =
+            (0..64u32).filter(|s| s.count_ones() % 2 == 1).map(|s| (format!("{s:06b}"), true)).collect();
+        assert!(matches!(kind_of(6, &odd).unwrap(), Kind::Wide(ref wide) if wide.op == Op::Xor && !wide.inverted));
+        assert!(kind_of(9, &[("1-1111111".to_string(), true), (ones, true)]).is_err());
+    }
+
+    #[test]
+    fn errors_with_their_lines() {
+        let (_, said) = design(
+            ".model c\n.inputs a b\n.outputs y\n.names a b y\n111 1\n.names a y\n1 x\n.latch a\n.foo\n11 1\n.subckt FOO A=b\n\
+             .names a z\n1 1\n0 0\n.exdc\n",
+        );
+        for (line, words) in [
+            (5, "this row has 3 columns, the gate has 2 inputs"),
+            (7, "neither 0 nor 1"),
+            (8, "a .latch has"),
+            (9, ".foo is no statement"),
+            (10, "a row without a .names"),
+            (11, "no library is given"),
+            (14, "rows of one gate"),
+            (15, ".exdc is not read"),
+        ] {
+            let line = format!("c.blif:{line}: error: ");
+            let told = said.lines().find(|told| told.starts_with(&line)).unwrap_or("");
+            assert!(told.contains(words), "{line}{words}: {said}");
+        }
+        let (_, said) = design(".model c\n.inputs a\n.outputs y\n.names a y\n1 1\n.names a y\n0 1\n.end\n");
+        assert!(said.contains("c.blif:4: error: y is driven already, by line 6"), "{said}");
+        let (_, said) = design(".model c\n.outputs y\n.names y x\n1 1\n.names x y\n1 1\n.end\n");
+        assert!(said.contains("loop"), "{said}");
+    }
+}

@@ -1,0 +1,499 @@
+//! The commands: each answers what it prints and its exit status.
+
+use crate::archive::{words, MOST_BYTES, MOST_CELLS, MOST_LINES, MOST_PINS, MOST_ROWS};
+use crate::args::{Args, Takes};
+use crate::cost::{grouped, Cost};
+use crate::load::{self, Loaded};
+use crate::messages::{printable, Messages};
+use crate::model::{Model, Number};
+use crate::names::{self, cut, LineKind};
+use crate::pads::{self, Effect, Measure, Privacy};
+use crate::ranking::{self, Key};
+use crate::text::{self, Stop};
+use crate::{csv, help, never, why};
+use std::collections::HashMap;
+use std::fmt::Write;
+use std::path::Path;
+
+/// What a command prints, and its exit status.
+pub struct Done {
+    pub text: String,
+    pub status: u8,
+}
+
+impl Done {
+    fn well(text: String) -> Result<Done, Stop> {
+        Ok(Done { text, status: 0 })
+    }
+}
+
+/// Runs the command line; messages are told by the caller.
+pub fn run(given: &[String], messages: &mut Messages) -> Result<Done, Stop> {
+    let Some((command, rest)) = given.split_first() else {
+        return Err(Stop::Usage(format!("a command is missing\n{}", help::GENERAL)));
+    };
+    match command.as_str() {
+        "--help" | "-h" | "help" => {
+            return Done::well(rest.first().and_then(|of| help::of(of)).unwrap_or(help::GENERAL).to_string());
+        }
+        "--recipes" => return Done::well(help::RECIPES.to_string()),
+        "--version" => return Done::well(concat!("scoap_pads ", env!("CARGO_PKG_VERSION"), "\n").to_string()),
+        _ => {}
+    }
+    let Some(help) = help::of(command) else {
+        return Err(Stop::Usage(format!("there is no command {command}; 'scoap_pads --help' lists them")));
+    };
+    if rest.iter().any(|word| word == "--help" || word == "-h") {
+        return Done::well(help.to_string());
+    }
+    let many = usize::MAX;
+    let parse = |values, flags, words| Args::parse(rest, &Takes { values, flags, words });
+    match command.as_str() {
+        "import" => import(&parse(&["-o"], &[], (0, 0))?, messages),
+        "check" => check(&parse(&[], &[], (0, 0))?, messages),
+        "report" => {
+            let values = &["--by", "--worst", "--min", "--csv", "--fail-above"];
+            report(&parse(values, &["--registers"], (0, 0))?, messages)
+        }
+        "why" => reason(&parse(&["--of", "--steps"], &[], (1, 1))?, messages),
+        "pad" => pad(&parse(&["--protect"], &[], (1, many))?, messages),
+        _ => advise(&parse(&["--pads", "--forbid", "--protect", "--csv"], &[], (0, 0))?, messages),
+    }
+}
+
+fn import(args: &Args, messages: &mut Messages) -> Result<Done, Stop> {
+    let folder = args.value("-o").ok_or_else(|| Stop::Usage("-o DIR is missing".to_string()))?;
+    let Loaded { model, texts } = load::load(&args.source, messages)?;
+    let folder = Path::new(folder);
+    std::fs::create_dir_all(folder).map_err(|e| Stop::Usage(format!("{}: can't be made: {e}", folder.display())))?;
+    let (lib, net, names) = match &texts {
+        Some(texts) => (texts.lib.as_bytes(), texts.net.as_bytes(), &texts.names),
+        None => (&model.lib[..], &model.net[..], &model.names),
+    };
+    text::write(&folder.join("lib.txt"), lib)?;
+    text::write(&folder.join("net.txt"), net)?;
+    text::write(&folder.join("names.csv"), names::write(names).as_bytes())?;
+    Done::well(format!(
+        "{}\nwritten: lib.txt, net.txt and names.csv in {}\n",
+        load::summary(&args.source.path, &model),
+        folder.display()
+    ))
+}
+
+fn check(args: &Args, messages: &mut Messages) -> Result<Done, Stop> {
+    let Loaded { model, texts } = load::load(&args.source, messages)?;
+    let mut text = load::summary(&args.source.path, &model) + "\n";
+    let most_pins = model.cells.iter().map(|cell| cell.pins).max().unwrap_or(0);
+    let groups = model.cells.iter().flat_map(|cell| cell.control.iter().chain(&cell.observe).flatten());
+    let most_rows = groups.map(Vec::len).max().unwrap_or(0);
+    text += "limits used:\n";
+    for (used, most, what) in [
+        (model.names.len(), MOST_LINES, "lines"),
+        (model.cells.len(), MOST_CELLS, "cells"),
+        (most_pins, MOST_PINS, "pins of a cell"),
+        (most_rows, MOST_ROWS, "rows of a group"),
+        (model.lib.len(), MOST_BYTES, "bytes of lib.txt"),
+        (model.net.len(), MOST_BYTES, "bytes of net.txt"),
+    ] {
+        let _ = writeln!(text, "  {:>6} of {:>6} {what}", grouped(used as u64), grouped(most as u64));
+    }
+    text += "cells:\n";
+    for (at, cell) in model.cells.iter().enumerate() {
+        let gates = model.gates.iter().filter(|gate| gate.cell == at).count();
+        let types = texts.as_ref().map_or(String::new(), |texts| texts.cells[at].types.join(", "));
+        let line =
+            format!("  {:<8} {}, {}  {types}", cell.name, load::many(cell.pins, "pin"), load::many(gates, "gate"));
+        let _ = writeln!(text, "{}", line.trim_end());
+    }
+    Done::well(printable(&text))
+}
+
+/// The effect of a pad on each ranked line that is no output.
+fn gains(model: &Model) -> Result<HashMap<usize, Effect>, Stop> {
+    let lines: Vec<usize> = pads::candidates(model, &[]).into_iter().filter(|&line| model.is_ranked(line)).collect();
+    let effects = pads::effects(model, &[], &lines).map_err(Stop::Usage)?;
+    Ok(effects.into_iter().map(|effect| (effect.line, effect)).collect())
+}
+
+fn gain_told(effect: Option<&Effect>) -> String {
+    match effect {
+        None => "-".to_string(),
+        Some(effect) if effect.freed > 0 => format!("{} +{}", grouped(effect.gain), effect.freed),
+        Some(effect) => grouped(effect.gain),
+    }
+}
+
+fn kind_told(kind: LineKind) -> &'static str {
+    match kind {
+        LineKind::Register => "reg",
+        other => other.word(),
+    }
+}
+
+/// Columns of a table, the first `left` of them and the last one aligned left.
+fn table(rows: &[Vec<String>], left: &[usize]) -> String {
+    let columns = rows.first().map_or(0, Vec::len);
+    let width = |column: usize| rows.iter().map(|row| row[column].chars().count()).max().unwrap_or(0);
+    let widths: Vec<usize> = (0..columns).map(width).collect();
+    let mut text = String::new();
+    for row in rows {
+        let cells: Vec<String> = row
+            .iter()
+            .enumerate()
+            .map(|(at, cell)| {
+                let width = widths[at];
+                if left.contains(&at) {
+                    format!("{cell:<width$}")
+                } else {
+                    format!("{cell:>width$}")
+                }
+            })
+            .collect();
+        text += cells.join("  ").trim_end();
+        text.push('\n');
+    }
+    text
+}
+
+const NAME_WIDTH: usize = 44;
+
+fn report(args: &Args, messages: &mut Messages) -> Result<Done, Stop> {
+    let key = match args.value("--by") {
+        None => Key::Fault,
+        Some(word) => Key::read(word)
+            .ok_or_else(|| Stop::Usage(format!("--by {word}: fault, cc0, cc1, sc0, sc1, co, so or gain")))?,
+    };
+    let worst = args.number("--worst", 20)?;
+    let least = args.number("--min", 0)?;
+    let bound = args.value("--fail-above").map(|_| args.number("--fail-above", 0)).transpose()?;
+    let Loaded { model, .. } = load::load(&args.source, messages)?;
+    messages.print();
+    let effects = gains(&model)?;
+    let ranked = ranking::ranked(&model, key, &effects);
+    if let Some(file) = args.value("--csv") {
+        text::write(Path::new(file), csv_of(&model, &ranked, &effects).as_bytes())?;
+    }
+    let mut text = load::summary(&args.source.path, &model) + "\n";
+    text += &never::text(&model);
+    let wanted = |line: &usize| {
+        let hard = ranking::hardest(model.numbers.of(*line));
+        let enough = hard.figure().is_none_or(|figure| figure as usize >= least);
+        enough && (!args.has("--registers") || model.name(*line).kind == LineKind::Register)
+    };
+    let lines: Vec<usize> = ranked.iter().copied().filter(wanted).collect();
+    let head = ["hardest", "net", "kind", "CC0", "CC1", "SC0", "SC1", "CO", "SO", "pad gain", "feeds"];
+    let mut rows = vec![head.map(str::to_string).to_vec()];
+    for &line in lines.iter().take(worst) {
+        rows.push(row_of(&model, line, effects.get(&line)));
+    }
+    text += &table(&rows, &[1, 2, 10]);
+    if lines.len() > worst {
+        let _ =
+            writeln!(text, "… {} more; --worst N shows more, --csv FILE all", grouped((lines.len() - worst) as u64));
+    }
+    text += &best_told(&model, &effects);
+    let broken = bound.map(|bound| above(&model, bound));
+    let mut status = 0;
+    if let (Some(lines), Some(bound)) = (broken, bound) {
+        if lines.is_empty() {
+            let _ = writeln!(text, "no net is above {}", grouped(bound as u64));
+        } else {
+            status = 3;
+            let told: Vec<String> = lines.iter().take(3).map(|&line| cut(model.net_name(line), NAME_WIDTH)).collect();
+            let _ = writeln!(
+                text,
+                "{} above {}: {}{}",
+                load::many(lines.len(), "net"),
+                grouped(bound as u64),
+                told.join(", "),
+                if lines.len() > 3 { ", …" } else { "" }
+            );
+        }
+    }
+    Ok(Done { text: printable(&text), status })
+}
+
+fn row_of(model: &Model, line: usize, effect: Option<&Effect>) -> Vec<String> {
+    let six = model.numbers.of(line);
+    let name = model.name(line);
+    let mut row = vec![ranking::hardest(six).to_string(), cut(&name.net, NAME_WIDTH), kind_told(name.kind).to_string()];
+    row.extend(six.iter().map(Cost::to_string));
+    row.push(gain_told(effect));
+    row.push(match name.kind {
+        LineKind::Gate if !model.is_output[line] => {
+            model.feeds(line).map_or(String::new(), |fed| cut(model.net_name(fed), 28))
+        }
+        _ => String::new(),
+    });
+    row
+}
+
+/// Ranked lines with CO or hardest fault above a bound, over or never.
+fn above(model: &Model, bound: usize) -> Vec<usize> {
+    let over = |cost: Cost| cost.figure().is_none_or(|figure| figure as usize > bound);
+    model
+        .lines()
+        .filter(|&line| model.is_ranked(line))
+        .filter(|&line| {
+            let six = model.numbers.of(line);
+            over(six[4]) || over(ranking::hardest(six))
+        })
+        .collect()
+}
+
+fn best_told(model: &Model, effects: &HashMap<usize, Effect>) -> String {
+    let before = pads::measure(model, &model.numbers);
+    let all: Vec<Effect> = effects.values().cloned().collect();
+    match pads::best(model, before, &all, &Privacy::default()) {
+        None => "best pad: none makes a net easier to see\n".to_string(),
+        Some(best) => format!("best pad: {}  {}\n", model.net_name(best.line), change_told(before, best.after)),
+    }
+}
+
+/// `largest CO 7,631 -> 3,374, sum 270,960 -> 117,508`.
+fn change_told(before: Measure, after: Measure) -> String {
+    let mut told = Vec::new();
+    for (word, was, is) in [("never seen", before.never, after.never), ("over", before.over, after.over)] {
+        if was != is {
+            told.push(format!("{word} {was} -> {is}"));
+        }
+    }
+    let pair = |was: u64, is: u64| format!("{} -> {}", grouped(was), grouped(is));
+    told.push(format!("largest CO {}", pair(u64::from(before.largest), u64::from(after.largest))));
+    told.push(format!("sum {}", pair(before.sum, after.sum)));
+    told.join(", ")
+}
+
+fn csv_of(model: &Model, ranked: &[usize], effects: &HashMap<usize, Effect>) -> String {
+    let head = ["net", "line", "kind", "cc0", "cc1", "sc0", "sc1", "co", "so", "hardest", "gain", "aliases"];
+    let mut text = csv::record(&head);
+    let rest = model.lines().filter(|&line| !model.is_ranked(line));
+    for line in ranked.iter().copied().chain(rest) {
+        let six = model.numbers.of(line);
+        let name = model.name(line);
+        let mut fields = vec![name.net.clone(), line.to_string(), name.kind.word().to_string()];
+        fields.extend(six.iter().map(|cost| cost.plain()));
+        // Lines that are not ranked have neither.
+        let ranked = model.is_ranked(line);
+        fields.push(if ranked { ranking::hardest(six).plain() } else { String::new() });
+        fields.push(effects.get(&line).map_or(String::new(), |effect| effect.gain.to_string()));
+        fields.push(name.aliases.join(" "));
+        let fields: Vec<&str> = fields.iter().map(String::as_str).collect();
+        text += &csv::record(&fields);
+    }
+    text
+}
+
+/// One net of the command line.
+fn one_net(model: &Model, wanted: &str) -> Result<usize, Stop> {
+    match names::find(&model.names, wanted).map_err(Stop::Usage)?.as_slice() {
+        [line] => Ok(*line),
+        lines => Err(Stop::Usage(format!("{wanted} means {} nets; one is wanted here", lines.len()))),
+    }
+}
+
+fn reason(args: &Args, messages: &mut Messages) -> Result<Done, Stop> {
+    let number = match args.value("--of") {
+        None => None,
+        Some(word) => {
+            let number = Number::read(&word.to_ascii_lowercase());
+            Some(number.ok_or_else(|| Stop::Usage(format!("--of {word}: cc0, cc1, sc0, sc1, co or so")))?)
+        }
+    };
+    let steps = args.number("--steps", 4)?.clamp(1, 10_000);
+    let Loaded { model, .. } = load::load(&args.source, messages)?;
+    let line = one_net(&model, &args.words[0])?;
+    let six = model.numbers.of(line);
+    let number = number.unwrap_or_else(|| ranking::dearer(six));
+    let mut text = format!(
+        "{} (line {line}, {}): CC0 {}, CC1 {}, SC0 {}, SC1 {}, CO {}, SO {}; {}:\n",
+        model.net_name(line),
+        model.name(line).kind.word(),
+        six[0],
+        six[1],
+        six[2],
+        six[3],
+        six[4],
+        six[5],
+        number.word().to_ascii_uppercase()
+    );
+    text += &why::text(&model, line, number, steps).map_err(Stop::Usage)?;
+    Done::well(printable(&text))
+}
+
+/// The lines that a file of patterns means.
+fn nets_of(model: &Model, file: Option<&str>, messages: &mut Messages) -> Result<Vec<usize>, Stop> {
+    let Some(file) = file else { return Ok(Vec::new()) };
+    let text = text::read(file, 1 << 20, messages)?;
+    let mut lines = Vec::new();
+    for (at, text) in text.lines().enumerate() {
+        let wanted = text.split('#').next().unwrap_or("").trim();
+        if wanted.is_empty() {
+            continue;
+        }
+        match names::find(&model.names, wanted) {
+            Ok(found) => lines.extend(found),
+            Err(words) => messages.error_at(file, at + 1, text, words),
+        }
+        if messages.full() {
+            break;
+        }
+    }
+    lines.sort_unstable();
+    lines.dedup();
+    Ok(lines)
+}
+
+fn pad(args: &Args, messages: &mut Messages) -> Result<Done, Stop> {
+    let Loaded { model, .. } = load::load(&args.source, messages)?;
+    let mut lines: Vec<usize> = Vec::new();
+    for wanted in &args.words {
+        lines.extend(names::find(&model.names, wanted).map_err(Stop::Usage)?);
+    }
+    lines.sort_unstable();
+    lines.dedup();
+    let protected = nets_of(&model, args.value("--protect"), messages)?;
+    if messages.errors() > 0 {
+        return Err(Stop::Refused);
+    }
+    let (outputs, lines): (Vec<usize>, Vec<usize>) = lines.into_iter().partition(|&line| model.is_output[line]);
+    for line in outputs {
+        messages.note(format!("{} is an output already", model.net_name(line)));
+    }
+    let after = model
+        .with_pads(&lines)
+        .map_err(|refusal| Stop::Usage(format!("{} (refusal {})", words(refusal.number), refusal.number)))?;
+    let measures = [pads::measure(&model, &model.numbers), pads::measure(&model, &after)];
+    let told: Vec<&str> = lines.iter().map(|&line| model.net_name(line)).collect();
+    let mut text = format!(
+        "pads on {}: {}\n",
+        if told.is_empty() { "nothing".to_string() } else { told.join(", ") },
+        change_told(measures[0], measures[1])
+    );
+    let mut changed: Vec<usize> = model
+        .lines()
+        .filter(|&line| {
+            let (was, is) = (model.numbers.of(line), after.of(line));
+            is[4] < was[4] || is[5] < was[5]
+        })
+        .collect();
+    let fall = |line: usize| match (model.numbers.of(line)[4], after.of(line)[4]) {
+        (Cost::Figure(was), Cost::Figure(is)) => (0, was.saturating_sub(is)),
+        (was, is) => (usize::from(is < was), 0),
+    };
+    changed.sort_by_key(|&line| (std::cmp::Reverse(fall(line)), line));
+    let _ = writeln!(text, "{} easier to see; CC and SC stay as they are", load::many(changed.len(), "net"));
+    let mut rows = vec![["net", "kind", "CO", "", "SO", "", ""].map(str::to_string).to_vec()];
+    for &line in &changed {
+        let (was, is) = (model.numbers.of(line), after.of(line));
+        rows.push(vec![
+            cut(model.net_name(line), NAME_WIDTH),
+            kind_told(model.name(line).kind).to_string(),
+            was[4].to_string(),
+            format!("-> {}", is[4]),
+            was[5].to_string(),
+            format!("-> {}", is[5]),
+            if protected.contains(&line) { "protected" } else { "" }.to_string(),
+        ]);
+    }
+    if !changed.is_empty() {
+        text += &table(&rows, &[0, 1, 3, 5, 6]);
+    }
+    let shown = changed.iter().filter(|line| protected.contains(line)).count();
+    if shown > 0 {
+        let _ = writeln!(text, "{} easier to see", load::many(shown, "protected net"));
+    }
+    Done::well(printable(&text))
+}
+
+fn advise(args: &Args, messages: &mut Messages) -> Result<Done, Stop> {
+    let count = args.number("--pads", 1)?.clamp(1, MOST_LINES);
+    let Loaded { model, .. } = load::load(&args.source, messages)?;
+    let privacy = Privacy {
+        forbidden: nets_of(&model, args.value("--forbid"), messages)?,
+        protected: nets_of(&model, args.value("--protect"), messages)?,
+    };
+    if messages.errors() > 0 {
+        return Err(Stop::Refused);
+    }
+    messages.print();
+    let (advice, effects) = pads::advise(&model, count, &privacy).map_err(Stop::Usage)?;
+    if let Some(file) = args.value("--csv") {
+        text::write(Path::new(file), candidates_csv(&model, &effects, &privacy).as_bytes())?;
+    }
+    let mut text = load::summary(&args.source.path, &model) + "\n";
+    let mut before = pads::measure(&model, &model.numbers);
+    for (at, pad) in advice.iter().enumerate() {
+        let effect = &pad.effect;
+        let _ =
+            writeln!(text, "pad {}: {}  {}", at + 1, model.net_name(effect.line), change_told(before, effect.after));
+        let _ = writeln!(
+            text,
+            "       {} easier to see; chosen among {} of {} lines",
+            load::many(effect.easier.len(), "net"),
+            pad.allowed,
+            pad.candidates
+        );
+        before = effect.after;
+    }
+    if advice.len() < count {
+        let privacy = !privacy.forbidden.is_empty() || !privacy.protected.is_empty();
+        text += if privacy { "no pad that is allowed helps further\n" } else { "no pad helps further\n" };
+    }
+    text += &trouble_told(&model);
+    if let Some(plain) = pads::plainly(&effects, &privacy) {
+        if advice.first().is_some_and(|pad| pad.effect.line != plain.line) {
+            let _ = writeln!(
+                text,
+                "by the largest CO of all lines alone, constants and unread ones among them, it would be {} ({})",
+                model.net_name(plain.line),
+                plain.plain_largest
+            );
+        }
+    }
+    Done::well(printable(&text))
+}
+
+/// A pad does not help where setting is the trouble.
+fn trouble_told(model: &Model) -> String {
+    let ranked = ranking::ranked(model, Key::Fault, &HashMap::new());
+    let Some(&line) = ranked.first() else { return String::new() };
+    let six = model.numbers.of(line);
+    let number = ranking::dearer(six);
+    if number == Number::Co {
+        return String::new();
+    }
+    format!(
+        "a pad changes CO and SO alone: the hardest net, {}, is hard to set ({} {}), and no pad helps there; a way to load \
+         it does\n",
+        model.net_name(line),
+        number.word().to_ascii_uppercase(),
+        number.of(six)
+    )
+}
+
+fn candidates_csv(model: &Model, effects: &[Effect], privacy: &Privacy) -> String {
+    let mut text = csv::record(&["net", "instance", "gain", "largest_co", "easier", "protected", "allowed"]);
+    let mut effects: Vec<&Effect> = effects.iter().filter(|effect| model.is_ranked(effect.line)).collect();
+    effects.sort_by_key(|effect| (effect.after, effect.line));
+    for effect in effects {
+        let names = |lines: &[usize]| -> String {
+            lines.iter().map(|&line| model.net_name(line)).collect::<Vec<_>>().join(" ")
+        };
+        let largest = match effect.after {
+            Measure { never: 1.., .. } => Cost::Never,
+            Measure { over: 1.., .. } => Cost::Over,
+            Measure { largest, .. } => Cost::Figure(largest),
+        };
+        text += &csv::record(&[
+            model.net_name(effect.line),
+            &model.name(effect.line).instance,
+            &effect.gain.to_string(),
+            &largest.plain(),
+            &names(&effect.easier),
+            &names(&privacy.touched(effect)),
+            if privacy.allows(effect) { "1" } else { "0" },
+        ]);
+    }
+    text
+}

@@ -1,0 +1,104 @@
+//! What `--help` and `--recipes` print.
+
+pub const GENERAL: &str = "\
+scoap_pads: from a chip's netlist to its pads
+
+    scoap_pads import SOURCE -o DIR     write lib.txt, net.txt and names.csv
+    scoap_pads check  SOURCE            counts, limits used, cells, warnings; no numbers
+    scoap_pads report SOURCE            the hardest nets
+    scoap_pads why    SOURCE NET        the reason for a number, step by step
+    scoap_pads pad    SOURCE NET..      numbers before and after these pads together
+    scoap_pads advise SOURCE            which nets should get pads
+    scoap_pads --recipes                command lines of Yosys that make a netlist
+
+'scoap_pads COMMAND --help' says more of each.
+
+SOURCE is a netlist (.json of Yosys, .blif, .bench, .v through Yosys) or a folder with lib.txt, net.txt and, if
+there, names.csv. Options of a netlist:
+    -l FILE         a Liberty library; may stand several times
+    --top NAME      the block to take
+    --clock NAME    the input that clocks registers whose format has no clock
+    --open          nets without a driver become open lines
+    --format WORD   json, blif, bench or v, whatever the file's ending
+NET is a name, an alias, line:N, or a pattern with * where several nets are meant.
+
+Every number comes from the proved analyser; sums, orders and counts are this program's own.
+Exit status: 0 done; 1 the input is refused; 2 usage, or a file can't be read or written; 3 --fail-above is broken.
+";
+
+pub const IMPORT: &str = "\
+scoap_pads import SOURCE -o DIR
+
+Writes the analyser's texts of a netlist into the folder DIR: lib.txt, net.txt and names.csv, which has one record
+for each line: line,net,kind,cell,instance,output,pins,aliases,source. The folder is a SOURCE of every command.
+";
+
+pub const CHECK: &str = "\
+scoap_pads check SOURCE
+
+Counts lines by kind, says which limits of the analyser are used how far, lists the cells with the types that share
+them, and tells warnings. No numbers.
+";
+
+pub const REPORT: &str = "\
+scoap_pads report SOURCE [--by KEY] [--worst N] [--min N] [--registers] [--csv FILE] [--fail-above N]
+
+The nets in order: never, over, then the hardest fault, the larger of CC1 + CO and CC0 + CO.
+    --by KEY          fault (as above), cc0, cc1, sc0, sc1, co, so, or gain
+    --worst N         so many nets (20 if not said)
+    --min N           only nets whose hardest fault is at least N
+    --registers       only registers
+    --csv FILE        every line of the netlist: net,line,kind,cc0,cc1,sc0,sc1,co,so,hardest,gain,aliases
+    --fail-above N    exit status 3 where a net that is read has CO or hardest fault above N, over or never
+Gain is how much the CO figures of all nets fall together if this net gets a pad; +2 says that two nets besides are
+freed of never or over. Constants, parts of split gates and nets that nothing reads are not ranked.
+";
+
+pub const WHY: &str = "\
+scoap_pads why SOURCE NET [--of NUMBER] [--steps N]
+
+The reason for a number: the gate, the pins' values, and the terms that add up to it; then the same of the dearest
+term, N steps in all (4 if not said).
+    --of NUMBER       cc0, cc1, sc0, sc1, co or so; else the dearer part of the net's hardest fault
+";
+
+pub const PAD: &str = "\
+scoap_pads pad SOURCE NET.. [--protect FILE]
+
+Numbers before and after, if these nets get pads together: which nets become easier to see, and by how much. With
+--protect it says which of them are protected. A pad is an output: it changes CO and SO alone.
+";
+
+pub const ADVISE: &str = "\
+scoap_pads advise SOURCE [--pads N] [--forbid FILE] [--protect FILE] [--csv FILE]
+
+Pads one after another (N, 1 if not said), each the one that leaves the fewest nets never seen, then over, then the
+smallest largest CO, then the smallest sum of CO; the lowest line among equals.
+    --forbid FILE     these nets get no pad
+    --protect FILE    no pad may make one of these nets easier to see (CO or SO)
+    --csv FILE        every candidate for the first pad: net, instance, gain, largest CO after, nets that become
+                      easier to see, protected ones among them
+A FILE of nets has one net or pattern a line; # starts a comment.
+";
+
+pub const RECIPES: &str = "\
+# RTL, generic gates
+yosys -p \"read_verilog CHIP.v; hierarchy -check -top CHIP; proc; tribuf; synth -flatten -top CHIP; opt_clean -purge; autoname; write_json CHIP.json\"
+# RTL, a cell library; use the Verilog written here for layout, so that names agree
+yosys -p \"read_liberty -lib L; read_verilog CHIP.v; hierarchy -check -top CHIP; proc; tribuf; synth -flatten -top CHIP; dfflibmap -liberty L; abc -liberty L; opt_clean -purge; autoname; write_json CHIP.json; write_verilog -noattr -noexpr CHIP.gates.v\"
+# a gate-level netlist that you have
+yosys -p \"read_liberty -lib L; read_verilog -icells CHIP.v; hierarchy -check -top CHIP; flatten; write_json CHIP.json\"
+";
+
+/// The help of a command.
+pub fn of(command: &str) -> Option<&'static str> {
+    Some(match command {
+        "import" => IMPORT,
+        "check" => CHECK,
+        "report" => REPORT,
+        "why" => WHY,
+        "pad" => PAD,
+        "advise" => ADVISE,
+        _ => return None,
+    })
+}

@@ -1,0 +1,166 @@
+//! A SOURCE of the command line: a netlist with its libraries, or a folder.
+
+use crate::archive::words;
+use crate::cost::grouped;
+use crate::hub::Design;
+use crate::messages::Messages;
+use crate::model::Model;
+use crate::names::LineKind;
+use crate::text::{self, Stop};
+use crate::types::Types;
+use crate::writer::{self, Texts};
+use crate::{bench, blif, liberty, native, verilog, yosys};
+use std::path::Path;
+
+/// What the command line says of a source.
+#[derive(Clone, Debug, Default)]
+pub struct Source {
+    pub path: String,
+    pub libraries: Vec<String>,
+    pub format: Option<String>,
+    pub top: Option<String>,
+    pub clock: Option<String>,
+    pub open: bool,
+}
+
+pub struct Loaded {
+    pub model: Model,
+    /// Of a netlist that was imported.
+    pub texts: Option<Texts>,
+}
+
+/// Reads a source; every error is in the messages.
+pub fn load(source: &Source, messages: &mut Messages) -> Result<Loaded, Stop> {
+    if Path::new(&source.path).is_dir() {
+        let model = native::read(&source.path, messages)?;
+        return Ok(Loaded { model, texts: None });
+    }
+    let mut design = read(source, messages)?;
+    if messages.errors() > 0 {
+        return Err(Stop::Refused);
+    }
+    let texts = writer::write(&mut design, messages)?;
+    let file = source.path.rsplit('/').next().unwrap_or("");
+    let stem = file.rsplit_once('.').map_or(file, |(stem, _)| stem);
+    let title = if design.name.is_empty() { stem.to_string() } else { design.name.clone() };
+    let bytes = |text: &String| text.clone().into_bytes();
+    match Model::new(&title, bytes(&texts.lib), bytes(&texts.net), texts.names.clone()) {
+        Ok(mut model) => {
+            model.block = design.block;
+            tell(&model, messages);
+            Ok(Loaded { model, texts: Some(texts) })
+        }
+        Err(refusal) => {
+            let said = words(refusal.number);
+            let words = format!(
+                "internal error: the analyser refuses what was written: {said} (refusal {}, line {})",
+                refusal.number, refusal.line
+            );
+            messages.error(&source.path, words);
+            Err(Stop::Refused)
+        }
+    }
+}
+
+fn read(source: &Source, messages: &mut Messages) -> Result<Design, Stop> {
+    let path = source.path.as_str();
+    let ending = path.rsplit_once('.').map_or("", |(_, ending)| ending).to_ascii_lowercase();
+    let format = source.format.as_deref().unwrap_or(&ending);
+    let mut libraries = Vec::new();
+    for file in &source.libraries {
+        let text = text::read(file, liberty::MOST_BYTES, messages)?;
+        libraries.push(liberty::read(file, &text, messages));
+    }
+    if messages.errors() > 0 {
+        return Err(Stop::Refused);
+    }
+    let mut types = Types::new(libraries);
+    let wanted = blif::Wanted { clock: source.clock.as_deref(), allow_open: source.open };
+    let by_json = yosys::Wanted { top: source.top.as_deref(), allow_open: source.open };
+    if source.top.is_some() && !["json", "v", "sv"].contains(&format) {
+        messages.warn(format!("--top is not used: a .{format} file has one block"));
+    }
+    match format {
+        "json" => {
+            let text = text::read(path, yosys::MOST_BYTES, messages)?;
+            yosys::read(path, &text, &by_json, &mut types, messages)
+        }
+        "blif" => {
+            let text = text::read(path, blif::MOST_BYTES, messages)?;
+            Ok(blif::read(path, &text, &wanted, &mut types, messages))
+        }
+        "bench" => {
+            let text = text::read(path, bench::MOST_BYTES, messages)?;
+            Ok(bench::read(path, &text, &wanted, messages))
+        }
+        "v" | "sv" => {
+            // The file must be there, before Yosys is asked.
+            text::read(path, yosys::MOST_BYTES, messages)?;
+            let text = verilog::to_json(path, &source.libraries, source.top.as_deref(), messages)?;
+            yosys::read(path, &text, &by_json, &mut types, messages)
+        }
+        _ => Err(Stop::Usage(format!(
+            "{path}: is neither a folder nor a netlist by its ending (.json, .blif, .bench, .v); --format says which it is"
+        ))),
+    }
+}
+
+/// What the user should know of lines.
+fn tell(model: &Model, messages: &mut Messages) {
+    let unread = |kind: LineKind| -> Vec<&str> {
+        model
+            .names
+            .iter()
+            .filter(|name| name.kind == kind && !model.is_read(name.line))
+            .map(|name| name.net.as_str())
+            .collect()
+    };
+    let some = |nets: &[&str]| {
+        let mut told = nets.iter().take(5).copied().collect::<Vec<_>>().join(", ");
+        if nets.len() > 5 {
+            told += ", …";
+        }
+        told
+    };
+    for (kind, what) in [(LineKind::Gate, "gates"), (LineKind::Register, "registers")] {
+        let nets = unread(kind);
+        if !nets.is_empty() {
+            messages.warn(format!("{} {what} that nothing reads: {}", nets.len(), some(&nets)));
+        }
+    }
+    let inputs = unread(LineKind::Input);
+    if !inputs.is_empty() {
+        messages.note(format!("{} inputs that nothing reads: {}", inputs.len(), some(&inputs)));
+    }
+    if model.block {
+        messages.note(
+            "this is a block: its pins count as the chip's pins. In the chip numbers are as high or higher (lower only \
+             where the chip ties two of these pins together), so a threshold set for the chip leaves too few pads here",
+        );
+    }
+}
+
+/// `1 line`, `1,000 lines`.
+pub fn many(count: usize, word: &str) -> String {
+    format!("{} {word}{}", grouped(count as u64), if count == 1 { "" } else { "s" })
+}
+
+/// `chip.json: decim, 508 lines (7 inputs, 74 registers, 426 gates, 1 constant), 10 outputs, 16 cells`.
+pub fn summary(path: &str, model: &Model) -> String {
+    let mut kinds = Vec::new();
+    for (kind, word) in LineKind::ALL {
+        let count = model.names.iter().filter(|name| name.kind == kind).count();
+        if count > 0 {
+            kinds.push(if kind == LineKind::Open { format!("{count} open") } else { many(count, word) });
+        }
+    }
+    let outputs = model.lines().filter(|&line| model.is_output[line]).count();
+    format!(
+        "{path}: {}, {} ({}), {}, {}",
+        model.title,
+        many(model.names.len(), "line"),
+        kinds.join(", "),
+        many(outputs, "output"),
+        many(model.cells.len(), "cell")
+    )
+}

@@ -1,0 +1,134 @@
+//! What is said of an input: errors, warnings and notes, all of a file at once, on standard error.
+
+use std::io::Write;
+
+/// Errors told; the rest is counted.
+const MOST_TOLD: usize = 50;
+/// Bytes shown of a bad line.
+const MOST_SHOWN: usize = 120;
+
+#[derive(Default)]
+pub struct Messages {
+    told: Vec<String>,
+    errors: usize,
+    others: usize,
+}
+
+impl Messages {
+    pub fn new() -> Self {
+        Self::default()
+    }
+
+    pub fn errors(&self) -> usize {
+        self.errors
+    }
+
+    /// So many errors that there is no point in looking for more.
+    pub fn full(&self) -> bool {
+        self.errors >= 10 * MOST_TOLD
+    }
+
+    /// `FILE: error: words`.
+    pub fn error(&mut self, file: &str, words: impl AsRef<str>) {
+        self.errors += 1;
+        if self.errors <= MOST_TOLD {
+            self.told.push(format!("{file}: error: {}", words.as_ref()));
+        }
+    }
+
+    /// `FILE:LINE: error: words`, then the text of that line.
+    pub fn error_at(&mut self, file: &str, line: usize, text: &str, words: impl AsRef<str>) {
+        self.errors += 1;
+        if self.errors <= MOST_TOLD {
+            let shown = shown(text);
+            let mut told = format!("{file}:{line}: error: {}", words.as_ref());
+            if !shown.is_empty() {
+                told.push_str("\n    ");
+                told.push_str(&shown);
+            }
+            self.told.push(told);
+        }
+    }
+
+    pub fn warn(&mut self, words: impl AsRef<str>) {
+        self.other(format!("warning: {}", words.as_ref()));
+    }
+
+    pub fn note(&mut self, words: impl AsRef<str>) {
+        self.other(format!("note: {}", words.as_ref()));
+    }
+
+    fn other(&mut self, words: String) {
+        self.others += 1;
+        if self.others <= MOST_TOLD {
+            self.told.push(words);
+        }
+    }
+
+    /// All that was said, as it is printed.
+    pub fn text(&self) -> String {
+        let mut text = String::new();
+        for told in &self.told {
+            text.push_str(&printable(told));
+            text.push('\n');
+        }
+        if self.errors > MOST_TOLD {
+            text.push_str(&format!("and {} more errors\n", self.errors - MOST_TOLD));
+        }
+        if self.others > MOST_TOLD {
+            text.push_str(&format!("and {} more warnings and notes\n", self.others - MOST_TOLD));
+        }
+        text
+    }
+
+    /// Prints what was said and forgets it, but for the count of errors.
+    pub fn print(&mut self) {
+        let _ = std::io::stderr().write_all(self.text().as_bytes());
+        self.told.clear();
+        self.others = 0;
+    }
+}
+
+/// The text of a line, cut.
+fn shown(text: &str) -> String {
+    let text = text.trim();
+    if text.len() <= MOST_SHOWN {
+        return text.to_string();
+    }
+    let mut end = MOST_SHOWN;
+    while !text.is_char_boundary(end) {
+        end -= 1;
+    }
+    format!("{}…", &text[..end])
+}
+
+/// Control characters other than line ends never reach a terminal.
+pub fn printable(text: &str) -> String {
+    text.chars().map(|c| if c.is_control() && c != '\n' { '?' } else { c }).collect()
+}
+
+#[cfg(test)]
+mod tests {
+    use super::*;
+
+    #[test]
+    fn at_most_fifty_are_told() {
+        let mut messages = Messages::new();
+        for line in 1..=60 {
+            messages.error_at("a.blif", line, "  text ", "words");
+        }
+        let text = messages.text();
+        assert!(text.starts_with("a.blif:1: error: words\n    text\n"));
+        assert!(text.ends_with("and 10 more errors\n"));
+        assert_eq!(text.lines().count(), 101);
+    }
+
+    #[test]
+    fn long_lines_are_cut_and_control_bytes_hidden() {
+        let mut messages = Messages::new();
+        messages.error_at("a", 1, &"ä".repeat(200), "w\u{1b}[1m");
+        let text = messages.text();
+        assert!(text.lines().nth(1).unwrap().chars().count() < 80);
+        assert!(!text.contains('\u{1b}'));
+    }
+}
