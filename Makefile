@@ -1,10 +1,12 @@
 # make run    proves and builds the program, and runs it on a bundled example, C17
 # make test   passes all tests: its last line is 'N passed, 0 failed'
 # make bench  times the archive and the second implementation side by side
+# make pads   builds target/bin/scoap_pads, from a chip's netlist to its pads
+# make tools  installs what some tests of the pads need, by apt-get as root
 #
 # README says how long each takes the first time. What is proved stays proved until its files change.
 
-.PHONY: run test bench archive second clean
+.PHONY: run test bench archive second pads tools clean
 
 run:
 	@echo 'proving the program and the crates below it, one line for each:'
@@ -24,6 +26,15 @@ second: archive
 
 bench: second
 	@target/cargo/release/bench
+
+# The companion, from a chip's netlist to its pads; it links the archive.
+pads: archive
+	@cd pads && cargo build -q --release --offline -j1
+	@mkdir -p target/bin && cp target/pads/release/scoap_pads target/bin/scoap_pads
+
+# What its tests use beyond the toolchain; without it they say what they skip.
+tools:
+	apt-get install -y --no-install-recommends yosys berkeley-abc
 
 clean:
 	rm -rf target

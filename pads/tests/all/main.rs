@@ -1,0 +1,6 @@
+//! Tests over whole designs, in one program.
+
+mod common;
+mod figures;
+mod formats;
+mod reading;
