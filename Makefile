@@ -31,10 +31,12 @@ bench: second
 pads: archive
 	@cd pads && cargo build -q --release --offline -j1
 	@mkdir -p target/bin && cp target/pads/release/scoap_pads target/bin/scoap_pads
+	@target/bin/scoap_pads page examples/c17 -o target/c17.html
+	@target/bin/scoap_pads page examples/recorder/decim.json -l examples/recorder/recorder.lib -o target/decim.html
 
 # What its tests use beyond the toolchain; without it they say what they skip.
 tools:
-	apt-get install -y --no-install-recommends yosys berkeley-abc
+	apt-get install -y --no-install-recommends yosys berkeley-abc chromium chromium-driver curl
 
 clean:
 	rm -rf target

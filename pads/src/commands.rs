@@ -10,7 +10,7 @@ use crate::names::{self, cut, LineKind};
 use crate::pads::{self, Effect, Measure, Privacy};
 use crate::ranking::{self, Key};
 use crate::text::{self, Stop};
-use crate::{csv, help, never, why};
+use crate::{csv, help, never, page, why};
 use std::collections::HashMap;
 use std::fmt::Write;
 use std::path::Path;
@@ -57,6 +57,7 @@ pub fn run(given: &[String], messages: &mut Messages) -> Result<Done, Stop> {
         }
         "why" => reason(&parse(&["--of", "--steps"], &[], (1, 1))?, messages),
         "pad" => pad(&parse(&["--protect"], &[], (1, many))?, messages),
+        "page" => page_of(&parse(&["-o", "--pad", "--forbid", "--protect"], &[], (0, 0))?, messages),
         _ => advise(&parse(&["--pads", "--forbid", "--protect", "--csv"], &[], (0, 0))?, messages),
     }
 }
@@ -452,6 +453,30 @@ fn advise(args: &Args, messages: &mut Messages) -> Result<Done, Stop> {
         }
     }
     Done::well(printable(&text))
+}
+
+fn page_of(args: &Args, messages: &mut Messages) -> Result<Done, Stop> {
+    let file = args.value("-o").ok_or_else(|| Stop::Usage("-o FILE.html is missing".to_string()))?;
+    let Loaded { model, .. } = load::load(&args.source, messages)?;
+    let mut placed = Vec::new();
+    for wanted in args.values("--pad") {
+        placed.extend(names::find(&model.names, wanted).map_err(Stop::Usage)?);
+    }
+    placed.sort_unstable();
+    placed.dedup();
+    placed.retain(|&line| !model.is_output[line]);
+    let privacy = Privacy {
+        forbidden: nets_of(&model, args.value("--forbid"), messages)?,
+        protected: nets_of(&model, args.value("--protect"), messages)?,
+    };
+    if messages.errors() > 0 {
+        return Err(Stop::Refused);
+    }
+    let said = messages.text();
+    messages.print();
+    let page = page::page(&args.source.path, &model, &placed, &privacy, &said).map_err(Stop::Usage)?;
+    text::write(Path::new(file), page.as_bytes())?;
+    Done::well(format!("{}\nwritten: {file}, {} KB\n", load::summary(&args.source.path, &model), page.len() / 1000))
 }
 
 /// A pad does not help where setting is the trouble.

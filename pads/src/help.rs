@@ -9,6 +9,7 @@ scoap_pads: from a chip's netlist to its pads
     scoap_pads why    SOURCE NET        the reason for a number, step by step
     scoap_pads pad    SOURCE NET..      numbers before and after these pads together
     scoap_pads advise SOURCE            which nets should get pads
+    scoap_pads page   SOURCE -o FILE    a page to look at: profiles, table, reasons, pads
     scoap_pads --recipes                command lines of Yosys that make a netlist
 
 'scoap_pads COMMAND --help' says more of each.
@@ -81,6 +82,17 @@ smallest largest CO, then the smallest sum of CO; the lowest line among equals.
 A FILE of nets has one net or pattern a line; # starts a comment.
 ";
 
+pub const PAGE: &str = "\
+scoap_pads page SOURCE -o FILE.html [--pad NET].. [--forbid FILE] [--protect FILE]
+
+Writes one self-contained page: the six profiles, the table of nets, and of each net the reasons for its numbers as a
+tree and what a pad on it would change. It needs no network. What is shown stands in the address behind #, so that a
+view can be sent.
+    --pad NET         this net has a pad already; may stand several times
+    --forbid FILE     nets that get no pad, marked
+    --protect FILE    nets that no pad may make easier to see, marked
+";
+
 pub const RECIPES: &str = "\
 # RTL, generic gates
 yosys -p \"read_verilog CHIP.v; hierarchy -check -top CHIP; proc; tribuf; synth -flatten -top CHIP; opt_clean -purge; autoname; write_json CHIP.json\"
@@ -99,6 +111,7 @@ pub fn of(command: &str) -> Option<&'static str> {
         "why" => WHY,
         "pad" => PAD,
         "advise" => ADVISE,
+        "page" => PAGE,
         _ => return None,
     })
 }

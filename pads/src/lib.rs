@@ -21,6 +21,7 @@ pub mod names;
 pub mod native;
 pub mod never;
 pub mod pads;
+pub mod page;
 pub mod primes;
 pub mod ranking;
 pub mod registers;

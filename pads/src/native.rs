@@ -17,7 +17,12 @@ pub fn read(folder: &str, messages: &mut Messages) -> Result<Model, Stop> {
     let lib = ended(text::read(&lib_file, MOST_FILE, messages)?);
     let net = ended(text::read(&net_file, MOST_FILE, messages)?);
     let given = if Path::new(&names_file).exists() {
-        names::read(&names_file, &text::read(&names_file, MOST_FILE, messages)?, messages)
+        // Lines that end with CR LF are the rule in a CSV file, and no word is said of them.
+        let text = text::read(&names_file, MOST_FILE, &mut Messages::new()).map_err(|stop| match stop {
+            Stop::Refused => Stop::Usage(format!("{names_file}: more than {} MB", MOST_FILE >> 20)),
+            other => other,
+        })?;
+        names::read(&names_file, &text, messages)
     } else {
         Vec::new()
     };

@@ -331,7 +331,7 @@ impl<'m> Reasons<'m> {
         }
     }
 
-    fn nothing_told(&self, node: Node) -> &'static str {
+    pub fn nothing_told(&self, node: Node) -> &'static str {
         match (node, self.model.driver[node.line()]) {
             (Node::See { line }, _) if self.model.readers[line].is_empty() => "nothing reads it, and it is no output",
             (Node::See { .. }, _) => "no cell that reads it ever changes with it",
