@@ -3,7 +3,7 @@
 use crate::archive::MOST_PINS;
 use crate::blif::put_clock;
 use crate::cells::{self, Cell, Kind};
-use crate::hub::{Design, Gate, Lines, Source, MOST_GATES};
+use crate::hub::{Design, Gate, Lines, Source, MOST_NETS, TOO_MANY};
 use crate::messages::Messages;
 use crate::rows::Table;
 use std::collections::HashMap;
@@ -12,7 +12,7 @@ use std::rc::Rc;
 pub use crate::blif::{Wanted, MOST_BYTES};
 
 pub fn read(file: &str, text: &str, wanted: &Wanted, messages: &mut Messages) -> Design {
-    let lines = Lines { file, lines: text.lines().collect() };
+    let lines = Lines { file, text };
     let mut reader = Reader {
         lines: &lines,
         messages,
@@ -26,12 +26,12 @@ pub fn read(file: &str, text: &str, wanted: &Wanted, messages: &mut Messages) ->
         if !line.is_empty() {
             reader.line(at + 1, line);
         }
-        if reader.messages.full() || reader.design.gates.len() > MOST_GATES {
+        if reader.messages.full() || reader.design.full() {
             break;
         }
     }
-    if reader.design.gates.len() > MOST_GATES {
-        reader.messages.error(file, "more than 100,000 gates, the analyser takes 1,000 lines");
+    if reader.design.full() {
+        reader.messages.error(file, TOO_MANY);
     }
     let Reader { mut design, nets, clockless, messages, .. } = reader;
     put_clock(&mut design, &clockless, wanted.clock, |name| nets.get(name).copied(), messages);
@@ -54,7 +54,8 @@ struct Reader<'a, 'm> {
 fn call(text: &str) -> Option<(&str, Vec<&str>)> {
     let (word, rest) = text.split_once('(')?;
     let inner = rest.trim_end().strip_suffix(')')?;
-    let arguments: Vec<&str> = inner.split(',').map(str::trim).collect();
+    // One more than there may be nets, so that too many are told and not lost.
+    let arguments: Vec<&str> = inner.split(',').take(MOST_NETS + 1).map(str::trim).collect();
     let none = arguments == [""];
     Some((word.trim(), if none { Vec::new() } else { arguments }))
 }
@@ -104,6 +105,9 @@ impl Reader<'_, '_> {
         let Some((word, arguments)) = call(right) else {
             return self.error(number, "a gate reads NET = WORD(NET, NET, ..)");
         };
+        if arguments.len() > MOST_NETS {
+            return self.error(number, "a gate of more than 40,000 pins");
+        }
         if let Some(bad) = arguments.iter().find(|name| !is_name(name)) {
             return self.error(number, format!("'{bad}' is no name of a net"));
         }

@@ -2,7 +2,7 @@
 
 use crate::archive::MOST_PINS;
 use crate::cells::{self, Cell, Kind, Op};
-use crate::hub::{Design, Gate, Lines, Source, MOST_GATES};
+use crate::hub::{Design, Gate, Lines, Source, MOST_NETS, TOO_MANY};
 use crate::messages::Messages;
 use crate::rows::Table;
 use crate::types::{add_gates, Place, Types};
@@ -10,40 +10,47 @@ use std::collections::HashMap;
 use std::rc::Rc;
 
 /// Largest file that is read.
-pub const MOST_BYTES: usize = 16 << 20;
+pub const MOST_BYTES: usize = 4 << 20;
 
 pub struct Wanted<'a> {
     pub clock: Option<&'a str>,
     pub allow_open: bool,
 }
 
-/// Lines joined by a backslash, without comments; each with the number of its first line.
-fn joined(text: &str) -> Vec<(usize, String)> {
-    let mut joined: Vec<(usize, String)> = Vec::new();
-    let mut goes_on = false;
+/// Lines joined by a backslash, without comments, handed on one by one with the number of the first; the answer says
+/// whether to go on.
+fn each_joined(text: &str, mut take: impl FnMut(usize, &str) -> bool) {
+    let mut whole = String::new();
+    let mut first = None;
     for (at, line) in text.lines().enumerate() {
         let line = line.split('#').next().unwrap_or("").trim_end();
         let (line, more) = match line.strip_suffix('\\') {
             Some(line) => (line, true),
             None => (line, false),
         };
-        if goes_on {
-            if let Some((_, last)) = joined.last_mut() {
-                last.push(' ');
-                last.push_str(line);
+        let number = *first.get_or_insert(at + 1);
+        if !more && whole.is_empty() {
+            first = None;
+            if !take(number, line) {
+                return;
             }
-        } else if !line.trim().is_empty() {
-            joined.push((at + 1, line.to_string()));
-        } else if more {
-            joined.push((at + 1, String::new()));
+            continue;
         }
-        goes_on = more;
+        whole.push_str(line);
+        whole.push(' ');
+        if !more {
+            first = None;
+            if !take(number, &whole) {
+                return;
+            }
+            whole.clear();
+        }
     }
-    joined
+    take(first.unwrap_or(1), &whole);
 }
 
 pub fn read(file: &str, text: &str, wanted: &Wanted, types: &mut Types, messages: &mut Messages) -> Design {
-    let lines = Lines { file, lines: text.lines().collect() };
+    let lines = Lines { file, text };
     let mut reader = Reader {
         lines: &lines,
         messages,
@@ -56,15 +63,13 @@ pub fn read(file: &str, text: &str, wanted: &Wanted, types: &mut Types, messages
         open_pins: 0,
         clockless: Vec::new(),
     };
-    for (number, line) in joined(text) {
-        reader.line(number, &line, types);
-        if reader.messages.full() || reader.design.gates.len() > MOST_GATES {
-            break;
-        }
-    }
+    each_joined(text, |number, line| {
+        reader.line(number, line, types);
+        !reader.messages.full() && !reader.design.full()
+    });
     reader.finish_cover();
-    if reader.design.gates.len() > MOST_GATES {
-        reader.messages.error(file, "more than 100,000 gates, the analyser takes 1,000 lines");
+    if reader.design.full() {
+        reader.messages.error(file, TOO_MANY);
     }
     if reader.models == 0 && reader.messages.errors() == 0 {
         reader.messages.error(file, "no .model: is it BLIF?");
@@ -116,8 +121,12 @@ impl Reader<'_, '_> {
     }
 
     fn line(&mut self, number: usize, line: &str, types: &mut Types) {
-        let words: Vec<&str> = line.split_whitespace().collect();
+        // No statement has more words than there may be nets.
+        let words: Vec<&str> = line.split_whitespace().take(MOST_NETS + 1).collect();
         let Some(&first) = words.first() else { return };
+        if words.len() > MOST_NETS {
+            return self.error(number, "a statement of more than 40,000 words");
+        }
         if !first.starts_with('.') {
             if self.ended {
                 return;

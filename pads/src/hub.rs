@@ -91,20 +91,28 @@ pub struct Design {
     pub initial_values: usize,
     /// A block of a larger netlist.
     pub block: bool,
+    /// Bytes of the names that a reader made.
+    pub name_bytes: usize,
 }
 
-/// Gates that a reader takes at all; far above what the analyser does.
-pub const MOST_GATES: usize = 100_000;
+/// Gates and nets that a reader takes at all; far above what the analyser does.
+pub const MOST_GATES: usize = 20_000;
+pub const MOST_NETS: usize = 40_000;
+/// Bytes of all names together.
+pub const MOST_NAME_BYTES: usize = 16 << 20;
+pub const TOO_MANY: &str = "more than 20,000 gates, 40,000 nets or 16 MB of names, the analyser takes 1,000 lines";
 
 /// The texts of a netlist's lines, for messages; none for JSON.
 pub struct Lines<'a> {
     pub file: &'a str,
-    pub lines: Vec<&'a str>,
+    pub text: &'a str,
 }
 
 impl Lines<'_> {
     pub fn error(&self, messages: &mut Messages, line: usize, words: impl AsRef<str>) {
-        match line.checked_sub(1).and_then(|at| self.lines.get(at)) {
+        // The text is looked for only where it will be shown.
+        let at = line.checked_sub(1).filter(|_| messages.shows_more());
+        match at.and_then(|at| self.text.lines().nth(at)) {
             Some(text) => messages.error_at(self.file, line, text, words),
             None => messages.error(self.file, words),
         }
@@ -112,6 +120,14 @@ impl Lines<'_> {
 }
 
 impl Design {
+    /// No more gates, nets or wires are taken.
+    pub fn full(&self) -> bool {
+        self.gates.len() > MOST_GATES
+            || self.nets.len() > MOST_NETS
+            || self.wires.len() > MOST_NETS
+            || self.name_bytes > MOST_NAME_BYTES
+    }
+
     pub fn add_net(&mut self) -> usize {
         self.nets.push(Net::default());
         self.nets.len() - 1

@@ -14,7 +14,7 @@ pub enum Value<'a> {
     Object(Vec<(Cow<'a, str>, Value<'a>)>),
 }
 
-const MOST_VALUES: usize = 1_500_000;
+const MOST_VALUES: usize = 500_000;
 const MOST_DEPTH: usize = 64;
 
 /// The byte where it went wrong, and why.
@@ -107,7 +107,7 @@ impl<'a> Reader<'a> {
     fn value(&mut self, depth: usize) -> Result<Value<'a>, Wrong> {
         self.values += 1;
         if self.values > MOST_VALUES {
-            return Err(self.wrong("more than 1,500,000 values, which is far above what 1,000 lines take"));
+            return Err(self.wrong("more than 500,000 values, which is far above what 1,000 lines take"));
         }
         if depth > MOST_DEPTH {
             return Err(self.wrong("more than 64 brackets within each other"));

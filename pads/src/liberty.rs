@@ -44,6 +44,10 @@ pub struct Library {
 pub const MOST_BYTES: usize = 64 << 20;
 const MOST_CELLS: usize = 20_000;
 const MOST_DEPTH: usize = 40;
+/// Pins of all cells together, attributes of a register, and bytes of a value.
+const MOST_PINS_WRITTEN: usize = 200_000;
+const MOST_ATTRIBUTES: usize = 100;
+const MOST_VALUE: usize = 8_000;
 
 pub fn read(file: &str, text: &str, messages: &mut Messages) -> Library {
     let mut reader = Reader { text: text.as_bytes(), at: 0, line: 1 };
@@ -131,6 +135,9 @@ impl Reader<'_> {
                     while self.peek().is_some_and(|b| !b.is_ascii_whitespace() && !b"(){}:;,\"\\".contains(&b)) {
                         self.step();
                     }
+                    if self.at - start > MOST_VALUE {
+                        return Err("a word of more than 8,000 bytes".to_string());
+                    }
                     return Ok(Some(Token::Word(String::from_utf8_lossy(&self.text[start..self.at]).into_owned())));
                 }
             }
@@ -171,6 +178,7 @@ impl Reader<'_> {
     /// Groups and attributes: `name (arguments) { .. }`, `name (arguments) ;`, `name : value ;`.
     fn groups(&mut self, library: &mut Library) -> Result<(), String> {
         let mut open: Vec<(usize, String)> = Vec::new();
+        let mut pins = 0;
         let mut cell: Option<(String, usize, Written)> = None;
         loop {
             let Some(token) = self.token()? else {
@@ -218,6 +226,10 @@ impl Reader<'_> {
                                 cell = Some((title, open.len(), Written::default()));
                             } else if let Some((_, depth, written)) = &mut cell {
                                 if open.len() == *depth + 1 {
+                                    pins += usize::from(name == "pin");
+                                    if pins > MOST_PINS_WRITTEN {
+                                        return Err("more than 200,000 pins".to_string());
+                                    }
                                     take_group(written, &name, arguments);
                                 }
                             }
@@ -236,6 +248,7 @@ impl Reader<'_> {
                 let mut value = String::new();
                 loop {
                     match self.token()? {
+                        Some(Token::Word(_)) if value.len() > MOST_VALUE => {}
                         Some(Token::Word(word)) => {
                             if !value.is_empty() {
                                 value.push(' ');
@@ -243,6 +256,7 @@ impl Reader<'_> {
                             value.push_str(&word);
                         }
                         Some(Token::LineEnd) if value.is_empty() => {}
+                        Some(Token::Mark(b'(' | b')' | b',' | b':')) if value.len() > MOST_VALUE => {}
                         Some(Token::Mark(b @ (b'(' | b')' | b',' | b':'))) => value.push(char::from(b)),
                         Some(Token::Mark(b'}')) => {
                             self.at -= 1;
@@ -331,7 +345,7 @@ fn take_attribute(cell: &mut Written, open: &[(usize, String)], name: &str, valu
             }
         }
         "ff" | "latch" => {
-            if let Some(state) = &mut cell.state {
+            if let Some(state) = cell.state.as_mut().filter(|state| state.attributes.len() < MOST_ATTRIBUTES) {
                 state.attributes.insert(name.to_string(), value);
             }
         }

@@ -23,6 +23,11 @@ impl Messages {
         self.errors
     }
 
+    /// Whether another error would be told, and not only counted.
+    pub fn shows_more(&self) -> bool {
+        self.errors < MOST_TOLD
+    }
+
     /// So many errors that there is no point in looking for more.
     pub fn full(&self) -> bool {
         self.errors >= 10 * MOST_TOLD

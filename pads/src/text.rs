@@ -20,8 +20,7 @@ pub fn read(path: &str, most: usize, messages: &mut Messages) -> Result<String, 
     if file.metadata().map_err(cannot)?.is_dir() {
         return Err(Stop::Usage(format!("{path}: can't be read: it is a folder")));
     }
-    let mut bytes = Vec::new();
-    file.take(most as u64 + 1).read_to_end(&mut bytes).map_err(cannot)?;
+    let bytes = whole(file, most).map_err(cannot)?;
     if bytes.len() > most {
         let words = format!("more than {} MB, which is far above what 1,000 lines take", most >> 20);
         messages.error(path, words);
@@ -30,24 +29,52 @@ pub fn read(path: &str, most: usize, messages: &mut Messages) -> Result<String, 
     Ok(cleaned(path, bytes, messages))
 }
 
-/// Takes a byte-order mark and CR LF away, and says so; bytes that are no UTF-8 become replacement characters.
-pub fn cleaned(path: &str, bytes: Vec<u8>, messages: &mut Messages) -> String {
-    let mut text = match String::from_utf8(bytes) {
-        Ok(text) => text,
-        Err(e) => {
-            messages.note(format!("{path} has bytes that are no UTF-8; they are shown as \u{fffd}"));
-            String::from_utf8_lossy(e.as_bytes()).into_owned()
+/// The bytes of a file, at most one more than `most`; memory grows by as much as is read, never by doubling.
+fn whole(mut file: File, most: usize) -> std::io::Result<Vec<u8>> {
+    const STEP: usize = 1 << 20;
+    let mut bytes = Vec::new();
+    let length = file.metadata()?.len().min(most as u64) as usize;
+    bytes.reserve_exact(length + 1);
+    while bytes.len() <= most {
+        let step = STEP.min(most + 1 - bytes.len());
+        if bytes.capacity() - bytes.len() < step {
+            bytes.reserve_exact(step);
         }
-    };
-    if let Some(rest) = text.strip_prefix('\u{feff}') {
-        text = rest.to_string();
+        if (&mut file).take(step as u64).read_to_end(&mut bytes)? == 0 {
+            break;
+        }
+    }
+    Ok(bytes)
+}
+
+/// Takes a byte-order mark and CR LF away, and says so; bytes that are no UTF-8 become question marks. All in place.
+pub fn cleaned(path: &str, mut bytes: Vec<u8>, messages: &mut Messages) -> String {
+    if bytes.starts_with(b"\xef\xbb\xbf") {
+        bytes.drain(..3);
         messages.note(format!("{path} begins with a byte-order mark, which is passed over"));
     }
-    if text.contains('\r') {
-        text = text.replace("\r\n", "\n").replace('\r', "\n");
+    if bytes.contains(&b'\r') {
         messages.note(format!("{path} has lines that end with CR LF, which is passed over"));
+        // A CR alone ends a line, too.
+        for at in 0..bytes.len() {
+            if bytes[at] == b'\r' && bytes.get(at + 1) != Some(&b'\n') {
+                bytes[at] = b'\n';
+            }
+        }
+        bytes.retain(|&b| b != b'\r');
     }
-    text
+    let mut from = 0;
+    let mut odd = false;
+    while let Err(e) = std::str::from_utf8(&bytes[from..]) {
+        let at = from + e.valid_up_to();
+        let end = e.error_len().map_or(bytes.len(), |length| at + length);
+        bytes[at..end].fill(b'?');
+        (from, odd) = (end, true);
+    }
+    if odd {
+        messages.note(format!("{path} has bytes that are no UTF-8; they are shown as ?"));
+    }
+    String::from_utf8(bytes).unwrap_or_default()
 }
 
 /// Writes through a new file and a rename, so that a half-written file never stands under the name.
@@ -76,7 +103,8 @@ mod tests {
         let text = cleaned("a", b"\xef\xbb\xbfone\r\ntwo".to_vec(), &mut messages);
         assert_eq!(text, "one\ntwo");
         assert_eq!(messages.text().lines().count(), 2);
-        assert_eq!(cleaned("a", b"x\xff".to_vec(), &mut messages), "x\u{fffd}");
+        assert_eq!(cleaned("a", b"x\xff\xc3\xa4\xc3".to_vec(), &mut messages), "x?ä?");
+        assert_eq!(cleaned("a", b"a\rb\r\nc".to_vec(), &mut messages), "a\nb\nc");
     }
 
     #[test]

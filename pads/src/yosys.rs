@@ -1,7 +1,7 @@
 //! Netlists as Yosys writes them in JSON.
 
 use crate::cells::{Cell, Kind};
-use crate::hub::{Design, Lines, Source, MOST_GATES};
+use crate::hub::{Design, Lines, Source, MOST_GATES, TOO_MANY};
 use crate::json::{self, Value};
 use crate::messages::Messages;
 use crate::rows::Table;
@@ -11,7 +11,7 @@ use std::collections::HashMap;
 use std::rc::Rc;
 
 /// Largest file that is read.
-pub const MOST_BYTES: usize = 32 << 20;
+pub const MOST_BYTES: usize = 16 << 20;
 
 #[derive(Clone, Default)]
 pub struct Wanted<'a> {
@@ -59,7 +59,7 @@ pub fn read(
             .warn(format!("{open} pins are connected to nothing (or to x or z): open lines, which can never be set"));
     }
     if messages.errors() == 0 {
-        design.settle(&Lines { file, lines: Vec::new() }, wanted.allow_open, messages);
+        design.settle(&Lines { file, text: "" }, wanted.allow_open, messages);
     }
     Ok(design)
 }
@@ -145,6 +145,10 @@ impl Reader<'_, '_, '_> {
         if let Some(&net) = self.nets.get(&bit) {
             return net;
         }
+        if self.design.full() {
+            // Told once all is read: which net it is does not matter any more.
+            return 0;
+        }
         let net = self.design.add_net();
         self.nets.insert(bit, net);
         net
@@ -166,9 +170,12 @@ impl Reader<'_, '_, '_> {
         }
         for (name, cell) in cells {
             self.cell(name, cell, types);
-            if self.messages.full() {
+            if self.messages.full() || self.design.full() {
                 break;
             }
+        }
+        if self.design.full() {
+            self.messages.error(self.file, TOO_MANY);
         }
         for (_, who, words, more) in std::mem::take(&mut self.unknown) {
             let more = if more > 0 { format!(" and {more} more") } else { String::new() };
@@ -187,7 +194,11 @@ impl Reader<'_, '_, '_> {
         let direction = port.get("direction").and_then(Value::text).unwrap_or("");
         let bits = port.get("bits").map_or(&[][..], Value::items);
         for (at, bit) in bits.iter().enumerate() {
+            if self.design.full() {
+                return;
+            }
             let name = bit_name(name, port, at, bits.len());
+            self.design.name_bytes += name.len();
             let source = self.source(bit);
             match (direction, source) {
                 ("input", Source::Net(net)) => {
@@ -226,9 +237,13 @@ impl Reader<'_, '_, '_> {
         let has_init = attributes.is_some_and(|all| all.get("init").is_some());
         let bits = net.get("bits").map_or(&[][..], Value::items);
         for (at, bit) in bits.iter().enumerate() {
+            if self.design.full() {
+                return;
+            }
             let Source::Net(id) = self.source(bit) else { continue };
             self.design.initial_values += usize::from(has_init);
             let name = bit_name(name, net, at, bits.len());
+            self.design.name_bytes += name.len();
             let net = &mut self.design.nets[id];
             if net.source.is_empty() {
                 net.source = source.to_string();
