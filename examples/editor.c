@@ -33,7 +33,7 @@ static const char example_net[] =
 
 static uint8_t lib[TEXT];
 static uint8_t net[TEXT];
-static uint8_t report[SCOAP_REPORT];
+static uint8_t report[SCOAP_MOST_REPORTS];
 
 /* Reads a file up to TEXT bytes. Returns 0 where it can't be read. */
 static int read_text(const char *name, uint8_t *text, size_t *length)
@@ -83,6 +83,10 @@ static const char *reason(unsigned number)
         return "the line is marked output already";
     case SCOAP_UNDECLARED:
         return "a line is read or marked that nothing drives or declares open";
+    case SCOAP_NOT_INPUT:
+        return "a range stands below the input that it prices";
+    case SCOAP_RANGE:
+        return "an input has one range, from 1 to 999, the lower price first";
     case SCOAP_REPORT_TOO_LONG:
         return "the report is longer than its buffer";
     case SCOAP_NO_FIGURE:
@@ -119,7 +123,8 @@ int main(int argc, char **argv)
         return 0;
     }
     unsigned number = scoap_number(answer);
-    if (number >= SCOAP_NETLIST_FORM && number <= SCOAP_OUTPUT_TWICE) {
+    if ((number >= SCOAP_NETLIST_FORM && number <= SCOAP_OUTPUT_TWICE) ||
+        (number >= SCOAP_NOT_INPUT && number <= SCOAP_RANGE)) {
         printf("netlist, line %u: ", scoap_line(answer));
     } else if (number >= SCOAP_LIBRARY_FORM && number <= SCOAP_ENTRIES) {
         printf("library, line %u: ", scoap_line(answer));

@@ -19,15 +19,20 @@ extern "C" {
 
 /*
  * The report buffer that the program scoap itself uses. A buffer may have any length, 0 included:
- * a report longer than its buffer is refused with number 17; one that just fits is accepted.
+ * a report longer than its buffer is refused with number 17; one that just fits is accepted. Of a netlist with
+ * ranges both reports count, with the line 'high' between them, so that 17 can come of this buffer too.
  */
 #define SCOAP_REPORT 65536u
 
 /*
- * No report is longer, so that number 17 never comes of a buffer of this length or more: a header of 27
- * bytes, 1,000 lines with six costs of nine digits at most (63,893 bytes together), and the sweeps in 27.
+ * No report is longer, so that of a netlist without ranges number 17 never comes of a buffer of this length or
+ * more: a header of 27 bytes, 1,000 lines with six costs of nine digits at most (63,893 bytes together), and the
+ * sweeps in 27.
  */
 #define SCOAP_MOST_REPORT 63947u
+
+/* Twice that and the line 'high': number 17 never comes of a buffer of this length or more. */
+#define SCOAP_MOST_REPORTS 127899u
 
 /* Stack that a thread should have left for the call. */
 #define SCOAP_STACK 524288u
@@ -73,7 +78,7 @@ enum scoap_refusal {
     /* the line is marked output already */
     SCOAP_OUTPUT_TWICE = 15,
 
-    /* the report is longer than its buffer */
+    /* the report is longer than its buffer; of a netlist with ranges both reports together */
     SCOAP_REPORT_TOO_LONG = 17,
 
     /* the number is over or never, or there is none */
@@ -82,7 +87,12 @@ enum scoap_refusal {
     SCOAP_PLAN_TOO_LONG = 19,
 
     /* a line is read by a pin or marked output, and neither driven nor declared open */
-    SCOAP_UNDECLARED = 20
+    SCOAP_UNDECLARED = 20,
+
+    /* a range on a line that is not marked input above */
+    SCOAP_NOT_INPUT = 21,
+    /* a bound of a range is not 1 to 999, LOW is above HIGH, or the line has a range already */
+    SCOAP_RANGE = 22
 };
 
 /*
@@ -97,8 +107,12 @@ enum scoap_refusal {
  *
  * Answers the report's length, which is below SCOAP_REFUSED, where the pair is accepted. Otherwise
  * it answers the refusal's number times 1,000,000 plus the line, from 1 in the text that the number
- * belongs to: 3 to 9 the library, 10 to 15 the netlist; 2, 17 and 20 have line 0. The library is read
- * first; the topmost bad line counts, and within it the lowest number.
+ * belongs to: 3 to 9 the library, 10 to 15, 21 and 22 the netlist; 2, 17 and 20 have line 0. The library
+ * is read first; the topmost bad line counts, and within it the lowest number. 20 comes after all lines.
+ *
+ * Where the netlist has a line 'range,L,LOW,HIGH' the report is written twice: with all such inputs at LOW, then,
+ * after a line 'high', with all at HIGH. However the prices fall within the ranges, each cc and co lies between
+ * the two; never stands in both or in neither; sc and so are the same. The length is that of both.
  *
  * Pins of a gate that share a line are one wire: a CC or SC row pays a value of it once, and a row that needs
  * both is no way. A cell with a row that names both values of one pin pays for each pin.

@@ -36,7 +36,8 @@ pub const MOST_CELLS: usize = 32;
 pub const MOST_PINS: usize = 8;
 pub const MOST_ROWS: usize = 16;
 
-const REPORT_ROOM: usize = 65_536;
+/// The longest two reports of a netlist with ranges.
+const REPORT_ROOM: usize = 127_899;
 /// Above this a plan's length could not be told from a refusal.
 const PLAN_ROOM: usize = 999_999;
 const ENTRY_ROOM: usize = 8_192;

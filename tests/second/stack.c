@@ -211,6 +211,9 @@ int main(void)
     }
     add_net("output,1000\n");
     measure("1,999 sweeps", 0);
+    /* The same at both ends of a range. */
+    add_net("range,1,1,999\n");
+    measure("1,999 sweeps, twice", 0);
 
     start();
     for (unsigned cell = 0; cell < 15; cell++) {

@@ -1,4 +1,5 @@
--- What "never" says of the chip, of each accepted analysis. `NeverMeans` of specs/Never.antt is the statement.
+-- What "never" says of the chip, of each accepted analysis, at whatever prices within the ranges. `NeverMeans` of
+-- specs/Never.antt is the statement.
 -- Assumes nothing.
 use mathlib.Core.Bool.{Bool, true, false}
 use mathlib.Core.List.{List, List·Memᴰ}
@@ -13,7 +14,9 @@ use Rattle.netlist.specs.Sound.{InRange}
 use Rattle.netlist.proofs.Laws.{mentioned-in-range}
 use Rattle.calculation.specs.Acceptance.{BothSound}
 use Rattle.calculation.specs.Nodes.{combinational, set, node}
-use Rattle.calculation.specs.Plans.{Plan, Exact}
+use Rattle.calculation.specs.Prices.{Pricing, pricesOf, WithinRanges}
+use Rattle.calculation.specs.Calculation.{analysedAt}
+use Rattle.calculation.specs.Plans.{Plan, ExactAt}
 use Rattle.calculation.specs.Ways.{cellOf}
 use Rattle.calculation.proofs.Laws.{exact}
 use Rattle.outcome.specs.declared.Summary.{Summary}
@@ -32,8 +35,8 @@ use Rattle.behaviour.proofs.Rows.{tells}
 use Rattle.behaviour.proofs.Planned.{digit-small, planned}
 use Rattle.behaviour.proofs.Reached.{reached}
 
-module _ (cells : List Cell) (ss : List Statement) (sound : BothSound cells ss) (q : Qualifies cells ss) (numbers : List ℕ)
-    (stands : (l : ℕ) (x : Bool) → Reported (set l (digit x)) → Exact cells ss combinational (set l (digit x)) (ccNumber numbers l x)) where
+module _ (cells : List Cell) (ss : List Statement) (sound : BothSound cells ss) (q : Qualifies cells ss) (price : Pricing) (numbers : List ℕ)
+    (stands : (l : ℕ) (x : Bool) → Reported (set l (digit x)) → ExactAt price cells ss combinational (set l (digit x)) (ccNumber numbers l x)) where
   abbrev tables : Tables
   tables = tablesOf (q .built .bits)
 
@@ -41,7 +44,7 @@ module _ (cells : List Cell) (ss : List Statement) (sound : BothSound cells ss) 
   unfolding tablesOf
   gates-tell g m = tells (cellOf cells g) (q .built .bits (g .cell)) (q .built .generated g m)
 
-  exact-here : (l : ℕ) → mentioned l ss ≡ true → (x : Bool) → Exact cells ss combinational (set l (digit x)) (ccNumber numbers l x)
+  exact-here : (l : ℕ) → mentioned l ss ≡ true → (x : Bool) → ExactAt price cells ss combinational (set l (digit x)) (ccNumber numbers l x)
   unfolding InRange
   exact-here l m x =
       let r = mentioned-in-range cells ss (sound .netlist) l m in stands l x (r .0, r .1, digit-small x)
@@ -74,8 +77,19 @@ pub never-means-of : (g : Given) → Checked g → (before after : Lent) (said :
     → NeverMeans (pair .statements) (tablesOf (q .built .bits)) (after .numbers)
 unfolding ccNumber
 never-means-of g checked before after said p pair s e q =
-    never-stands (pair .cells) (pair .statements) (pair-sound g checked pair) q (after .numbers)
+    never-stands (pair .cells) (pair .statements) (pair-sound g checked pair) q (pricesOf (pair .statements)) (after .numbers)
     (λ l x h. p .demand3 pair s e combinational (set l (digit x)) h)
+
+-- .. and of the numbers at all prices within the ranges, those of the second report among them: ranges do not touch it.
+pub never-at-prices : (g : Given) → Checked g → (before after : Lent) (said : Read Summary) → Promised g before after said
+    → (pair : PairRead g) (s : Summary) → said ≡ read s → (q : Qualifies (pair .cells) (pair .statements))
+    → (price : Pricing) → WithinRanges (pair .statements) price
+    → NeverMeans (pair .statements) (tablesOf (q .built .bits)) (analysedAt price (pair .cells) (pair .statements) .numbers)
+unfolding ccNumber
+never-at-prices g checked before after said p pair s e q price w =
+    never-stands (pair .cells) (pair .statements) (pair-sound g checked pair) q price
+    (analysedAt price (pair .cells) (pair .statements) .numbers)
+    (λ l x h. p .reporting pair s e .prices .between price w (set l (digit x)) h .exact combinational)
 
 -- Of two texts: behind the promise of `analyse`.
 pub never-means : (lib net : List ℕ) (before after : Lent) (said : Read Summary) → Promised (givenTexts lib net) before after said

@@ -12,12 +12,13 @@ pub use Rattle.calculation.proofs.Sweeping.{
   going-within,
   settled-run,
 }
-pub use Rattle.calculation.proofs.Placing.{Placed, kind-small, node-inside, node-injective, firstNumber, start-length, start-bounded, start-at, own-figures}
+pub use Rattle.calculation.proofs.Placing.{Placed, kind-small, node-inside, node-injective, firstNumber, start-length, start-bounded, start-at}
+pub use Rattle.calculation.proofs.Pricing.{low-within, high-within, end-figures, own-figures}
 pub use Rattle.calculation.proofs.Visiting.{getD-listed, Has}
 pub use Rattle.calculation.proofs.Accepting.{gate-cell, pin-count, gate-pin, role-group, role-row, depth-figure}
 pub use Rattle.calculation.proofs.Bounding.{within, settled, few-sweeps, settled-once, numbers-length, numbers-bounded}
 pub use Rattle.calculation.proofs.Exactness.{exact, unmentioned, entry-bounded}
-pub use Rattle.calculation.proofs.Between.{between}
+pub use Rattle.calculation.proofs.Between.{analysis-at, between}
 -- ---- runs from numbers that stand: the halves from whatever costs; `last-runs`, rows added and outputs added, which requests K11
 -- and K14 are to cite
 pub use Rattle.calculation.proofs.Observing.{setting-within, observing-within, last-runs}

@@ -1,5 +1,6 @@
 pub mod Sweeping
 pub mod Placing
+pub mod Pricing
 pub mod Visiting
 pub mod Accepting
 pub mod Bounding

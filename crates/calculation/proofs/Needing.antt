@@ -22,7 +22,7 @@ module _ (k : Kind) (cells : List Cell) (ss : List Statement) (sound : BothSound
   cell = cellOf cells g
 
   -- What a visit needs is what a column asks for.
-  column : (role : Role) (n : ℕ) → Needs (visit k cells g role) n → (c : Column) × MayName (cell .pins) role c × (node k (asked g c) ≡ n)
+  pub column : (role : Role) (n : ℕ) → Needs (visit k cells g role) n → (c : Column) × MayName (cell .pins) role c × (node k (asked g c) ≡ n)
   unfolding visit waysOf wayOf needs
   column role n d =
       let r : (r : Row) × List·Memᴰ r (usable g cell role (groupOf k cell role)) × (wayOf k g cell role r ≡ d .way) =

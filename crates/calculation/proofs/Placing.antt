@@ -1,7 +1,7 @@
 -- Where numbers stand: each purpose in each kind has a place of its own in the table, and what stands there at the start.
 -- Assumes nothing.
 use mathlib.Core.Bool.{Bool, true, false}
-use mathlib.Core.List.{List, _++_}
+use mathlib.Core.List.{List, [], _∷_, _++_}
 use mathlib.Core.Path.{_≡_, refl, _∙_, ap, ap₂}
 use Prim.Native.Nat.{ℕ, zero, suc, _+_, _*_, _-_, _%_, _≤_, _<_}
 use native.Mathlib.Nat.{le-refl}
@@ -14,11 +14,9 @@ use Rattle.reading.specs.Choice.{pick}
 use Rattle.cost.specs.Cost.{most, never}
 use Rattle.plans.specs.Sweep.{at, Bounded}
 use Rattle.netlist.specs.Netlist.{Statement, isInput, isOutput}
-use Rattle.cell_library.specs.Cells.{Cell}
 use Rattle.netlist.specs.Sound.{InRange}
 use Rattle.calculation.specs.Nodes.{Kind, combinational, sequential, kindNumber, Purpose, set, observe, lineOf, costIndex, node}
-use Rattle.calculation.specs.Prices.{Pricing, Figures, inputCost, pricesOf}
-use Rattle.calculation.specs.Acceptance.{BothSound}
+use Rattle.calculation.specs.Prices.{Pricing, Figures, inputCost}
 use Rattle.calculation.specs.Calculation.{startLine, startLines, startAt}
 
 -- A purpose that the table has a number for: a line from 1 to 1,000, and a value 0 or 1.
@@ -110,7 +108,7 @@ module _ (price : Pricing) (ss : List Statement) where
       ∙ ap (λ (m : ℕ). getD (startLine price ss m) j never) l
 
   -- "inputs CC 1 and SC 0 for both values, all other controllabilities never. .. CO and SO start at 0 for outputs, never
-  -- elsewhere"
+  -- elsewhere": an input's price in the place of CC's 1.
   abbrev pub firstNumber : Kind → Purpose → ℕ
   firstNumber k (set l v) = pick (isInput l ss) (inputCost price k l) never
   firstNumber k (observe l) = pick (isOutput l ss) 0 never
@@ -154,10 +152,3 @@ module _ (price : Pricing) (ss : List Statement) where
   pub start-bounded : Figures price ss → Bounded (startAt price ss)
   unfolding startAt
   start-bounded f = lines-bounded f Size.lines 1
-
--- ---- the prices of the netlist itself
-
--- .. are figures.
-pub own-figures : {cells : List Cell} {ss : List Statement} → BothSound cells ss → Figures (pricesOf ss) ss
-unfolding pricesOf
-own-figures sound l e = omega arith

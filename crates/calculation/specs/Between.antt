@@ -1,32 +1,41 @@
--- Numbers at other prices, as document 02, K10, has them: "However the true prices fall within the ranges, each CC and CO number lies between
--- the two printed, and never is printed in both or neither. SC and SO ignore ranges."
+-- The calculation at whatever prices within the ranges. Document 02, K10: "However the true prices fall within the ranges,
+-- each CC and CO number lies between the two printed, and never is printed in both or neither. SC and SO ignore ranges. Demand
+-- 3 holds each report's costs against plans at that report's own prices".
 -- Assumes nothing.
-use mathlib.Core.Bool.{true}
 use mathlib.Core.List.{List}
 use mathlib.Core.Logic.{_↔_}
 use mathlib.Core.Path.{_≡_}
 use Prim.Native.Nat.{ℕ, _≤_}
-use lib.ListN.{getD}
+use lib.ListN.{length, getD}
 use Rattle.cost.specs.Cost.{never}
 use Rattle.cell_library.specs.Cells.{Cell}
-use Rattle.netlist.specs.Netlist.{Statement, isInput}
+use Rattle.netlist.specs.Netlist.{Statement, gatesOf, lowPrice, highPrice}
 use Rattle.calculation.specs.Nodes.{Kind, combinational, sequential, Purpose, node}
 use Rattle.calculation.specs.Prices.{Pricing}
-use Rattle.calculation.specs.Calculation.{analysedAt}
+use Rattle.calculation.specs.Calculation.{Analysed, analysedAt}
+use Rattle.calculation.specs.Settled.{SettledAt, FewSweeps}
+use Rattle.calculation.specs.Plans.{ExactAt}
 
 -- The number of the calculation at these prices.
 abbrev pub numberAt : Pricing → List Cell → List Statement → Kind → Purpose → ℕ
 numberAt price cells ss k p = getD (analysedAt price cells ss .numbers) (node k p) 0
 
--- No input costs more at the first prices than at the second.
-abbrev pub NoDearer : List Statement → Pricing → Pricing → Type 0
-NoDearer ss low high = (l : ℕ) → isInput l ss ≡ true → low l ≤ high l
+-- Demand 2 at these prices: the numbers and counts follow the rule, no others do, and the sweeps are few. "SC and SO ignore
+-- ranges.": their sweeps are as many as at LOW.
+pub record AnalysisAt (cells : List Cell) (ss : List Statement) (price : Pricing) : Type 0 where
+  pub settled : SettledAt price cells ss (analysedAt price cells ss)
+  pub settledOnce : (a : Analysed) → SettledAt price cells ss a → a ≡ analysedAt price cells ss
+  pub fewSweeps : FewSweeps (length (gatesOf ss)) (analysedAt price cells ss .counts)
+  pub sameSC : analysedAt price cells ss .counts .sc ≡ analysedAt (lowPrice ss) cells ss .counts .sc
+  pub sameSO : analysedAt price cells ss .counts .so ≡ analysedAt (lowPrice ss) cells ss .counts .so
 
--- The numbers of one purpose, at the lowest prices, the highest, and any between.
-pub record Between (cells : List Cell) (ss : List Statement) (low high : Pricing) (p : Purpose) : Type 0 where
-  pub above : (price : Pricing) → NoDearer ss low price → NoDearer ss price high
-      → numberAt low cells ss combinational p ≤ numberAt price cells ss combinational p
-  pub below : (price : Pricing) → NoDearer ss low price → NoDearer ss price high
-      → numberAt price cells ss combinational p ≤ numberAt high cells ss combinational p
-  pub same : numberAt low cells ss sequential p ≡ numberAt high cells ss sequential p
-  pub bothNever : (k : Kind) → (numberAt low cells ss k p ≡ never) ↔ (numberAt high cells ss k p ≡ never)
+-- Demand 3 at these prices, of one purpose, and where its numbers lie.
+pub record Between (cells : List Cell) (ss : List Statement) (price : Pricing) (p : Purpose) : Type 0 where
+  pub exact : (k : Kind) → ExactAt price cells ss k p (numberAt price cells ss k p)
+  -- "each CC and CO number lies between the two printed"
+  pub above : numberAt (lowPrice ss) cells ss combinational p ≤ numberAt price cells ss combinational p
+  pub below : numberAt price cells ss combinational p ≤ numberAt (highPrice ss) cells ss combinational p
+  -- "never is printed in both or neither"
+  pub bothNever : (k : Kind) → (numberAt price cells ss k p ≡ never) ↔ (numberAt (lowPrice ss) cells ss k p ≡ never)
+  -- "SC and SO ignore ranges."
+  pub same : numberAt price cells ss sequential p ≡ numberAt (lowPrice ss) cells ss sequential p

@@ -76,5 +76,5 @@ analysed cells ss = analysedAt (pricesOf ss) cells ss
 
 -- Opens the page's definitions, where a figure computes with them.
 unfoldable pub calculation-open : ℕ
-unfolding ways-open netlist-open inputCost pricesOf startLine startLines startAt runStage run analysedAt
+unfolding ways-open netlist-open inputCost startLine startLines startAt runStage run analysedAt
 calculation-open = 0

@@ -11,7 +11,8 @@ use Rattle.cell_library.specs.Layout.{libraryWords}
 use Rattle.netlist.specs.Netlist.{Statement}
 use Rattle.netlist.specs.Layout.{netlistWords}
 use Rattle.calculation.specs.Acceptance.{BothSound}
-use Rattle.calculation.specs.Calculation.{Analysed, analysed}
+use Rattle.calculation.specs.Prices.{Pricing}
+use Rattle.calculation.specs.Calculation.{Analysed, analysedAt, analysed}
 use Rattle.calculation.specs.declared.Counts.{Counts}
 
 -- The library and the netlist table hold accepted cells and statements, whatever stands past their published sizes.
@@ -37,11 +38,11 @@ pub record Ready (library netlist numbers : List ℕ) : Type 0 where
 abbrev pub whole : Counts → List ℕ → Analysed
 whole counts xs = record { numbers = xs; counts = counts }
 
--- The numbers and the four sweep counts are those of Goldstein's calculation; "Entries past a table's published size keep
--- their values on acceptance."
-pub record Calculated (cells : List Cell) (ss : List Statement) (before after : List ℕ) (said : Counts) : Type 0 where
-  pub numbers : after ≡ analysed cells ss .numbers ++ drop Size.numbers before
-  pub counts : said ≡ analysed cells ss .counts
+-- The numbers and the four sweep counts are those of Goldstein's calculation at these prices; "Entries past a table's published
+-- size keep their values on acceptance."
+pub record Calculated (price : Pricing) (cells : List Cell) (ss : List Statement) (before after : List ℕ) (said : Counts) : Type 0 where
+  pub numbers : after ≡ analysedAt price cells ss .numbers ++ drop Size.numbers before
+  pub counts : said ≡ analysedAt price cells ss .counts
 
 -- ---- behind the calculation
 

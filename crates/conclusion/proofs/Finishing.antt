@@ -1,19 +1,15 @@
 -- The end of a call, from what `conclude` and `clear_all` do.
 -- Assumes nothing.
-use mathlib.Core.Bool.{false}
-use mathlib.Core.List.{List, [], _++_}
+use mathlib.Core.List.{List, _++_}
 use mathlib.Core.Path.{_≡_, refl, sym, _∙_}
 use Prim.Native.Nat.{ℕ}
-use borrow.Author.Tests.{ltb-false}
-use lib.Dec.{ltb}
 use lib.ListN.{length, drop, replicate}
 use Rattle.reading.specs.Numbers as No
-use Rattle.reading.specs.Refusal.{Read, refused, read, weigh}
+use Rattle.reading.specs.Refusal.{Read, refused, read}
 use Rattle.reading.specs.declared.Refusal.{Refusal}
-use Rattle.reading.proofs.Laws.{refused-read, then-read, weigh-one}
+use Rattle.reading.proofs.Laws.{refused-read}
 use Rattle.cell_library.specs.Cells.{Cell}
 use Rattle.netlist.specs.Netlist.{Statement}
-use Rattle.calculation.specs.Calculation.{analysed}
 use Rattle.writer.specs.Buffer.{leftBy}
 use Rattle.writer.proofs.Buffer.{text-fits}
 use Rattle.calculation.specs.Stored.{Holds}
@@ -23,16 +19,9 @@ use Rattle.read_pair.specs.declared.Progress.{Progress}
 use Rattle.read_pair.specs.declared.Progress.the-variants.{Unrefused, AtEntry, Later}
 use Rattle.outcome.specs.declared.Summary.{Summary}
 use Rattle.outcome.specs.Answer.{answerRead, lentOf}
-use Rattle.outcome.specs.Outcome.{Lent, Accepted, conclude, answer, reportOf, zeroed}
+use Rattle.outcome.specs.Outcome.{Lent, Accepted, conclude, answer, reports, zeroed}
 use Rattle.conclusion.specs.Finished.{Concluded, made, Made, Finished}
-use Rattle.outcome.proofs.Accepting.{concluded, concludes}
-
--- A report that is concluded fits its buffer.
-fits : (cells : List Cell) (ss : List Statement) (space : ℕ) (a : Accepted) → conclude cells ss space ≡ read a
-    → ltb space (length (reportOf ss (analysed cells ss))) ≡ false
-unfolding conclude
-fits cells ss space a e =
-    then-read (weigh 0 _) (read (concluded cells ss)) a (λ u p q. weigh-one No.reportLong 0 _ [] u p .0) e
+use Rattle.outcome.proofs.Accepting.{concludes}
 
 module _ (s : Progress) (m : Lent) where
   pub finished-entry : (r : Refusal) → s ≡ AtEntry r → Finished s m m (answerRead (Answers.Refused r))
@@ -52,11 +41,11 @@ module _ (s : Progress) (m : Lent) where
     made-from cells ss x c (refused number line) q = refused-read (sym (rw q at (c .answers)))
     made-from cells ss x c (read b) q =
         let same = concludes cells ss (length (m .report)) b q in
-        let within = text-fits No.reportLong (length (m .report)) (reportOf ss (analysed cells ss)) (ltb-false _ _ (fits cells ss (length (m .report)) b q)) in
-        let report : ra ≡ reportOf ss (analysed cells ss) ++ drop (length (reportOf ss (analysed cells ss))) (m .report) = rw within at (c .report) in
+        let within = text-fits No.reportLong (length (m .report)) (reports cells ss) (same .1) in
+        let report : ra ≡ reports cells ss ++ drop (length (reports cells ss)) (m .report) = rw within at (c .report) in
         record {
           answers = rw q at (c .answers);
-          leaves = rw (← same) (λ i. lentOf (m .library) (m .netlist) (c .numbers i) (report i));
+          leaves = rw (← same .0) (λ i. lentOf (m .library) (m .netlist) (c .numbers i) (report i));
         }
 
     pub finished-made : (x : Summary) → a ≡ Answers.Accepted x → Finished s m (lentOf (m .library) (m .netlist) na ra) (answerRead (Answers.Accepted x))

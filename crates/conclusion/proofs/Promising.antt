@@ -29,7 +29,7 @@ module _ (g : Given) (m : Lent) (checked : Checked g) (library′ netlist′ : L
   left-made b (read a) e =
       let same = concludes (b .pair .cells) (b .pair .statements) (length (m .report)) a e in
       let x = concluded (b .pair .cells) (b .pair .statements) in
-      rw (← same)
+      rw (← same .0)
       (λ i. lentOf (b .cellsStand i) (b .statementsStand i) (x .analysis .numbers ++ drop Size.numbers (m .numbers)) (x .report ++ drop (length (x .report)) (m .report)))
 
   pub promised : (s : Progress) → Reached g (entry g m) (m .library) (m .netlist) library′ netlist′ s → (after : Lent) (said : Read Summary)

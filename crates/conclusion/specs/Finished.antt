@@ -17,13 +17,13 @@ use Rattle.outcome.specs.Outcome as O
 use Rattle.read_pair.specs.declared.Progress.{Progress}
 use Rattle.read_pair.specs.declared.Progress.the-variants.{Unrefused, AtEntry, Later}
 
--- The calculation and the report of accepted cells and statements.
+-- The calculation and the report, or both reports, of accepted cells and statements.
 pub record Concluded (cells : List Cell) (ss : List Statement) (numbersBefore reportBefore numbersAfter reportAfter : List ℕ)
     (said : Read Summary) : Type 0 where
   pub answers : said ≡ O.answer (O.conclude cells ss (length reportBefore))
   pub numbers : numbersAfter ≡ analysed cells ss .numbers ++ drop Size.numbers numbersBefore
   pub report : reportAfter
-      ≡ leftBy (textWithin No.reportLong (length reportBefore) (O.reportOf ss (analysed cells ss))) reportBefore
+      ≡ leftBy (textWithin No.reportLong (length reportBefore) (O.reports cells ss)) reportBefore
 
 -- What the calculation and the report leave in tables that hold what was read.
 unfoldable pub made : Read O.Accepted → O.Lent → O.Lent
@@ -39,6 +39,12 @@ made (read a) m =
 pub record Made (o : Read O.Accepted) (before after : O.Lent) (said : Read Summary) : Type 0 where
   pub answers : said ≡ O.answer o
   pub leaves : after ≡ made o before
+
+-- What the second report asks: the tables hold accepted cells and statements.
+pub record Holding (library netlist : List ℕ) : Type 0 where
+  pub cells : List Cell
+  pub statements : List Statement
+  pub holds : Holds library netlist cells statements
 
 -- What the end asks: where nothing is refused, the tables hold what was read.
 abbrev pub ReadyIfUnrefused : Progress → List ℕ → List ℕ → List ℕ → Type 0

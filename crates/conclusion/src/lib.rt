@@ -8,13 +8,34 @@ use outcome::Summary;
 use read_pair::Progress;
 use read_pair::clear_all;
 use reading::REPORT_LONG;
+use starting::HIGH;
+use starting::LOW;
 use writer::Written;
 ghost use mathlib.Core.List.{List};
 ghost use Rattle.cell_library.specs.Cells.{Cell};
 ghost use Rattle.netlist.specs.Netlist.{Statement};
 ghost use Rattle.calculation.specs.Stored.{Holds, Ready};
+ghost use Rattle.writer.specs.Put.{Put};
 ghost use Rattle.outcome.specs.Answer.{answerRead, lentOf};
-ghost use Rattle.conclusion.specs.Finished.{Concluded, ReadyIfUnrefused, Finished};
+ghost use Rattle.outcome.specs.Outcome.{second};
+ghost use Rattle.conclusion.specs.Finished.{Concluded, Holding, ReadyIfUnrefused, Finished};
+
+// The second report of a netlist with ranges, at HIGH, behind the first; nothing where there is no range.
+// Its numbers are its own: the lent table keeps those at LOW.
+fn put_second(library: &[u32], netlist: &[u32], report: &mut [u8], at: usize) -> usize
+    requires { ⌜ Holding (now library) (now netlist) ⌝ }
+    ensures { λ r. ⌜ ((cells : List Cell) (ss : List Statement)
+        → Holds (now (library .entry)) (now (netlist .entry)) cells ss
+        → Put at (second cells ss) (now (report .entry)) (now (report .exit)) r) ⌝ }
+{
+    if !netlist::some_range(netlist) {
+        return at;
+    }
+    let mut numbers = [0u32; sizes::NUMBERS];
+    let counts = sweep::calculate(library, netlist, &mut numbers, HIGH);
+    let next = report::put_high(report, at);
+    report::put_report(report, next, netlist, &numbers, counts)
+}
 
 // Calculates and reports, from tables that hold an accepted library and netlist.
 fn conclude(library: &[u32], netlist: &[u32], numbers: &mut [u32], report: &mut [u8]) -> Answer
@@ -24,8 +45,9 @@ fn conclude(library: &[u32], netlist: &[u32], numbers: &mut [u32], report: &mut 
         → Concluded cells ss (now (numbers .entry)) (now (report .entry))
         (now (numbers .exit)) (now (report .exit)) (answerRead r)) ⌝ }
 {
-    let counts = sweep::calculate(library, netlist, numbers);
-    let end = report::put_report(report, 0, netlist, numbers, counts);
+    let counts = sweep::calculate(library, netlist, numbers, LOW);
+    let low = report::put_report(report, 0, netlist, numbers, counts);
+    let end = put_second(library, netlist, report, low);
     let written = writer::close(report, end, REPORT_LONG);
     match written {
         Written::Refused(r) => Answer::Refused(r),

@@ -17,7 +17,7 @@ use Rattle.reading.specs.Refusal.{Read, refused, read, _>>=_, _>>_, weigh, form
 use Rattle.reading.proofs.Laws.{by-test, clash, and-left, and-right, or-left, or-right, bind-read, refused-read, each-append}
 use Rattle.text.specs.Bytes.{bytes}
 use Rattle.text.specs.Lines.{split, fields, lines, sameBytes, lines-open}
-use Rattle.text.specs.Numeral.{digitBelow, allDigits, value, noLeadingZero, wellFormed, numeral, decimal}
+use Rattle.text.specs.Numeral.{digitBelow, allDigits, value, noLeadingZero, wellFormed, numeral, decimal, nameForm}
 use Rattle.text.proofs.Laws.{numeral-good, numeral-bad, wellFormed-digits}
 use Rattle.writer.specs.Decimal.{decimalBytes}
 use Rattle.writer.proofs.Decimal.{decimal-below, decimal-read}
@@ -25,7 +25,7 @@ use Rattle.cell_library.specs.Cells.{Cell}
 use Rattle.cell_library.specs.Library.{Fields}
 use Rattle.netlist.specs.declared.Rules.{Rules}
 use Rattle.netlist.specs.declared.Rules.the-variants.{Old, New}
-use Rattle.netlist.specs.Netlist.{Gate, Mark, input, output, opened, Statement, mark, gate, lone, markOf, gateOf, statementOf}
+use Rattle.netlist.specs.Netlist.{Gate, Mark, input, output, opened, Statement, mark, gate, lone, decimals, markOf, drivenBy, gateOf, statementOf, rangesIn, rangesOf, someRange, lowPrice}
 use Rattle.netlist.specs.Netlist.{member, linesOf, linesMarked, linesClaimed, linesNeeded, gatesIn, mentionedLines, markedLines}
 use Rattle.netlist.specs.Netlist.{claimedLines, neededLines, gatesOf, mentioned, isMarked, isInput, isOutput, claimed, lineBad}
 use Rattle.netlist.specs.Netlist.{causes, admitted, lineForm, lineForms, textStatements, undeclared, linesWhere, undeclaredLines}
@@ -33,6 +33,7 @@ use Rattle.netlist.specs.Netlist.{someLine, declared, netlist}
 use Rattle.netlist.specs.Admitting.{refusalOf, extended}
 use Rattle.netlist.specs.Lowest.{lowest}
 use Rattle.netlist.specs.Sound.{Apart}
+use Rattle.netlist.proofs.Unranged.{Unranged, none-unranged, pick-unranged, admitted-unranged, no-range}
 use Rattle.netlist.proofs.Causes.{lineBad-good, member-append, member-more, mark-cause, taken}
 use Rattle.netlist.proofs.Opening.{declared-read, needed-mentioned}
 use Rattle.netlist.proofs.Admitting.{admitted-more, admitted-refused}
@@ -45,19 +46,52 @@ use Rattle.copying.proofs.Splitting.{Good, lines-append, Unmarked, spli
 -- ---- the netlist itself, by the new rules
 
 -- What the old rules read, the new rules read alike.
-new-pick : {A : Type 0} (a b c d : Bool) (x y z w : Option A) (s : A) → pick a x (pick b y (pick c z (pick (false && d) w none))) ≡ some s
-    → pick a x (pick b y (pick c z (pick (true && d) w none))) ≡ some s
+new-pick : {A : Type 0} (a b c d f : Bool) (x y z w v : Option A) (s : A)
+    → pick a x (pick b y (pick c z (pick (false && d) w (pick (false && f) v none)))) ≡ some s
+    → pick a x (pick b y (pick c z (pick (true && d) w (pick (true && f) v none)))) ≡ some s
 unfolding pick
-new-pick true b c d x y z w s e = e
-new-pick false true c d x y z w s e = e
-new-pick false false true d x y z w s e = e
-new-pick false false false d x y z w s e = let n : _≡_ {A = ℕ} 0 1 = cc in absurd (omega arith)
+new-pick true b c d f x y z w v s e = e
+new-pick false true c d f x y z w v s e = e
+new-pick false false true d f x y z w v s e = e
+new-pick false false false d f x y z w v s e = let n : _≡_ {A = ℕ} 0 1 = cc in absurd (omega arith)
 
 form-new : (cells : List Cell) (l : Option Fields) (s : Statement) → lineForm Old cells l ≡ some s → lineForm New cells l ≡ some s
 unfolding lineForm statementOf
 form-new cells none s e = e
 form-new cells (some []) s e = e
-form-new cells (some (f ∷ fs)) s e = new-pick _ _ _ _ _ _ _ _ s e
+form-new cells (some (f ∷ fs)) s e = new-pick _ _ _ _ _ _ _ _ _ _ s e
+
+-- The old rules know no range.
+mark-unranged : (m : Mark) (o : Option ℕ) → Unranged (markOf m o)
+unfolding Unranged markOf rangesIn
+mark-unranged m none s e = none-unranged s e
+mark-unranged m (some l) s e = let same : mark m l ≡ s = cc in rw (← same)
+
+drives-unranged : (cell : ℕ) (o : Option (List ℕ)) → Unranged (drivenBy cell o)
+unfolding Unranged drivenBy rangesIn
+drives-unranged cell none s e = none-unranged s e
+drives-unranged cell (some []) s e = none-unranged s e
+drives-unranged cell (some (l ∷ ps)) s e =
+    let same : gate (record { cell = cell; line = l; pins = ps }) ≡ s = cc in rw (← same)
+
+gate-unranged : (cells : List Cell) (fs : Fields) → Unranged (gateOf cells fs)
+unfolding gateOf
+gate-unranged cells [] = none-unranged
+gate-unranged cells (name ∷ fs) = pick-unranged (nameForm name) _ none (drives-unranged _ (decimals fs)) none-unranged
+
+old-unranged : (cells : List Cell) (l : Option Fields) → Unranged (lineForm Old cells l)
+unfolding lineForm statementOf pick
+old-unranged cells none = none-unranged
+old-unranged cells (some []) = none-unranged
+old-unranged cells (some (f ∷ fs)) =
+    pick-unranged (sameBytes f (bytes "input")) _ _ (mark-unranged input (lone fs))
+    (pick-unranged (sameBytes f (bytes "output")) _ _ (mark-unranged output (lone fs))
+    (pick-unranged (sameBytes f (bytes "gate")) _ none (gate-unranged cells fs) none-unranged))
+
+all-unranged : (cells : List Cell) (ls : List (Option Fields)) → Each Unranged (lineForms Old cells ls)
+unfolding Each lineForms
+all-unranged cells [] = tt
+all-unranged cells (l ∷ ls) = (old-unranged cells l, all-unranged cells ls)
 
 none-refused : (line : ℕ) (cells : List Cell) (ss : List Statement) (ws : List (Option Statement))
     → admitted line cells ss (none ∷ ws) ≡ refused No.netlistForm line
@@ -365,13 +399,18 @@ module _ (ss : List Statement) where
   unfolding isMarked markedLines declaredToo
   marked-too m h l = rw (opens-silent (linesMarked m) h ss ls)
 
+  ranges-too : rangesOf (declaredToo ss) ≡ rangesOf ss
+  unfolding rangesOf declaredToo
+  ranges-too = opens-silent rangesIn (λ k. unfold rangesIn in refl) ss ls
+
   lines-too : (n first : ℕ) → startLines (pricesOf (declaredToo ss)) (declaredToo ss) n first ≡ startLines (pricesOf ss) ss n first
-  unfolding startLines startLine inputCost pricesOf
+  unfolding startLines startLine inputCost lowPrice
   lines-too zero first = refl
   lines-too (suc n) first =
       rw (
         marked-too input (λ k. unfold linesMarked pick in refl) first,
         marked-too output (λ k. unfold linesMarked pick in refl) first,
+        ranges-too,
         lines-too n (suc first),
       )
 
@@ -416,4 +455,13 @@ module _ (cells : List Cell) (net : List ℕ) (ss : List Statement) (e : netlist
 
 pub copy-keeps : CopyKeeps
 copy-keeps cells net ss e =
-    record { accepts = accepts cells net ss e; numbers = numbers-too ss cells; mentions = mentioned-too ss }
+    record {
+      accepts = accepts cells net ss e;
+      numbers = numbers-too ss cells;
+      unranged =
+          no-range (declaredToo ss)
+          (ranges-too ss
+          ∙ admitted-unranged 1 cells [] (lineForms Old cells (lines net)) ss (all-unranged cells (lines net)) (unfold rangesOf flatMap in refl)
+          (unfold textStatements in old cells net ss e));
+      mentions = mentioned-too ss;
+    }

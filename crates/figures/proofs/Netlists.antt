@@ -1,5 +1,5 @@
 -- Figures of document 01 "Netlist" and "Where a text stops", by computation: the NAND2 latch of "Figures to hold" reads to
--- its statements, and a text for each refusal 10 to 15, and 20, is refused by its number at its line. Assumes nothing.
+-- its statements, and a text for each refusal 10 to 15, and 20 to 22, is refused by its number at its line. Assumes nothing.
 use mathlib.Core.List.{List, [], _∷_}
 use mathlib.Core.Path.{_≡_, refl}
 use Prim.Native.Nat.{ℕ}
@@ -85,7 +85,32 @@ pub refused-20 : readAll
 unfolding readAll netlist-open
 refused-20 = refl
 
--- By the old rules `open` is bad form, and there is no 20.
-pub by-old : (netlist Old cells (text ("open,1" ∷ [])) ≡ refused 10 1) × (netlist Old cells (text ("output,1" ∷ [])) ≡ read (mark output 1 ∷ []))
+-- 21: above its input, on a gate's line, on an open one, with bounds that 22 would refuse; 11 comes before it.
+pub refused-21 : readAll
+    (text ("range,1,1,2" ∷ "input,1" ∷ [])
+    ∷ text ("input,1" ∷ "gate,NAND2,3,1,1" ∷ "range,3,1,2" ∷ [])
+    ∷ text ("open,1" ∷ "range,1,2,1" ∷ [])
+    ∷ text ("range,0,2,1" ∷ [])
+    ∷ [])
+    ≡ refused 21 1 ∷ refused 21 3 ∷ refused 21 2 ∷ refused 11 1 ∷ []
+unfolding readAll netlist-open
+refused-21 = refl
+
+-- 22: 0 and 1,000, LOW above HIGH, and a second range, which is good itself. A bound of six digits is bad form.
+pub refused-22 : readAll
+    (text ("input,1" ∷ "range,1,0,2" ∷ [])
+    ∷ text ("input,1" ∷ "range,1,1,1000" ∷ [])
+    ∷ text ("input,1" ∷ "range,1,3,2" ∷ [])
+    ∷ text ("input,1" ∷ "range,1,1,999" ∷ "range,1,1,999" ∷ [])
+    ∷ text ("input,1" ∷ "range,1,1,100000" ∷ [])
+    ∷ [])
+    ≡ refused 22 2 ∷ refused 22 2 ∷ refused 22 2 ∷ refused 22 3 ∷ refused 10 2 ∷ []
+unfolding readAll netlist-open
+refused-22 = refl
+
+-- By the old rules `open` and `range` are bad form, and there is no 20.
+pub by-old : (netlist Old cells (text ("open,1" ∷ [])) ≡ refused 10 1)
+    × (netlist Old cells (text ("input,1" ∷ "range,1,2,3" ∷ [])) ≡ refused 10 2)
+    × (netlist Old cells (text ("output,1" ∷ [])) ≡ read (mark output 1 ∷ []))
 unfolding netlist-open
-by-old = (refl, refl)
+by-old = (refl, refl, refl)

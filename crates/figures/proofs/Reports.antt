@@ -16,7 +16,7 @@ use Rattle.report.specs.Report.{reportBytes, report-open}
 use Rattle.outcome.specs.declared.Summary.{Summary}
 use Rattle.outcome.specs.Outcome.{Given, Lent, Accepted, outcome, givenTexts, summary, answer, left, leftFrom, leftLater, filled, zeroed}
 use Rattle.figures.specs.Entries.{nand2}
-use Rattle.figures.specs.Figures.{Figure, Holds, outcome-open, lent, reported, c1130Figure, undrivenFigure}
+use Rattle.figures.specs.Figures.{Figure, Holds, outcome-open, lent, reported, c1130Figure, rangeFigure, undrivenFigure}
 
 -- ---- whole reports
 
@@ -47,23 +47,30 @@ unmentioned :
 unfolding outcome-open lent numbersOf given
 unmentioned = refl
 
--- What C1130's analysis comes to with a buffer of this many bytes, each 5: the answer, and the buffer afterwards.
-answered : ℕ → Read Summary × List ℕ
-answered space =
+-- What a figure's analysis comes to with a buffer of this many bytes, each 5: the answer, and the buffer afterwards.
+answered : Figure → ℕ → Read Summary × List ℕ
+answered f space =
     let m = lent (replicate space 5) in
-    (answer (outcome (given c1130Figure) m), left (given c1130Figure) m .report)
+    (answer (outcome (given f) m), left (given f) m .report)
 
-fits : Summary
-fits = record { length = 98; counts = record { cc = 2; sc = 2; co = 2; so = 2 } }
+fits : ℕ → Summary
+fits n = record { length = n; counts = record { cc = 2; sc = 2; co = 2; so = 2 } }
 
 -- The 98 bytes of the report fill a buffer of that length, and leave what is behind them in a longer one. "17 report longer
 -- than its buffer": one that is shorter is left zero (D31).
 buffers :
-    (answered 98 ≡ (read fits, text (c1130Figure .report))) ×
-    (answered 100 ≡ (read fits, text (c1130Figure .report) ++ (5 ∷ 5 ∷ []))) ×
-    (answered 97 ≡ (refused No.reportLong 0, replicate 97 0))
+    (answered c1130Figure 98 ≡ (read (fits 98), text (c1130Figure .report))) ×
+    (answered c1130Figure 100 ≡ (read (fits 98), text (c1130Figure .report) ++ (5 ∷ 5 ∷ []))) ×
+    (answered c1130Figure 97 ≡ (refused No.reportLong 0, replicate 97 0))
 unfolding outcome-open lent given answered fits answer summary left leftFrom leftLater filled zeroed
 buffers = (refl, refl, refl)
+
+-- "refusal 17 counts both reports" (02, K10): two of 98 bytes and the line between them.
+both-weighed :
+    (answered rangeFigure 201 ≡ (read (fits 201), text (rangeFigure .report))) ×
+    (answered rangeFigure 200 ≡ (refused No.reportLong 0, replicate 200 0))
+unfolding outcome-open lent given answered fits answer summary left leftFrom leftLater filled zeroed
+both-weighed = (refl, refl)
 
 -- "1 a lent table below its published size; 2 a text above 65,535 bytes"; "Entry refusals leave lent memory
 -- untouched" (D33).

@@ -16,13 +16,13 @@ use Rattle.netlist.specs.Netlist.{netlist-open}
 use Rattle.calculation.specs.Calculation.{calculation-open}
 use Rattle.plans.specs.Sweep.{sweep-open}
 use Rattle.report.specs.Report.{report-open}
-use Rattle.outcome.specs.Outcome.{Lent, Accepted, entry, outcome, tableShort, textLong, reportOf, conclude, readPair, reading, givenBy, givenTexts}
+use Rattle.outcome.specs.Outcome.{Lent, Accepted, entry, outcome, tableShort, textLong, reportOf, second, reports, conclude, readPair, reading, givenBy, givenTexts}
 use Rattle.figures.specs.Entries.{c1130, c1490, nand2, and2, both2, xor2}
 
 -- Opens all that a whole analysis computes with.
 unfoldable pub outcome-open : ℕ
 unfolding library-open netlist-open calculation-open report-open bytes-open sweep-open
-    outcome entry tableShort textLong reportOf conclude readPair reading givenBy
+    outcome entry tableShort textLong reportOf second reports conclude readPair reading givenBy
 outcome-open = 0
 
 -- Tables of the published sizes and a report buffer.
@@ -65,6 +65,31 @@ c1130Figure =
           ∷ "2,1,1,0,0,3,0"
           ∷ "3,1,1,0,0,3,0"
           ∷ "4,2,4,0,0,0,0"
+          ∷ "sweeps,2,2,2,2"
+          ∷ [];
+    }
+
+-- Document 02, K10: "With such a line present the report is printed twice, all inputs at LOW and all at HIGH, the second after
+-- a line `high`." By hand: the output is 0 by input 2 or 3, at 1 and depth 1; it is 1 by all three, at their prices and depth
+-- 1; and to observe an input the other two are set, so that the price of 1 stands in CO of 2 and 3 and not in its own.
+abbrev pub rangeFigure : Figure
+rangeFigure =
+    record {
+      library = c1130;
+      netlist = "input,1" ∷ "input,2" ∷ "input,3" ∷ "range,1,2,5" ∷ "gate,C1130,4,1,2,3" ∷ "output,4" ∷ [];
+      report =
+          "line,cc0,cc1,sc0,sc1,co,so"
+          ∷ "1,2,2,0,0,3,0"
+          ∷ "2,1,1,0,0,4,0"
+          ∷ "3,1,1,0,0,4,0"
+          ∷ "4,2,5,0,0,0,0"
+          ∷ "sweeps,2,2,2,2"
+          ∷ "high"
+          ∷ "line,cc0,cc1,sc0,sc1,co,so"
+          ∷ "1,5,5,0,0,3,0"
+          ∷ "2,1,1,0,0,7,0"
+          ∷ "3,1,1,0,0,7,0"
+          ∷ "4,2,8,0,0,0,0"
           ∷ "sweeps,2,2,2,2"
           ∷ [];
     }
@@ -241,6 +266,7 @@ figures =
     ∷ tiedFigure
     ∷ backwardsFigure
     ∷ undrivenFigure
+    ∷ rangeFigure
     ∷ emptyFigure
     ∷ []
 
@@ -248,5 +274,5 @@ pub figures-hold : Each Decodes rows × Each Holds figures
 unfolding outcome-open lent reported Each
 figures-hold = (
   ((refl, refl), ((refl, refl), ((refl, refl), tt))),
-  (refl, (refl, (refl, (refl, (refl, (refl, (refl, (refl, (refl, (refl, (refl, tt))))))))))),
+  (refl, (refl, (refl, (refl, (refl, (refl, (refl, (refl, (refl, (refl, (refl, (refl, tt)))))))))))),
 )

@@ -13,8 +13,7 @@ ghost use Prim.Native.Nat.{_+_, _*_, _≤_};
 ghost use lib.ListN.{take};
 ghost use Rattle.sizes.specs.Sizes as Size;
 ghost use Rattle.outcome.specs.Answer.{answerRead, lentOf};
-ghost use Rattle.outcome.specs.Demands.{Promised};
-ghost use Rattle.records.specs.Outcome.{givenRecords};
+ghost use Rattle.records.specs.Outcome.{RecordsPromised};
 
 // One entry below the published size, and one byte above what a text may have.
 const NUMBERS_SHORT: usize = sizes::NUMBERS - 1;
@@ -52,7 +51,7 @@ fn lend(
     report: &mut [u8],
 ) -> Answer
     requires { ⌜ count ≤ 2 * Size.lines + 1 ⌝ }
-    ensures { λ r. ⌜ Promised (givenRecords (now (lib .entry)) (take count records))
+    ensures { λ r. ⌜ RecordsPromised (now (lib .entry)) (take count records)
         (lentOf (now (library .entry)) (now (netlist .entry)) (now (numbers .entry)) (now (report .entry)))
         (lentOf (now (library .exit)) (now (netlist .exit)) (now (numbers .exit)) (now (report .exit)))
         (answerRead r) ⌝ }

@@ -15,9 +15,9 @@ use Rattle.reading.specs.Choice.{pick}
 use Rattle.reading.specs.Refusal.{refused, _>>=_, _>>_, form}
 use Rattle.cell_library.specs.Cells.{Cell}
 use Rattle.netlist.specs.Lowest.{lowest, verdict}
-use Rattle.netlist.specs.Netlist.{Statement, member, mentionedLines, markedLines, claimedLines, gatesOf, mentioned}
+use Rattle.netlist.specs.Netlist.{Statement, member, mentionedLines, markedLines, claimedLines, gatesOf, rangesOf, rangedLines, ofRange, someLine, someRange, mentioned}
 use Rattle.netlist.specs.Netlist.{isMarked, claimed, causes, admit, admitted}
-use Rattle.netlist.specs.Layout.{gateWords, driverWord, outputWord, mentionWord, lineParts, lineWords, netlistWords}
+use Rattle.netlist.specs.Layout.{gateWords, driverWord, outputWord, mentionWord, rangeWord, rangedWord, lineParts, lineWords, netlistWords}
 use Rattle.netlist.specs.Admitting.{refusalOf, extended}
 use Rattle.netlist.proofs.Weighing.{weigh-lowest}
 use Rattle.netlist.proofs.Causes.{causes-counted}
@@ -54,12 +54,15 @@ no-gates : (n : ℕ) → fitted 0 n (blocks gateWords (gatesOf [])) ≡ replicat
 unfolding gatesOf flatMap blocks
 no-gates n = fitted-short 0 n [] (omega arith) ∙ ap (λ (k : ℕ). replicate k 0) (sub-zero n)
 
--- Three parts of n lines, all the same, 0, and the gates' d words. The lengths are variables, so that no list is computed.
+-- Four parts of n lines, all the same, 0, a word more, and the gates' d words. The lengths are variables, so that no list is
+-- computed.
 zeros : (n d : ℕ) (gs : List ℕ) → gs ≡ replicate d 0
     → _≡_ {A = List ℕ}
-    (0 ∷ ((lineWords (driverWord []) n 1 ++ (lineWords (outputWord []) n 1 ++ (lineWords (mentionWord []) n 1 ++ []))) ++ gs))
-    (replicate (suc (n + (n + (n + 0)) + d)) 0)
-unfolding driverWord outputWord mentionWord isMarked markedLines claimed claimedLines mentioned mentionedLines flatMap member pick
+    (0
+    ∷ ((lineWords (driverWord []) n 1 ++ (lineWords (outputWord []) n 1 ++ (lineWords (mentionWord []) n 1 ++ (lineWords (rangeWord []) n 1 ++ []))))
+    ++ (rangedWord [] ∷ gs)))
+    (replicate (suc (n + (n + (n + (n + 0))) + suc d)) 0)
+unfolding driverWord outputWord mentionWord rangeWord rangedWord someRange rangedLines someLine rangesOf ofRange isMarked markedLines claimed claimedLines mentioned mentionedLines flatMap member pick
 zeros n d gs e =
     rw (
       e,
@@ -67,7 +70,8 @@ zeros n d gs e =
       replicate-append-replicate {A = ℕ} n 0 0,
       replicate-append-replicate {A = ℕ} n (n + 0) 0,
       replicate-append-replicate {A = ℕ} n (n + (n + 0)) 0,
-      replicate-append-replicate {A = ℕ} (n + (n + (n + 0))) d 0,
+      replicate-append-replicate {A = ℕ} n (n + (n + (n + 0))) 0,
+      replicate-append-replicate {A = ℕ} (n + (n + (n + (n + 0)))) (suc d) 0,
     )
 
 no-words : netlistWords [] ≡ replicate Size.netlist 0

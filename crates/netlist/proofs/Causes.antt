@@ -4,24 +4,26 @@ use mathlib.Core.Bool.{Bool, true, false, not, _||_, or-false, or-true, or-assoc
 use mathlib.Core.List.{List, [], _∷_, _++_, append-nil, append-assoc, flatMap}
 use mathlib.Core.Logic.{_⊎_, ⊎-elim}
 use mathlib.Core.Path.{_≡_, refl, sym, ap, _∙_}
-use Prim.Native.Nat.{ℕ, zero, suc, _≤_, _<_}
+use Prim.Native.Nat.{ℕ, zero, suc, _+_, _*_, _≤_, _<_}
 use native.Mathlib.Nat.{not-suc-le-zero, le-of-suc-le-suc}
 use borrow.Author.Needs.{needs}
-use borrow.Author.Tests.{le-leb, lt-leb, leb-true, leb-false}
-use lib.Dec.{leb, eqb}
+use native.Mathlib.Omega.{arith}
+use borrow.Author.Tests.{le-leb, lt-leb, leb-true, leb-false, ltb-false, ne-eqb}
+use lib.Dec.{leb, ltb, eqb}
 use lib.ListN.{length, getD}
 use Rattle.sizes.specs.Sizes as Size
 use Rattle.reading.specs.Choice.{pick}
 use Rattle.reading.specs.Each.{Each}
 use Rattle.reading.specs.Numbers as No
-use Rattle.reading.proofs.Laws.{by-test, clash, or-cases}
+use Rattle.reading.proofs.Laws.{by-test, clash, or-left, or-right, or-cases}
 use Rattle.cell_library.specs.Cells.{Cell}
 use Rattle.netlist.specs.Lowest.{lowest}
-use Rattle.netlist.specs.Netlist.{Gate, Mark, input, output, opened, Statement, mark, gate, member, linesOf, linesMarked}
+use Rattle.netlist.specs.Netlist.{Gate, Mark, input, output, opened, Range, Statement, mark, gate, priced, member, linesOf, linesMarked}
 use Rattle.netlist.specs.Netlist.{linesClaimed, markedLines, claimedLines, isMarked, isInput}
 use Rattle.netlist.specs.Netlist.{isOutput, isOpen, claimed, lineBad, anyLineBad, unknownCell, pinsAt, countDiffers}
-use Rattle.netlist.specs.Netlist.{anyMember, drivenBefore, markedBefore, causes}
-use Rattle.netlist.specs.Layout.{driverWord, outputWord}
+use Rattle.netlist.specs.Netlist.{anyMember, drivenBefore, markedBefore, notInput, priceBad, boundsBad, rangeBad, linesRanged, rangesIn, rangedLines, rangesOf, hasRange, ofRange, causes}
+use Rattle.netlist.specs.Layout.{driverWord, outputWord, packed, rangeWord}
+use Rattle.netlist.specs.Sound.{RangeSound}
 use Rattle.netlist.specs.Admitting.{gateCause, markNumber}
 use Rattle.netlist.proofs.Weighing.{Counted, lowest-append}
 
@@ -104,11 +106,13 @@ mark-claims input c l (mark input k) e = e
 mark-claims input c l (mark output k) e = e
 mark-claims input c l (mark opened k) e = clash false e refl
 mark-claims input c l (gate g) e = clash false e refl
+mark-claims input c l (priced r) e = clash false e refl
 mark-claims output c l s e = clash false c refl
 mark-claims opened c l (mark input k) e = clash false e refl
 mark-claims opened c l (mark output k) e = e
 mark-claims opened c l (mark opened k) e = e
 mark-claims opened c l (gate g) e = clash false e refl
+mark-claims opened c l (priced r) e = clash false e refl
 
 pub marked-claimed : (m : Mark) → claiming m ≡ true → (l : ℕ) (ss : List Statement) → isMarked m l ss ≡ true
     → claimed l ss ≡ true
@@ -153,6 +157,55 @@ word-taken output ss l = go (isOutput l ss)
     go false = refl
 word-taken opened ss l = driver-taken ss l
 
+-- An input's word is 1, and no other.
+pub driver-input : (ss : List Statement) (l : ℕ) → eqb (driverWord ss l) 1 ≡ isInput l ss
+unfolding driverWord pick
+driver-input ss l = go (isInput l ss) (isOpen l ss) (claimed l ss)
+  where
+    go : (i o d : Bool) → eqb (pick i 1 (pick o 3 (pick d 2 0))) 1 ≡ i
+    go true o d = refl
+    go false true d = refl
+    go false false true = refl
+    go false false false = refl
+
+-- The lines of ranges.
+unfoldable pub rangeLines : List Range → List ℕ
+rangeLines [] = []
+rangeLines (r ∷ rs) = r .line ∷ rangeLines rs
+
+pub ranged-lines : (ss : List Statement) → rangedLines ss ≡ rangeLines (rangesOf ss)
+unfolding rangedLines linesRanged rangesOf rangesIn rangeLines flatMap
+ranged-lines [] = refl
+ranged-lines (mark m l ∷ ss) = ranged-lines ss
+ranged-lines (gate g ∷ ss) = ranged-lines ss
+ranged-lines (priced r ∷ ss) = ap (λ (ls : List ℕ). r .line ∷ ls) (ranged-lines ss)
+
+packed-taken : (ss : List Statement) (rs : List Range) (l : ℕ) → Each (RangeSound ss) rs
+    → eqb (ofRange packed 0 rs l) 0 ≡ not (member l (rangeLines rs))
+unfolding ofRange rangeLines member packed Each pick
+packed-taken ss [] l h = refl
+packed-taken ss (r ∷ rs) l h =
+    by-test (eqb (r .line) l)
+    (λ t. rw (t, ne-eqb (r .low + Size.prices * r .high) 0 (λ e. omega (arith, h .0 .least))))
+    (λ t. rw (t, packed-taken ss rs l (h .1)))
+
+-- The word of a range is 0 just where there is none.
+pub range-taken : (ss : List Statement) (l : ℕ) → Each (RangeSound ss) (rangesOf ss) → eqb (rangeWord ss l) 0 ≡ not (hasRange l ss)
+unfolding rangeWord hasRange
+range-taken ss l h = rw (ranged-lines ss) (packed-taken ss (rangesOf ss) l h)
+
+-- What good bounds are.
+pub bounds-fit : (low high : ℕ) → boundsBad low high ≡ false → (1 ≤ low) × (low ≤ high) × (high ≤ Size.mostPrice)
+unfolding boundsBad priceBad
+bounds-fit low high e =
+    let a : (ltb low 1 || ltb Size.mostPrice low) ≡ false = or-left _ _ e in
+    let rest = or-right (ltb low 1 || ltb Size.mostPrice low) _ e in
+    let b : (ltb high 1 || ltb Size.mostPrice high) ≡ false = or-left _ _ rest in (
+      ltb-false low 1 (or-left _ _ a),
+      ltb-false high low (or-right (ltb high 1 || ltb Size.mostPrice high) _ rest),
+      ltb-false Size.mostPrice high (or-right (ltb high 1) _ b),
+    )
+
 -- ---- the lowest cause
 
 pub causes-counted : (cells : List Cell) (ss : List Statement) (s : Statement) → Each Counted (causes cells ss s)
@@ -162,7 +215,7 @@ causes-counted cells ss s = search needs
 module _ (cells : List Cell) (ss : List Statement) where
   pub mark-cause : (m : Mark) (l : ℕ)
       → lowest (causes cells ss (mark m l)) ≡ pick (lineBad l) No.lineBad (pick (taken m ss l) (markNumber m) 0)
-  unfolding lowest causes linesOf linesMarked linesClaimed anyLineBad unknownCell countDiffers anyMember drivenBefore markedBefore taken isMarked claimed pick
+  unfolding lowest causes linesOf linesMarked linesClaimed anyLineBad unknownCell countDiffers anyMember drivenBefore markedBefore notInput rangeBad taken isMarked claimed pick
   mark-cause input l = rw (or-false (lineBad l), or-false (member l (claimedLines ss)))
   mark-cause output l = rw (or-false (lineBad l), or-false (member l (markedLines output ss)))
   mark-cause opened l = rw (or-false (lineBad l), or-false (member l (claimedLines ss)))
@@ -171,7 +224,7 @@ module _ (cells : List Cell) (ss : List Statement) where
   pub gate-causes : (g : Gate) → lowest (causes cells ss (gate g))
       ≡ pick (eqb (gateCause cells g) 0)
       (pick (claimed (g .line) ss) No.drivenBefore 0) (gateCause cells g)
-  unfolding causes gateCause lowest linesMarked linesClaimed anyMember drivenBefore markedBefore claimed pick Each
+  unfolding causes gateCause lowest linesMarked linesClaimed anyMember drivenBefore markedBefore notInput rangeBad claimed pick Each
   gate-causes g =
       lowest-append
       ((No.lineBad, anyLineBad (linesOf (gate g)))
@@ -180,9 +233,18 @@ module _ (cells : List Cell) (ss : List Statement) where
       ∷ [])
       ((No.drivenBefore, drivenBefore ss (gate g))
       ∷ (No.markedBefore, markedBefore ss (gate g))
+      ∷ (No.notInput, notInput ss (gate g))
+      ∷ (No.rangeBad, rangeBad ss (gate g))
       ∷ [])
       (search needs)
       ∙ rw (or-false (member (g .line) (claimedLines ss)))
+
+  pub range-cause : (r : Range) → lowest (causes cells ss (priced r))
+      ≡ pick (lineBad (r .line)) No.lineBad
+      (pick (not (isInput (r .line) ss)) No.notInput
+      (pick (boundsBad (r .low) (r .high) || hasRange (r .line) ss) No.rangeBad 0))
+  unfolding lowest causes linesOf linesMarked linesClaimed anyLineBad unknownCell countDiffers anyMember drivenBefore markedBefore notInput rangeBad pick
+  range-cause r = rw (or-false (lineBad (r .line)))
 
 pub pinsAt-cell : (cells : List Cell) (k : ℕ) (d : Cell) → k < length cells → pinsAt cells k ≡ (getD cells k d) .pins
 unfolding pinsAt

@@ -12,7 +12,7 @@ use Rattle.sizes.specs.Sizes as Size
 use Rattle.reading.specs.Choice.{pick}
 use Rattle.reading.specs.Each.{Each}
 use Rattle.reading.proofs.Laws.{by-test, or-left, or-right, each-append}
-use Rattle.netlist.specs.Netlist.{Statement, input, output, opened, mark, gate, member, linesOf, linesClaimed, gatesIn, claimedLines, gatesOf}
+use Rattle.netlist.specs.Netlist.{Statement, input, output, opened, mark, gate, priced, member, linesOf, linesClaimed, gatesIn, claimedLines, gatesOf}
 use Rattle.netlist.specs.Sound.{InRange, LinesInRange, Apart}
 
 -- ---- as many different numbers from 1 to n as n, at most
@@ -83,6 +83,7 @@ gates-claim (mark input l ∷ ss) = omega (arith, gates-claim ss)
 gates-claim (mark output l ∷ ss) = gates-claim ss
 gates-claim (mark opened l ∷ ss) = omega (arith, gates-claim ss)
 gates-claim (gate g ∷ ss) = omega (arith, gates-claim ss)
+gates-claim (priced r ∷ ss) = gates-claim ss
 
 claimed-good : (s : Statement) → LinesInRange s → Each InRange (linesClaimed s)
 unfolding LinesInRange linesOf linesClaimed Each
@@ -90,6 +91,7 @@ claimed-good (mark input l) h = h
 claimed-good (mark output l) h = tt
 claimed-good (mark opened l) h = h
 claimed-good (gate g) h = (h .0, tt)
+claimed-good (priced r) h = tt
 
 claimed-in-range : (ss : List Statement) → Each LinesInRange ss → Each InRange (claimedLines ss)
 unfolding claimedLines flatMap Each

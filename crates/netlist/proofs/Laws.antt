@@ -16,7 +16,7 @@ use Rattle.reading.specs.Refusal.{read}
 use Rattle.reading.proofs.Laws.{by-test, clash, each-member, refused-read, bind-read}
 use Rattle.cell_library.specs.Cells.{Cell}
 use Rattle.netlist.specs.declared.Rules.{Rules}
-use Rattle.netlist.specs.Netlist.{Gate, Mark, input, Statement, mark, gate, kindOf, member, linesOf, linesMarked, linesClaimed, gatesIn, mentionedLines, markedLines, claimedLines, gatesOf, mentioned, isMarked, isInput, admitted, lineForms, textStatements, declared, netlist}
+use Rattle.netlist.specs.Netlist.{Gate, Mark, input, Statement, mark, gate, priced, kindOf, member, linesOf, linesMarked, linesClaimed, gatesIn, mentionedLines, markedLines, claimedLines, gatesOf, mentioned, isMarked, isInput, admitted, lineForms, textStatements, declared, netlist}
 use Rattle.netlist.specs.Admitting.{refusalOf, extended}
 use Rattle.netlist.specs.Sound.{InRange, LinesInRange, GateSound, Apart, Sound, DrivenOnce}
 use Rattle.netlist.proofs.Causes.{member-left, member-right, member-cases, member-among, mark-claims, pinsAt-cell}
@@ -66,14 +66,16 @@ module _ (cells : List Cell) where
       admitted-sound (suc line) (extended ss w) ws rs (sound-next cells ss w so z) (sym (admitted-more line cells ss w ws z) ∙ e))
       (λ t. refused-read (sym (admitted-refused line cells ss w ws (eqb-false (refusalOf cells ss w) 0 t)) ∙ e))
 
+  pub text-sound : (rules : Rules) (text : List ℕ) (ss : List Statement) → textStatements rules cells text ≡ read ss → Sound cells ss
+  unfolding textStatements
+  text-sound rules text ss e = admitted-sound 1 [] (lineForms rules cells (lines text)) ss (sound-none cells) e
+
   -- The facts of every netlist text that is read.
   pub netlist-sound : (rules : Rules) (text : List ℕ) (ss : List Statement) → netlist rules cells text ≡ read ss → Sound cells ss
-  unfolding netlist textStatements
+  unfolding netlist
   netlist-sound rules text ss e =
       bind-read (textStatements rules cells text) (declared rules) ss
-      (λ rs read-all held.
-      admitted-sound 1 [] (lineForms rules cells (lines text)) ss (sound-none cells)
-      (read-all ∙ ap read (declared-read rules rs ss held)))
+      (λ rs read-all held. text-sound rules text ss (read-all ∙ ap read (declared-read rules rs ss held)))
       e
 
 -- ---- the facts by membership
@@ -82,6 +84,7 @@ mark-mentions : (m : Mark) (l : ℕ) (s : Statement) → member l (linesMarked m
 unfolding linesMarked linesOf pick member
 mark-mentions m l (mark k j) t = by-test (eqb (kindOf m) (kindOf k)) (λ b. rw b at t) (λ b. clash false (rw b at t) refl)
 mark-mentions m l (gate g) t = clash false t refl
+mark-mentions m l (priced r) t = clash false t refl
 
 -- A marked line, and each line of a gate, is mentioned.
 pub marked-mentioned : (m : Mark) (l : ℕ) (ss : List Statement) → isMarked m l ss ≡ true → mentioned l ss ≡ true
@@ -94,6 +97,7 @@ module _ (g : Gate) where
   unfolding gatesOf gatesIn mentioned mentionedLines linesOf flatMap
   gate-mentioned l [] i j = absurd (List·Memᴰ·not-nil i)
   gate-mentioned l (mark m k ∷ ss) i j = member-right l (k ∷ []) (mentionedLines ss) (gate-mentioned l ss i j)
+  gate-mentioned l (priced r ∷ ss) i j = member-right l (r .line ∷ []) (mentionedLines ss) (gate-mentioned l ss i j)
   gate-mentioned l (gate h ∷ ss) (List·Memᴰ·head e) j =
       member-left l (h .line ∷ h .pins) (mentionedLines ss) (member-listed l (h .line ∷ h .pins) (rw e at j))
   gate-mentioned l (gate h ∷ ss) (List·Memᴰ·tail i) j =
@@ -104,6 +108,7 @@ module _ (g : Gate) where
   gate-claims [] i = absurd (List·Memᴰ·not-nil i)
   gate-claims (mark m k ∷ ss) i =
       member-right (g .line) (linesClaimed (mark m k)) (claimedLines ss) (gate-claims ss i)
+  gate-claims (priced r ∷ ss) i = gate-claims ss i
   gate-claims (gate h ∷ ss) (List·Memᴰ·head e) = rw (eq-eqb (h .line) (g .line) (ap (λ (x : Gate). x .line) (sym e)))
   gate-claims (gate h ∷ ss) (List·Memᴰ·tail i) = rw (gate-claims ss i) (or-true (eqb (h .line) (g .line)))
 
@@ -111,6 +116,7 @@ gates-once : (ss : List Statement) → Apart (claimedLines ss) → DrivenOnce (g
 unfolding gatesOf gatesIn claimedLines flatMap
 gates-once [] a = tt
 gates-once (mark m l ∷ ss) a = gates-once ss (apart-right (linesClaimed (mark m l)) (claimedLines ss) a)
+gates-once (priced r ∷ ss) a = gates-once ss (apart-right (linesClaimed (priced r)) (claimedLines ss) a)
 gates-once (gate g ∷ ss) a =
     let alone : (member (g .line) (claimedLines ss) ≡ false) × Apart (claimedLines ss) = unfold linesClaimed Apart in a in
     ((λ h i e. clash (member (h .line) (claimedLines ss)) (gate-claims h ss i) (rw e at (alone .0))), gates-once ss (alone .1))
@@ -125,6 +131,8 @@ input-once (mark m l ∷ ss) a g i e =
     apart-both (g .line) (linesClaimed (mark m l)) (claimedLines ss) a (mark-claims input refl (g .line) (mark m l) t) (gate-claims g ss i))
     (λ t. input-once ss (apart-right (linesClaimed (mark m l)) (claimedLines ss) a) g i t)
     (member-cases (g .line) (linesMarked input (mark m l)) (markedLines input ss) e)
+input-once (priced r ∷ ss) a g i e =
+    input-once ss (apart-right (linesClaimed (priced r)) (claimedLines ss) a) g i (unfold linesMarked in e)
 input-once (gate h ∷ ss) a g (List·Memᴰ·head q) e =
     let alone : (member (h .line) (claimedLines ss) ≡ false) × Apart (claimedLines ss) = unfold linesClaimed Apart in a in
     let drives : member (g .line) (claimedLines ss) ≡ true =

@@ -11,4 +11,5 @@ pub mod Outcomes
 pub mod Places
 pub mod Sounding
 pub mod Storing
+pub mod Unranged
 pub mod Weighing

@@ -1,4 +1,4 @@
--- Refusal 20: what the table says of lines that nothing declares.
+-- What the table says of lines that nothing declares, behind refusal 20, and whether there is a range.
 -- Assumes nothing.
 use mathlib.Core.Bool.{Bool, true, false, not, _&&_, and-false}
 use mathlib.Core.List.{List, [], _∷_, flatMap}
@@ -7,64 +7,91 @@ use mathlib.Core.Path.{_≡_, refl, ap}
 use Prim.Native.Nat.{ℕ, suc, _+_, _-_, _≤_, _<_}
 use native.Mathlib.Omega.{arith}
 use lib.Dec.{eqb}
+use borrow.Author.Tests.{eqb-true}
 use Rattle.sizes.specs.Sizes as Size
 use Rattle.reading.specs.Choice.{pick}
+use Rattle.reading.specs.Each.{Each}
 use Rattle.reading.specs.Numbers as No
 use Rattle.reading.specs.Refusal.{read, weigh}
 use Rattle.reading.proofs.Laws.{by-test, clash, or-cases, then-read}
+use Rattle.cell_library.specs.Cells.{Cell}
 use Rattle.netlist.specs.declared.Rules.{Rules}
-use Rattle.netlist.specs.Netlist.{input, output, opened, Statement, mark, gate, declaring, member, linesOf}
-use Rattle.netlist.specs.Netlist.{linesClaimed, linesNeeded, mentionedLines, claimedLines, neededLines, mentioned, claimed}
-use Rattle.netlist.specs.Netlist.{undeclared, linesWhere, undeclaredLines, someLine, declared}
-use Rattle.netlist.specs.Layout.{NetlistHolds}
-use Rattle.netlist.specs.Admitting.{wordsUndeclared, someUndeclared}
-use Rattle.netlist.proofs.Causes.{member-left, member-right, member-cases, member-among, driver-taken}
+use Rattle.netlist.specs.Netlist.{input, output, opened, Range, Statement, mark, gate, priced, declaring, member, linesOf}
+use Rattle.netlist.specs.Netlist.{linesClaimed, linesNeeded, linesRanged, mentionedLines, claimedLines, neededLines, rangedLines}
+use Rattle.netlist.specs.Netlist.{rangesOf, mentioned, isInput, claimed}
+use Rattle.netlist.specs.Netlist.{undeclared, linesWhere, undeclaredLines, someLine, someRange, declared}
+use Rattle.netlist.specs.Layout.{rangedWord, NetlistHolds}
+use Rattle.netlist.specs.Admitting.{wordsUndeclared, someUndeclared, someRanged}
+use Rattle.netlist.specs.Sound.{RangeSound, Sound}
+use Rattle.netlist.proofs.Causes.{member-left, member-right, member-cases, member-among, marked-claimed, driver-taken, rangeLines, ranged-lines}
 use Rattle.netlist.proofs.HeldLines.{where-same, mention-held}
-use Rattle.netlist.proofs.Places.{driver-word}
+use Rattle.netlist.proofs.Places.{driver-word, ranged-word}
 
--- ---- a line that is mentioned is claimed, or needed
+-- ---- a line that is mentioned is needed, or claimed, or has a range, and is then an input
 
-needs-or-claims : (l : ℕ) (s : Statement) → member l (linesOf s) ≡ true
-    → (member l (linesNeeded s) ≡ true) ⊎ (member l (linesClaimed s) ≡ true)
-unfolding linesOf linesNeeded linesClaimed member
-needs-or-claims l (mark input k) e = inr e
-needs-or-claims l (mark output k) e = inl e
-needs-or-claims l (mark opened k) e = inr e
-needs-or-claims l (gate g) e =
-    ⊎-elim (λ t. inr (rw t)) (λ t. inl t) (or-cases (eqb (g .line) l) (member l (g .pins)) e)
+abbrev Cases : ℕ → List ℕ → List ℕ → List ℕ → Type 0
+Cases l needed claimed ranged = (member l needed ≡ true) ⊎ ((member l claimed ≡ true) ⊎ (member l ranged ≡ true))
 
-mentioned-needed : (l : ℕ) (ss : List Statement) → mentioned l ss ≡ true
-    → (member l (neededLines ss) ≡ true) ⊎ (claimed l ss ≡ true)
-unfolding mentioned mentionedLines neededLines claimed claimedLines flatMap
-mentioned-needed l [] e = inl e
-mentioned-needed l (s ∷ ss) e =
+mention-cases : (l : ℕ) (s : Statement) → member l (linesOf s) ≡ true → Cases l (linesNeeded s) (linesClaimed s) (linesRanged s)
+unfolding linesOf linesNeeded linesClaimed linesRanged member
+mention-cases l (mark input k) e = inr (inl e)
+mention-cases l (mark output k) e = inl e
+mention-cases l (mark opened k) e = inr (inl e)
+mention-cases l (priced r) e = inr (inr e)
+mention-cases l (gate g) e =
+    ⊎-elim (λ t. inr (inl (rw t))) (λ t. inl t) (or-cases (eqb (g .line) l) (member l (g .pins)) e)
+
+each-case : {A B C D E F : Type 0} → (A → D) → (B → E) → (C → F) → A ⊎ (B ⊎ C) → D ⊎ (E ⊎ F)
+each-case f g h c = ⊎-elim (λ x. inl (f x)) (λ t. ⊎-elim (λ x. inr (inl (g x))) (λ x. inr (inr (h x))) t) c
+
+mentioned-cases : (l : ℕ) (ss : List Statement) → mentioned l ss ≡ true → Cases l (neededLines ss) (claimedLines ss) (rangedLines ss)
+unfolding mentioned mentionedLines neededLines claimedLines rangedLines flatMap
+mentioned-cases l [] e = inl e
+mentioned-cases l (s ∷ ss) e =
     ⊎-elim
     (λ t.
-    ⊎-elim
-    (λ n. inl (member-left l (linesNeeded s) (neededLines ss) n))
-    (λ c. inr (member-left l (linesClaimed s) (claimedLines ss) c))
-    (needs-or-claims l s t))
+    each-case (member-left l (linesNeeded s) (neededLines ss)) (member-left l (linesClaimed s) (claimedLines ss))
+    (member-left l (linesRanged s) (rangedLines ss)) (mention-cases l s t))
     (λ t.
-    ⊎-elim
-    (λ n. inl (member-right l (linesNeeded s) (neededLines ss) n))
-    (λ c. inr (member-right l (linesClaimed s) (claimedLines ss) c))
-    (mentioned-needed l ss t))
+    each-case (member-right l (linesNeeded s) (neededLines ss)) (member-right l (linesClaimed s) (claimedLines ss))
+    (member-right l (linesRanged s) (rangedLines ss)) (mentioned-cases l ss t))
     (member-cases l (linesOf s) (mentionedLines ss) e)
+
+line-input : (l : ℕ) (ss : List Statement) (rs : List Range) → Each (RangeSound ss) rs → member l (rangeLines rs) ≡ true → isInput l ss ≡ true
+unfolding Each rangeLines member
+line-input l ss [] h e = clash false e refl
+line-input l ss (r ∷ rs) h e =
+    by-test (eqb (r .line) l)
+    (λ t. rw (← eqb-true (r .line) l t) (h .0 .input))
+    (λ t. line-input l ss rs (h .1) (rw t at e))
+
+mentioned-needed : {cells : List Cell} (l : ℕ) (ss : List Statement) → Sound cells ss → mentioned l ss ≡ true
+    → (member l (neededLines ss) ≡ true) ⊎ (claimed l ss ≡ true)
+unfolding claimed
+mentioned-needed l ss so e =
+    ⊎-elim (λ n. inl n)
+    (λ t.
+    inr
+    (⊎-elim (λ c. c)
+    (λ r. unfold claimed in marked-claimed input refl l ss (line-input l ss (rangesOf ss) (so .ranges) (rw (ranged-lines ss) at r)))
+    t))
+    (mentioned-cases l ss e)
 
 needs-mentions : (l : ℕ) (s : Statement) → member l (linesNeeded s) ≡ true → member l (linesOf s) ≡ true
 unfolding linesOf linesNeeded
 needs-mentions l (mark input k) e = clash false (unfold member in e) refl
 needs-mentions l (mark output k) e = e
 needs-mentions l (mark opened k) e = clash false (unfold member in e) refl
+needs-mentions l (priced r) e = clash false (unfold member in e) refl
 needs-mentions l (gate g) e = member-right l (g .line ∷ []) (g .pins) e
 
 pub needed-mentioned : (l : ℕ) (ss : List Statement) → member l (neededLines ss) ≡ true → mentioned l ss ≡ true
 unfolding mentioned mentionedLines neededLines
 needed-mentioned l ss e = member-among l linesNeeded linesOf (needs-mentions l) ss e
 
-mention-undeclared : (ss : List Statement) (l : ℕ) → (mentioned l ss && not (claimed l ss)) ≡ undeclared ss l
+mention-undeclared : {cells : List Cell} (ss : List Statement) → Sound cells ss → (l : ℕ) → (mentioned l ss && not (claimed l ss)) ≡ undeclared ss l
 unfolding undeclared
-mention-undeclared ss l =
+mention-undeclared ss so l =
     by-test (claimed l ss)
     (λ t. rw (t, and-false (mentioned l ss), and-false (member l (neededLines ss))))
     (λ t.
@@ -72,21 +99,32 @@ mention-undeclared ss l =
     (λ n. rw (n, needed-mentioned l ss n))
     (λ n.
     by-test (mentioned l ss)
-    (λ m. ⊎-elim (λ x. clash (member l (neededLines ss)) x n) (λ x. clash (claimed l ss) x t) (mentioned-needed l ss m))
+    (λ m. ⊎-elim (λ x. clash (member l (neededLines ss)) x n) (λ x. clash (claimed l ss) x t) (mentioned-needed l ss so m))
     (λ m. rw (m, n))))
 
 -- ---- what the table says
 
-pub words-undeclared : {table : List ℕ} {ss : List Statement} → NetlistHolds table ss → (l : ℕ) → 1 ≤ l → l ≤ Size.lines
+pub words-undeclared : {cells : List Cell} {table : List ℕ} {ss : List Statement} → NetlistHolds table ss → Sound cells ss
+    → (l : ℕ) → 1 ≤ l → l ≤ Size.lines
     → wordsUndeclared table l ≡ undeclared ss l
-words-undeclared {table} {ss} h l low high =
-    rw (h .words, mention-held ss (h .past) l low high, driver-word ss (h .past) l low high, driver-taken ss l) (mention-undeclared ss l)
+words-undeclared {cells} {table} {ss} h so l low high =
+    rw (h .words, mention-held ss (h .past) l low high, driver-word ss (h .past) l low high, driver-taken ss l) (mention-undeclared ss so l)
 
-pub some-same : {table : List ℕ} {ss : List Statement} → NetlistHolds table ss → someUndeclared table ≡ someLine (undeclaredLines ss)
+pub some-same : {cells : List Cell} {table : List ℕ} {ss : List Statement} → NetlistHolds table ss → Sound cells ss
+    → someUndeclared table ≡ someLine (undeclaredLines ss)
 unfolding undeclaredLines
-some-same {table} {ss} h =
+some-same {cells} {table} {ss} h so =
     ap someLine
-    (where-same (wordsUndeclared table) (undeclared ss) Size.lines 1 (λ l low high. words-undeclared h l low (omega arith)))
+    (where-same (wordsUndeclared table) (undeclared ss) Size.lines 1 (λ l low high. words-undeclared h so l low (omega arith)))
+
+-- Whether there is a range, as the table says it.
+pub some-ranged : {table : List ℕ} {ss : List Statement} → NetlistHolds table ss → someRanged table ≡ someRange ss
+unfolding rangedWord pick
+some-ranged {table} {ss} h = rw (h .words, ranged-word ss (h .past)) (says (someRange ss))
+  where
+    says : (b : Bool) → not (eqb (pick b 1 0) 0) ≡ b
+    says true = refl
+    says false = refl
 
 -- ---- the loop over the lines
 

@@ -13,14 +13,14 @@ use lib.ListN.{length, getD, set, take}
 use lib.Seq.{take-all}
 use borrow.Author.Needs.{needs}
 use borrow.Author.Tests.{eq-eqb, ne-eqb, eqb-true, eqb-false, leb-false, not-true, not-false}
-use Rattle.sizes.specs.Places.{driverPlace, mentionPlace}
+use Rattle.sizes.specs.Places.{driverPlace, mentionPlace, rangePlace}
 use Rattle.sizes.specs.Sizes as Size
 use Rattle.table.specs.Blocks.{fitted}
 use Rattle.table.proofs.Places.{length-fitted}
 use Rattle.reading.specs.Choice.{pick}
 use Rattle.reading.specs.Each.{Each}
 use Rattle.reading.specs.Numbers as No
-use Rattle.reading.proofs.Laws.{by-test, clash, or-left}
+use Rattle.reading.proofs.Laws.{by-test, clash, or-left, or-right}
 use Rattle.cell_library.specs.Cells.{Cell}
 use Rattle.cell_library.specs.Layout.{FewPins, Fits}
 use Rattle.netlist.specs.declared.RawStatement.{RawStatement}
@@ -32,12 +32,18 @@ use Rattle.netlist.specs.Netlist.{
   output,
   opened,
   Statement,
+  Range,
   mark,
   gate,
+  priced,
   kindOf,
   gateKind,
+  rangeKind,
   lastKind,
   claimed,
+  isInput,
+  boundsBad,
+  hasRange,
   linesOf,
   linesClaimed,
   gatesOf,
@@ -52,6 +58,7 @@ use Rattle.netlist.specs.Netlist.{
 use Rattle.netlist.specs.Layout.{gateWords, netlistWords, NetlistHolds}
 use Rattle.netlist.specs.Admitting.{
   IsGate,
+  IsRange,
   StandsFor,
   gateCause,
   refusalOf,
@@ -62,15 +69,16 @@ use Rattle.netlist.specs.Admitting.{
   markNumber,
   markValue,
   mentionAll,
+  rangeStored,
   gateStored,
   gateAdded,
 }
 use Rattle.netlist.specs.Sound.{Sound}
-use Rattle.netlist.proofs.Places.{netlist-count, driver-word, output-word}
+use Rattle.netlist.proofs.Places.{netlist-count, driver-word, output-word, range-word}
 use Rattle.netlist.proofs.Weighing.{lowest-none}
-use Rattle.netlist.proofs.Causes.{lineBad-range, taken, markWord, word-taken, mark-cause, gate-causes}
+use Rattle.netlist.proofs.Causes.{lineBad-range, taken, markWord, word-taken, mark-cause, gate-causes, range-cause, driver-input, range-taken, bounds-fit}
 use Rattle.netlist.proofs.Sounding.{gate-space}
-use Rattle.netlist.proofs.Storing.{stored-mark, stored-gate}
+use Rattle.netlist.proofs.Storing.{stored-mark, stored-gate, stored-range}
 
 number-some : (m : Mark) → markNumber m ≡ 0 → ⊥
 number-some input e = omega arith
@@ -129,6 +137,61 @@ module _ (cells : List Cell) {table : List ℕ} {ss : List Statement} (holds : N
   pub mark-bad : (m : Mark) (l : ℕ) → lineBad l ≡ true → Decided cells ss (some (mark m l)) (holds .past) No.lineBad table
   unfolding refusalOf pick
   mark-bad m l bad = refuses (some (mark m l)) No.lineBad (λ e. omega arith) (rw (mark-cause cells ss m l, bad))
+
+-- ---- a range
+
+-- The causes of a range by the tests of the code.
+unfoldable pub rangeFlags : Range → List ℕ → List (ℕ × Bool)
+rangeFlags r table =
+    (No.lineBad, lineBad (r .line))
+    ∷ (No.notInput, not (eqb (getD table (driverPlace (r .line)) 0) 1))
+    ∷ (No.rangeBad, boundsBad (r .low) (r .high) || not (eqb (getD table (rangePlace (r .line)) 0) 0))
+    ∷ []
+
+module _ (r : Range) (table : List ℕ) where
+  flags-none : 0 ≡ lowest (rangeFlags r table)
+      → (lineBad (r .line) ≡ false) × ((boundsBad (r .low) (r .high) || not (eqb (getD table (rangePlace (r .line)) 0) 0)) ≡ false)
+  unfolding rangeFlags Each
+  flags-none e = let none = lowest-none (rangeFlags r table) (search needs) (sym e) in (none .0, none .1 .1 .0)
+
+  -- Where none holds the bounds are good.
+  pub range-fits : 0 ≡ lowest (rangeFlags r table) → (1 ≤ r .low) × (r .low ≤ r .high) × (r .high ≤ Size.mostPrice)
+  range-fits e = bounds-fit (r .low) (r .high) (or-left (boundsBad (r .low) (r .high)) _ (flags-none e .1))
+
+module _ (cells : List Cell) {table : List ℕ} {ss : List Statement} (holds : NetlistHolds table ss) (so : Sound cells ss) (r : Range) where
+  -- The two tests of the table, of a line in range.
+  asks-input : lineBad (r .line) ≡ false → eqb (getD table (driverPlace (r .line)) 0) 1 ≡ isInput (r .line) ss
+  asks-input good =
+      rw (holds .words, driver-word ss (holds .past) (r .line) (lineBad-range (r .line) good .0) (lineBad-range (r .line) good .1))
+      (driver-input ss (r .line))
+
+  asks-range : lineBad (r .line) ≡ false → eqb (getD table (rangePlace (r .line)) 0) 0 ≡ not (hasRange (r .line) ss)
+  asks-range good =
+      rw (holds .words, range-word ss (holds .past) (r .line) (lineBad-range (r .line) good .0) (lineBad-range (r .line) good .1))
+      (range-taken ss (r .line) (so .ranges))
+
+  not-not : (b : Bool) → not (not b) ≡ b
+  not-not true = refl
+  not-not false = refl
+
+  range-weighed : lowest (rangeFlags r table) ≡ refusalOf cells ss (some (priced r))
+  unfolding rangeFlags lowest refusalOf pick
+  range-weighed =
+      by-test (lineBad (r .line))
+      (λ t. rw (range-cause cells ss r, t))
+      (λ t. rw (range-cause cells ss r, t, asks-input t, asks-range t, not-not (hasRange (r .line) ss)))
+
+  pub range-refused : (n : ℕ) → n ≡ lowest (rangeFlags r table) → (n ≡ 0 → ⊥) → Decided cells ss (some (priced r)) (holds .past) n table
+  range-refused n e h = refuses cells holds (some (priced r)) n h (e ∙ range-weighed)
+
+  pub range-admitted : 0 ≡ lowest (rangeFlags r table) → Decided cells ss (some (priced r)) (holds .past) 0 (rangeStored r table)
+  range-admitted e =
+      let good = flags-none r table e .0 in
+      let taken : eqb (getD table (rangePlace (r .line)) 0) 0 ≡ true =
+      not-false _ (or-right (boundsBad (r .low) (r .high)) _ (flags-none r table e .1))
+      in
+      let free : hasRange (r .line) ss ≡ false = not-true _ (sym (asks-range good) ∙ taken) in
+      admits cells holds (priced r) _ (e ∙ range-weighed) (ap (rangeStored r) (holds .words) ∙ stored-range ss (holds .past) r good free)
 
 -- ---- a gate's own causes
 
@@ -253,6 +316,20 @@ kind-no-gate input e = omega arith
 kind-no-gate output e = omega arith
 kind-no-gate opened e = omega arith
 
+kind-no-range : (m : Mark) → kindOf m ≡ rangeKind → ⊥
+kind-no-range input e = omega arith
+kind-no-range output e = omega arith
+kind-no-range opened e = omega arith
+
+-- The range that the numbers tell.
+pub range-told : (p : RawStatement) (r : Range) → IsRange r p
+    → record { line = p .line; low = getD (p .pins) 1 0; high = getD (p .pins) 2 0 } ≡ r
+unfolding fitted
+range-told p r is =
+    let low : getD (p .pins) 1 0 ≡ r .low = rw (is .pins) in
+    let high : getD (p .pins) 2 0 ≡ r .high = rw (is .pins) in
+    λ i. record { line = is .line i; low = low i; high = high i }
+
 -- A mark is known by its kind.
 ofKind : ℕ → Mark
 ofKind zero = input
@@ -274,6 +351,7 @@ module _ (p : RawStatement) where
   formless none is e = refl
   formless (some (mark m l)) is e = clash (p .form) (is .form) e
   formless (some (gate g)) is e = clash (p .form) (is .form) e
+  formless (some (priced r)) is e = clash (p .form) (is .form) e
 
   module _ (e : p .form ≡ true) where
     pub kind-mark : (m : Mark) (w : Option Statement) → StandsFor p w → p .kind ≡ kindOf m → w ≡ some (mark m (p .line))
@@ -281,16 +359,26 @@ module _ (p : RawStatement) where
     kind-mark m none is k = ⊎-elim (λ f. clash (p .form) e f) (λ h. absurd (omega (arith, kind-low m))) is
     kind-mark m (some (mark n l)) is k = rw (is .line, same-kind n m (sym (is .kind) ∙ k))
     kind-mark m (some (gate g)) is k = absurd (kind-no-gate m (sym k ∙ is .kind))
+    kind-mark m (some (priced r)) is k = absurd (kind-no-range m (sym k ∙ is .kind))
 
     pub kind-gate : (w : Option Statement) → StandsFor p w → p .kind ≡ gateKind → (g : Gate) × (w ≡ some (gate g)) × IsGate g p
     unfolding StandsFor
     kind-gate none is k = ⊎-elim (λ f. clash (p .form) e f) (λ h. absurd (omega arith)) is
     kind-gate (some (mark m l)) is k = absurd (kind-no-gate m (sym (is .kind) ∙ k))
     kind-gate (some (gate g)) is k = (g, refl, is)
+    kind-gate (some (priced r)) is k = absurd (omega (arith, is .kind))
+
+    pub kind-range : (w : Option Statement) → StandsFor p w → p .kind ≡ rangeKind → (r : Range) × (w ≡ some (priced r)) × IsRange r p
+    unfolding StandsFor
+    kind-range none is k = ⊎-elim (λ f. clash (p .form) e f) (λ h. absurd (omega arith)) is
+    kind-range (some (mark m l)) is k = absurd (kind-no-range m (sym (is .kind) ∙ k))
+    kind-range (some (gate g)) is k = absurd (omega (arith, is .kind))
+    kind-range (some (priced r)) is k = (r, refl, is)
 
   pub kind-unknown : (w : Option Statement) → StandsFor p w → ((m : Mark) → p .kind ≡ kindOf m → ⊥) → (p .kind ≡ gateKind → ⊥)
-      → w ≡ none
+      → (p .kind ≡ rangeKind → ⊥) → w ≡ none
   unfolding StandsFor
-  kind-unknown none is marks gates = refl
-  kind-unknown (some (mark m l)) is marks gates = absurd (marks m (is .kind))
-  kind-unknown (some (gate g)) is marks gates = absurd (gates (is .kind))
+  kind-unknown none is marks gates ranges = refl
+  kind-unknown (some (mark m l)) is marks gates ranges = absurd (marks m (is .kind))
+  kind-unknown (some (gate g)) is marks gates ranges = absurd (gates (is .kind))
+  kind-unknown (some (priced r)) is marks gates ranges = absurd (ranges (is .kind))

@@ -1,6 +1,6 @@
 -- What stands at a place of the netlist table.
 -- Assumes nothing.
-use mathlib.Core.List.{List, _++_}
+use mathlib.Core.List.{List, _∷_, _++_}
 use mathlib.Core.Path.{_≡_, refl, sym, ap, _∙_}
 use Prim.Native.Nat.{ℕ, zero, suc, _+_, _*_, _≤_, _<_}
 use native.Mathlib.Nat.{add-zero, add-suc, not-suc-le-zero, le-of-suc-le-suc}
@@ -8,12 +8,12 @@ use native.Mathlib.Numerals.{one-add}
 use native.Mathlib.Omega.{arith}
 use lib.ListN.{length, getD, length-append, List·getD-append}
 use lib.Seq.{getD-append-add}
-use Rattle.sizes.specs.Places.{driverPlace, gatePlace, mentionPlace, outputPlace}
+use Rattle.sizes.specs.Places.{driverPlace, gatePlace, mentionPlace, outputPlace, rangePlace, rangedPlace}
 use Rattle.sizes.specs.Sizes as Size
 use Rattle.table.specs.Blocks.{fitted, blocks}
 use Rattle.table.proofs.Places.{length-fitted, getD-fitted, length-blocks, getD-blocks}
 use Rattle.netlist.specs.Netlist.{Gate, Statement, gatesOf}
-use Rattle.netlist.specs.Layout.{gateWords, driverWord, outputWord, mentionWord, lineParts, lineWords, partWords}
+use Rattle.netlist.specs.Layout.{gateWords, driverWord, outputWord, mentionWord, rangeWord, rangedWord, lineParts, lineWords, partWords}
 use Rattle.netlist.specs.Layout.{netlistWords}
 
 pub length-gateWords : (g : Gate) → length (gateWords g) ≡ Size.gateWords
@@ -43,8 +43,9 @@ module _ (ss : List Statement) where
   parts : List ℕ
   parts = blocks partWords (lineParts ss)
 
+  -- Whether there is a range, and the gates.
   gates : List ℕ
-  gates = fitted 0 (Size.gates * Size.gateWords) (blocks gateWords (gatesOf ss))
+  gates = rangedWord ss ∷ fitted 0 (Size.gates * Size.gateWords) (blocks gateWords (gatesOf ss))
 
   length-parts : length parts ≡ length (lineParts ss) * Size.lines
   unfolding parts
@@ -96,15 +97,26 @@ module _ (ss : List Statement) where
       unfolding lineParts
       mention-word = part-word 2 l (omega arith) low high
 
+      pub range-word : getD (netlistWords ss ++ rest) (rangePlace l) 0 ≡ rangeWord ss l
+      unfolding lineParts
+      range-word = part-word 3 l (omega arith) low high
+
+    -- whether there is a range
+    pub ranged-word : getD (netlistWords ss ++ rest) rangedPlace 0 ≡ rangedWord ss
+    unfolding gates lineParts
+    ranged-word =
+        let at : rangedPlace ≡ suc (length parts + 0) = omega (arith, length-parts) in
+        rw at (inside (length parts + 0) (omega (arith, length-parts)) ∙ getD-append-add parts gates 0 0)
+
     -- number j of gate g
     pub gate-word : (d : Gate) (g j : ℕ) → g < length (gatesOf ss) → g < Size.gates → j < Size.gateWords
         → getD (netlistWords ss ++ rest) (gatePlace g + j) 0 ≡ getD (gateWords (getD (gatesOf ss) g d)) j 0
     unfolding gates lineParts
     gate-word d g j h k q =
         let i = g * Size.gateWords + j in
-        let at : gatePlace g + j ≡ suc (length parts + i) = omega (arith, length-parts) in
+        let at : gatePlace g + j ≡ suc (length parts + suc i) = omega (arith, length-parts) in
         rw at
-        (inside (length parts + i) (omega (arith, length-parts))
-        ∙ getD-append-add parts gates i 0
+        (inside (length parts + suc i) (omega (arith, length-parts))
+        ∙ getD-append-add parts gates (suc i) 0
         ∙ getD-fitted 0 (Size.gates * Size.gateWords) (blocks gateWords (gatesOf ss)) i (omega arith)
         ∙ getD-blocks gateWords Size.gateWords length-gateWords d (gatesOf ss) g j h q)

@@ -22,14 +22,26 @@ use Rattle.netlist.specs.Netlist.{
   output,
   opened,
   Statement,
+  Range,
   mark,
   gate,
+  priced,
   kindOf,
   member,
   linesOf,
   linesMarked,
   linesClaimed,
   gatesIn,
+  linesRanged,
+  rangesIn,
+  rangedLines,
+  rangesOf,
+  isMarked,
+  isInput,
+  hasRange,
+  boundsBad,
+  notInput,
+  rangeBad,
   markedLines,
   claimedLines,
   gatesOf,
@@ -44,9 +56,9 @@ use Rattle.netlist.specs.Netlist.{
   causes,
 }
 use Rattle.netlist.specs.Admitting.{refusalOf, extended}
-use Rattle.netlist.specs.Sound.{InRange, LinesInRange, GateSound, Apart, Sound}
+use Rattle.netlist.specs.Sound.{InRange, LinesInRange, GateSound, RangeSound, Apart, Sound}
 use Rattle.netlist.proofs.Weighing.{lowest-none}
-use Rattle.netlist.proofs.Causes.{lineBad-range, member-append, one-more, causes-counted}
+use Rattle.netlist.proofs.Causes.{lineBad-range, member-append, one-more, member-more, causes-counted, bounds-fit}
 use Rattle.netlist.proofs.Counting.{gates-few}
 
 -- ---- lists of lines
@@ -81,6 +93,8 @@ record Clean (cells : List Cell) (ss : List Statement) (s : Statement) : Type 0 
   count : countDiffers cells s ≡ false
   undriven : drivenBefore ss s ≡ false
   unmarked : markedBefore ss s ≡ false
+  input : notInput ss s ≡ false
+  within : rangeBad ss s ≡ false
 
 clean : (cells : List Cell) (ss : List Statement) (s : Statement) → lowest (causes cells ss s) ≡ 0 → Clean cells ss s
 unfolding causes Each
@@ -92,6 +106,8 @@ clean cells ss s h =
       count = none .1 .1 .0;
       undriven = none .1 .1 .1 .0;
       unmarked = none .1 .1 .1 .1 .0;
+      input = none .1 .1 .1 .1 .1 .0;
+      within = none .1 .1 .1 .1 .1 .1 .0;
     }
 
 -- A statement drives, and marks, at most one line.
@@ -101,6 +117,7 @@ lone-claimed (mark input l) = (refl, tt)
 lone-claimed (mark output l) = tt
 lone-claimed (mark opened l) = (refl, tt)
 lone-claimed (gate g) = (refl, tt)
+lone-claimed (priced r) = tt
 
 lone-marked : (m : Mark) (s : Statement) → Apart (linesMarked m s)
 unfolding linesMarked
@@ -110,11 +127,39 @@ lone-marked m (mark k l) = go (eqb (kindOf m) (kindOf k))
     go true = unfold pick Apart member in (refl, tt)
     go false = unfold pick Apart in tt
 lone-marked m (gate g) = unfold Apart in tt
+lone-marked m (priced r) = unfold Apart in tt
+
+-- It gives at most one line a range, and none that has one.
+lone-ranged : (s : Statement) → Apart (linesRanged s)
+unfolding linesRanged Apart member
+lone-ranged (mark m l) = tt
+lone-ranged (gate g) = tt
+lone-ranged (priced r) = (refl, tt)
+
+once-ranged : (ss : List Statement) (s : Statement) → rangeBad ss s ≡ false → anyMember (linesRanged s) (rangedLines ss) ≡ false
+unfolding linesRanged rangeBad hasRange anyMember
+once-ranged ss (mark m l) h = refl
+once-ranged ss (gate g) h = refl
+once-ranged ss (priced r) h = rw (or-right (boundsBad (r .low) (r .high)) (member (r .line) (rangedLines ss)) h)
+
+-- An input stays one behind more statements, and so a range stays sound.
+input-stays : (ss : List Statement) (s : Statement) (l : ℕ) → isInput l ss ≡ true → isInput l (ss ++ (s ∷ [])) ≡ true
+unfolding isMarked markedLines
+input-stays ss s l h = rw (member-more l (linesMarked input) ss s, h)
+
+ranges-stay : (ss : List Statement) (s : Statement) (rs : List Range) → Each (RangeSound ss) rs → Each (RangeSound (ss ++ (s ∷ []))) rs
+unfolding Each
+ranges-stay ss s [] h = tt
+ranges-stay ss s (r ∷ rs) h = (
+  record { input = input-stays ss s (r .line) (h .0 .input); least = h .0 .least; order = h .0 .order; most = h .0 .most },
+  ranges-stay ss s rs (h .1),
+)
 
 module _ (cells : List Cell) where
   more-gates : (ss : List Statement) (s : Statement) → Clean cells ss s → Each (GateSound cells) (gatesIn s)
   unfolding gatesIn Each linesOf unknownCell countDiffers
   more-gates ss (mark m l) c = tt
+  more-gates ss (priced r) c = tt
   more-gates ss (gate g) c =
       let ranges : Each InRange (g .line ∷ g .pins) = in-range (g .line ∷ g .pins) (c .good) in (
         record {
@@ -126,9 +171,18 @@ module _ (cells : List Cell) where
         tt,
       )
 
+  more-ranges : (ss : List Statement) (s : Statement) → Clean cells ss s → Each (RangeSound (ss ++ (s ∷ []))) (rangesIn s)
+  unfolding rangesIn Each notInput rangeBad
+  more-ranges ss (mark m l) c = tt
+  more-ranges ss (gate g) c = tt
+  more-ranges ss (priced r) c =
+      let fits = bounds-fit (r .low) (r .high) (or-left (boundsBad (r .low) (r .high)) (hasRange (r .line) ss) (c .within)) in
+      let input : isInput (r .line) (ss ++ (priced r ∷ [])) ≡ true = input-stays ss (priced r) (r .line) (not-false _ (c .input)) in
+      (record { input = input; least = fits .0; order = fits .1; most = fits .2 }, tt)
+
   pub sound-none : Sound cells []
-  unfolding gatesOf claimedLines markedLines flatMap Each Apart
-  sound-none = record { lines = tt; gates = tt; few = omega arith; claimed = tt; marked = tt }
+  unfolding gatesOf rangesOf claimedLines markedLines rangedLines flatMap Each Apart
+  sound-none = record { lines = tt; gates = tt; few = omega arith; claimed = tt; marked = tt; ranged = tt; ranges = tt }
 
   -- One statement more, on good lines, of which it drives none that is driven before.
   module _ (ss : List Statement) (s : Statement) (so : Sound cells ss) where
@@ -167,7 +221,7 @@ module _ (cells : List Cell) where
   -- One statement more that is admitted keeps the facts.
   sound-more : (ss : List Statement) (s : Statement) → Sound cells ss → lowest (causes cells ss s) ≡ 0
       → Sound cells (ss ++ (s ∷ []))
-  unfolding gatesOf markedLines markedBefore
+  unfolding gatesOf rangesOf markedLines rangedLines markedBefore
   sound-more ss s so h =
       let c = clean cells ss s h in
       let range = more-range ss s so (c .good) in
@@ -182,6 +236,12 @@ module _ (cells : List Cell) where
         marked =
             rw (one-more (linesMarked output) ss s)
             (apart-append (markedLines output ss) (linesMarked output s) (so .marked) (lone-marked output s) (c .unmarked));
+        ranged =
+            rw (one-more linesRanged ss s)
+            (apart-append (rangedLines ss) (linesRanged s) (so .ranged) (lone-ranged s) (once-ranged ss s (c .within)));
+        ranges =
+            rw (one-more rangesIn ss s)
+            (each-append (RangeSound (ss ++ (s ∷ []))) (rangesOf ss) (rangesIn s) (ranges-stay ss s (rangesOf ss) (so .ranges)) (more-ranges ss s c));
       }
 
   pub sound-next : (ss : List Statement) (w : Option Statement) → Sound cells ss → refusalOf cells ss w ≡ 0

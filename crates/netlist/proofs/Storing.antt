@@ -2,7 +2,7 @@
 -- Assumes nothing.
 use mathlib.Core.Bool.{Bool, true, false, _||_, or-false, or-true}
 use mathlib.Core.List.{List, [], _∷_, _++_, append-nil, append-assoc, flatMap}
-use mathlib.Core.Path.{_≡_, refl, sym, ap, fun-ext, _∙_}
+use mathlib.Core.Path.{_≡_, refl, sym, ap, ap₂, fun-ext, _∙_}
 use Prim.Native.Nat.{ℕ, zero, suc, _+_, _*_, _≤_, _<_}
 use native.Mathlib.Nat.{zero-add, add-suc, suc-add, add-zero, add-comm, add-assoc, zero-mul, suc-mul, not-suc-le-zero}
 use native.Mathlib.Nat.{le-of-suc-le-suc}
@@ -12,20 +12,21 @@ use lib.Dec.{eqb}
 use lib.ListN.{length, getD, set, take, length-append, length-set}
 use lib.Seq.{set-append-left, getD-set-same, getD-set-other, ext-getD, sets, take-suc, length-take-le}
 use borrow.Author.Tests.{eq-eqb, ne-eqb, eqb-true, eqb-false}
-use Rattle.sizes.specs.Places.{gatePlace, driverPlace, mentionPlace}
+use Rattle.sizes.specs.Places.{gatePlace, driverPlace, mentionPlace, rangePlace, rangedPlace}
 use Rattle.sizes.specs.Sizes as Size
 use Rattle.table.specs.Blocks.{fitted, blocks}
 use Rattle.table.proofs.Places.{length-fitted, length-blocks, blocks-append}
 use Rattle.reading.specs.Choice.{pick}
 use Rattle.reading.proofs.Laws.{by-test, clash, or-left, or-right}
-use Rattle.netlist.specs.Netlist.{Gate, Mark, input, output, opened, Statement, mark, gate, member, linesOf, linesMarked}
+use Rattle.netlist.specs.Netlist.{Gate, Mark, input, output, opened, Range, Statement, mark, gate, priced, member, someLine, linesOf, linesMarked}
+use Rattle.netlist.specs.Netlist.{linesRanged, rangesIn, rangedLines, rangesOf, hasRange, someRange, ofRange}
 use Rattle.netlist.specs.Netlist.{linesClaimed, gatesIn, mentionedLines, markedLines, claimedLines, gatesOf, mentioned}
 use Rattle.netlist.specs.Netlist.{isMarked, isInput, isOutput, isOpen, claimed, lineBad, anyLineBad}
-use Rattle.netlist.specs.Layout.{gateWords, driverWord, outputWord, mentionWord, lineParts, lineWords, partWords}
+use Rattle.netlist.specs.Layout.{gateWords, driverWord, outputWord, mentionWord, packed, rangeWord, rangedWord, lineParts, lineWords, partWords}
 use Rattle.netlist.specs.Layout.{netlistWords}
-use Rattle.netlist.specs.Admitting.{markPlace, markValue, mentionAll}
+use Rattle.netlist.specs.Admitting.{markPlace, markValue, mentionAll, rangeStored}
 use Rattle.netlist.proofs.Places.{length-gateWords, length-lineWords, length-partWords, getD-lineWords, zeroWord}
-use Rattle.netlist.proofs.Causes.{one-more, member-more, lineBad-range, claiming, mark-claims, unclaimed-marked, taken}
+use Rattle.netlist.proofs.Causes.{one-more, member-more, lineBad-range, claiming, mark-claims, unclaimed-marked, taken, rangeLines, ranged-lines}
 
 -- ---- lists
 
@@ -129,14 +130,16 @@ mention-step pins i table h = rw (take-one pins i h) (mention-last (take i pins)
 
 -- ---- the table by its parts
 
+-- The count of gates, the parts, and what stands behind them ..
 unfoldable laid : ℕ → List (ℕ → ℕ) → List ℕ → List ℕ
 laid n fs gs = n ∷ (blocks partWords fs ++ gs)
 
-gatesLaid : List Gate → List ℕ → List ℕ
-gatesLaid gs past = fitted 0 (Size.gates * Size.gateWords) (blocks gateWords gs) ++ past
+-- .. whether there is a range, and the gates.
+gatesLaid : ℕ → List Gate → List ℕ → List ℕ
+gatesLaid w gs past = w ∷ (fitted 0 (Size.gates * Size.gateWords) (blocks gateWords gs) ++ past)
 
 netlist-laid : (ss : List Statement) (past : List ℕ)
-    → netlistWords ss ++ past ≡ laid (length (gatesOf ss)) (lineParts ss) (gatesLaid (gatesOf ss) past)
+    → netlistWords ss ++ past ≡ laid (length (gatesOf ss)) (lineParts ss) (gatesLaid (rangedWord ss) (gatesOf ss) past)
 unfolding netlistWords laid gatesLaid
 netlist-laid ss past = ap (λ (l : List ℕ). length (gatesOf ss) ∷ l) (append-assoc (blocks partWords (lineParts ss)) _ past)
 
@@ -161,9 +164,10 @@ module _ (n : ℕ) (fs : List (ℕ → ℕ)) (gs : List ℕ) where
       (set-blocks partWords Size.lines length-partWords zeroWord f fs p i v h high
       (set-lineWords (getD fs p zeroWord) f Size.lines 1 i v high (rw e here) (rw e other)))))
 
-  sets-gates : (ws : List ℕ) (i : ℕ) → sets (laid n fs gs) (suc (length fs * Size.lines) + i) ws ≡ laid n fs (sets gs i ws)
+  -- from place i behind the parts on
+  sets-behind-parts : (ws : List ℕ) (i : ℕ) → sets (laid n fs gs) (suc (length fs * Size.lines) + i) ws ≡ laid n fs (sets gs i ws)
   unfolding laid
-  sets-gates ws i =
+  sets-behind-parts ws i =
       sets-behind ws (n ∷ blocks partWords fs) gs (suc (length fs * Size.lines)) i
       (ap suc (length-blocks partWords Size.lines length-partWords fs))
 
@@ -182,19 +186,19 @@ mentions-one l ls m k = go (eqb l k) (member k ls)
     go false true = refl
     go false false = refl
 
-module _ (n : ℕ) (d o : ℕ → ℕ) (gs : List ℕ) where
+module _ (n : ℕ) (d o r : ℕ → ℕ) (gs : List ℕ) where
   mentionAll-laid : (ls : List ℕ) (m : ℕ → ℕ) → anyLineBad ls ≡ false
-      → mentionAll ls (laid n (d ∷ o ∷ m ∷ []) gs) ≡ laid n (d ∷ o ∷ withMentions ls m ∷ []) gs
+      → mentionAll ls (laid n (d ∷ o ∷ m ∷ r ∷ []) gs) ≡ laid n (d ∷ o ∷ withMentions ls m ∷ r ∷ []) gs
   unfolding mentionAll anyLineBad
-  mentionAll-laid [] m h = ap (λ (f : ℕ → ℕ). laid n (d ∷ o ∷ f ∷ []) gs) (fun-ext (λ k. unfold withMentions member pick in refl))
+  mentionAll-laid [] m h = ap (λ (f : ℕ → ℕ). laid n (d ∷ o ∷ f ∷ r ∷ []) gs) (fun-ext (λ k. unfold withMentions member pick in refl))
   mentionAll-laid (l ∷ ls) m h =
       let range = lineBad-range l (or-left (lineBad l) (anyLineBad ls) h) in
       ap (mentionAll ls)
-      (set-part n (d ∷ o ∷ m ∷ []) gs 2 l 1 (withMentions (l ∷ []) m) (omega arith) (range .0) (range .1)
+      (set-part n (d ∷ o ∷ m ∷ r ∷ []) gs 2 l 1 (withMentions (l ∷ []) m) (omega arith) (range .0) (range .1)
       (unfold withMentions member pick in rw (eq-eqb l l refl))
       (λ k apart. unfold withMentions member pick in rw (ne-eqb l k (λ e. apart (sym e)))))
       ∙ mentionAll-laid ls (withMentions (l ∷ []) m) (or-right (lineBad l) (anyLineBad ls) h)
-      ∙ ap (λ (f : ℕ → ℕ). laid n (d ∷ o ∷ f ∷ []) gs) (fun-ext (mentions-one l ls m))
+      ∙ ap (λ (f : ℕ → ℕ). laid n (d ∷ o ∷ f ∷ r ∷ []) gs) (fun-ext (mentions-one l ls m))
 
 -- ---- the words of a line after one statement more
 
@@ -236,27 +240,39 @@ module _ (ss : List Statement) (s : Statement) where
   same-driver k q =
       rw (same-mark input refl k q, same-mark opened refl k q, claimed-more k, q, or-false (claimed k ss))
 
+  same-range : rangesIn s ≡ [] → (k : ℕ) → rangeWord after k ≡ rangeWord ss k
+  unfolding rangeWord rangesOf
+  same-range h k = rw (one-more rangesIn ss s, h, append-nil (flatMap rangesIn ss))
+
+  same-ranged : linesRanged s ≡ [] → rangedWord ss ≡ rangedWord after
+  unfolding rangedWord someRange rangedLines
+  same-ranged h = rw (one-more linesRanged ss s, h, append-nil (flatMap linesRanged ss))
+
+  same-gates : gatesIn s ≡ [] → gatesOf ss ≡ gatesOf after
+  unfolding gatesOf
+  same-gates h = rw (one-more gatesIn ss s, h, append-nil (flatMap gatesIn ss))
+
   -- What a statement changes of the parts besides the lines mentioned: part p, at line l alone, to v.
   record Changes (p l v : ℕ) : Type 0 where
     part : p < length (lineParts ss)
     here : getD (lineParts after) p zeroWord l ≡ v
     other : (k : ℕ) → (k ≡ l → ⊥) → getD (lineParts after) p zeroWord k ≡ getD (lineParts ss) p zeroWord k
-    rest : set (lineParts ss) p (getD (lineParts after) p zeroWord) ≡ driverWord after ∷ outputWord after ∷ mentionWord ss ∷ []
+    rest : set (lineParts ss) p (getD (lineParts after) p zeroWord) ≡ driverWord after ∷ outputWord after ∷ mentionWord ss ∷ rangeWord after ∷ []
 
   stored : (past : List ℕ) (p l v : ℕ) → Changes p l v → lineBad l ≡ false → anyLineBad (linesOf s) ≡ false
       → mentionAll (linesOf s) (set (netlistWords ss ++ past) (p * Size.lines + l) v)
-      ≡ laid (length (gatesOf ss)) (lineParts after) (gatesLaid (gatesOf ss) past)
+      ≡ laid (length (gatesOf ss)) (lineParts after) (gatesLaid (rangedWord ss) (gatesOf ss) past)
   unfolding lineParts
   stored past p l v c good all =
       let n = length (gatesOf ss) in
-      let gs = gatesLaid (gatesOf ss) past in
+      let gs = gatesLaid (rangedWord ss) (gatesOf ss) past in
       let range = lineBad-range l good in
       ap (λ (t : List ℕ). mentionAll (linesOf s) (set t (p * Size.lines + l) v)) (netlist-laid ss past)
       ∙ ap (mentionAll (linesOf s))
       (set-part n (lineParts ss) gs p l v (getD (lineParts after) p zeroWord) (c .part) (range .0) (range .1) (c .here) (c .other)
       ∙ ap (λ (fs : List (ℕ → ℕ)). laid n fs gs) (c .rest))
-      ∙ mentionAll-laid n (driverWord after) (outputWord after) gs (linesOf s) (mentionWord ss) all
-      ∙ ap (λ (m : ℕ → ℕ). laid n (driverWord after ∷ outputWord after ∷ m ∷ []) gs) (fun-ext more-mentioned)
+      ∙ mentionAll-laid n (driverWord after) (outputWord after) (rangeWord after) gs (linesOf s) (mentionWord ss) all
+      ∙ ap (λ (m : ℕ → ℕ). laid n (driverWord after ∷ outputWord after ∷ m ∷ rangeWord after ∷ []) gs) (fun-ext more-mentioned)
 
 -- ---- one statement more
 
@@ -277,15 +293,16 @@ module _ (ss : List Statement) (l : ℕ) where
   other-not k apart = rw (ne-eqb l k (λ e. apart (sym e)))
 
   mark-changes : (m : Mark) → taken m ss l ≡ false → Changes ss (mark m l) (partOf m) l (markValue m)
-  unfolding lineParts linesMarked linesClaimed driverWord outputWord taken member pick
+  unfolding lineParts linesMarked linesClaimed rangesIn driverWord outputWord taken member pick
   mark-changes input free =
       record {
         part = omega arith;
         here = rw (isMarked-more ss (mark input l) input l, eq-eqb l l refl, or-true (isInput l ss));
         other = λ k apart. same-driver ss (mark input l) k (other-not k apart);
         rest =
-            ap (λ (f : ℕ → ℕ). driverWord (ss ++ (mark input l ∷ [])) ∷ f ∷ mentionWord ss ∷ [])
-            (fun-ext (λ k. sym (same-output ss (mark input l) k refl)));
+            ap₂ (λ (f g : ℕ → ℕ). driverWord (ss ++ (mark input l ∷ [])) ∷ f ∷ mentionWord ss ∷ g ∷ [])
+            (fun-ext (λ k. sym (same-output ss (mark input l) k refl)))
+            (fun-ext (λ k. sym (same-range ss (mark input l) refl k)));
       }
   mark-changes output free =
       record {
@@ -293,8 +310,9 @@ module _ (ss : List Statement) (l : ℕ) where
         here = rw (isMarked-more ss (mark output l) output l, eq-eqb l l refl, or-true (isOutput l ss));
         other = λ k apart. same-output ss (mark output l) k (other-not k apart);
         rest =
-            ap (λ (f : ℕ → ℕ). f ∷ outputWord (ss ++ (mark output l ∷ [])) ∷ mentionWord ss ∷ [])
-            (fun-ext (λ k. sym (same-driver ss (mark output l) k refl)));
+            ap₂ (λ (f g : ℕ → ℕ). f ∷ outputWord (ss ++ (mark output l ∷ [])) ∷ mentionWord ss ∷ g ∷ [])
+            (fun-ext (λ k. sym (same-driver ss (mark output l) k refl)))
+            (fun-ext (λ k. sym (same-range ss (mark output l) refl k)));
       }
   mark-changes opened free =
       let s = mark opened l in
@@ -310,25 +328,76 @@ module _ (ss : List Statement) (l : ℕ) where
             );
         other = λ k apart. same-driver ss s k (other-not k apart);
         rest =
-            ap (λ (f : ℕ → ℕ). driverWord (ss ++ (s ∷ [])) ∷ f ∷ mentionWord ss ∷ [])
-            (fun-ext (λ k. sym (same-output ss s k refl)));
+            ap₂ (λ (f g : ℕ → ℕ). driverWord (ss ++ (s ∷ [])) ∷ f ∷ mentionWord ss ∷ g ∷ [])
+            (fun-ext (λ k. sym (same-output ss s k refl)))
+            (fun-ext (λ k. sym (same-range ss s refl k)));
       }
 
 pub stored-mark : (ss : List Statement) (past : List ℕ) (m : Mark) (l : ℕ) → lineBad l ≡ false → taken m ss l ≡ false
     → mentionAll (l ∷ []) (set (netlistWords ss ++ past) (markPlace m l) (markValue m)) ≡ netlistWords (ss ++ (mark m l ∷ [])) ++ past
-unfolding linesOf anyLineBad gatesIn
+unfolding linesOf anyLineBad gatesIn linesRanged
 stored-mark ss past m l good free =
     let s = mark m l in
-    let gates : gatesOf ss ≡ gatesOf (ss ++ (s ∷ [])) =
-    unfold gatesOf in sym (one-more gatesIn ss s ∙ append-nil (flatMap gatesIn ss))
-    in
     ap (λ (i : ℕ). mentionAll (l ∷ []) (set (netlistWords ss ++ past) i (markValue m))) (mark-place m l)
     ∙ stored ss s past (partOf m) l (markValue m) (mark-changes ss l m free) good (rw good)
-    ∙ ap (λ (gs : List Gate). laid (length gs) (lineParts (ss ++ (s ∷ []))) (gatesLaid gs past)) gates
+    ∙ ap₂ (λ (gs : List Gate) (w : ℕ). laid (length gs) (lineParts (ss ++ (s ∷ []))) (gatesLaid w gs past)) (same-gates ss s refl) (same-ranged ss s refl)
+    ∙ sym (netlist-laid (ss ++ (s ∷ [])) past)
+
+-- ---- a range
+
+ofRange-append : (f : Range → ℕ) (x : ℕ) (rs qs : List Range) (l : ℕ) → member l (rangeLines rs) ≡ false
+    → ofRange f x (rs ++ qs) l ≡ ofRange f x qs l
+unfolding ofRange rangeLines member pick
+ofRange-append f x [] qs l h = refl
+ofRange-append f x (r ∷ rs) qs l h =
+    rw (
+      or-left (eqb (r .line) l) (member l (rangeLines rs)) h,
+      ofRange-append f x rs qs l (or-right (eqb (r .line) l) (member l (rangeLines rs)) h),
+    )
+
+ofRange-other : (f : Range → ℕ) (x : ℕ) (rs : List Range) (r : Range) (l : ℕ) → (l ≡ r .line → ⊥)
+    → ofRange f x (rs ++ (r ∷ [])) l ≡ ofRange f x rs l
+unfolding ofRange pick
+ofRange-other f x [] r l h = rw (ne-eqb (r .line) l (λ e. h (sym e)))
+ofRange-other f x (q ∷ rs) r l h = rw (ofRange-other f x rs r l h)
+
+range-changes : (ss : List Statement) (r : Range) → hasRange (r .line) ss ≡ false → Changes ss (priced r) 3 (r .line) (packed r)
+unfolding hasRange lineParts linesMarked linesClaimed member rangeWord rangesOf rangesIn ofRange pick
+range-changes ss r free =
+    let s = priced r in
+    let none : member (r .line) (rangeLines (flatMap rangesIn ss)) ≡ false = rw (ranged-lines ss) at free in
+    record {
+      part = omega arith;
+      here = rw (one-more rangesIn ss s, ofRange-append packed 0 (flatMap rangesIn ss) (r ∷ []) (r .line) none, eq-eqb (r .line) (r .line) refl);
+      other = λ k apart. rw (one-more rangesIn ss s) (ofRange-other packed 0 (flatMap rangesIn ss) r k apart);
+      rest =
+          ap₂ (λ (f g : ℕ → ℕ). f ∷ g ∷ mentionWord ss ∷ rangeWord (ss ++ (s ∷ [])) ∷ [])
+          (fun-ext (λ k. sym (same-driver ss s k refl)))
+          (fun-ext (λ k. sym (same-output ss s k refl)));
+    }
+
+some-more : (ls : List ℕ) (l : ℕ) → someLine (ls ++ (l ∷ [])) ≡ true
+unfolding someLine
+some-more [] l = refl
+some-more (k ∷ ls) l = refl
+
+now-ranged : (ss : List Statement) (r : Range) → rangedWord (ss ++ (priced r ∷ [])) ≡ 1
+unfolding rangedWord someRange rangedLines linesRanged pick
+now-ranged ss r = rw (one-more linesRanged ss (priced r), some-more (flatMap linesRanged ss) (r .line))
+
+pub stored-range : (ss : List Statement) (past : List ℕ) (r : Range) → lineBad (r .line) ≡ false → hasRange (r .line) ss ≡ false
+    → rangeStored r (netlistWords ss ++ past) ≡ netlistWords (ss ++ (priced r ∷ [])) ++ past
+unfolding rangeStored gatesLaid lineParts linesOf anyLineBad gatesIn
+stored-range ss past r good free =
+    let s = priced r in
+    let fs = lineParts (ss ++ (s ∷ [])) in
+    ap (λ (t : List ℕ). set t rangedPlace 1) (stored ss s past 3 (r .line) (packed r) (range-changes ss r free) good (rw good))
+    ∙ sets-behind-parts (length (gatesOf ss)) fs (gatesLaid (rangedWord ss) (gatesOf ss) past) (1 ∷ []) 0
+    ∙ ap₂ (λ (gs : List Gate) (w : ℕ). laid (length gs) fs (gatesLaid w gs past)) (same-gates ss s refl) (sym (now-ranged ss r))
     ∙ sym (netlist-laid (ss ++ (s ∷ [])) past)
 
 gate-changes : (ss : List Statement) (g : Gate) → claimed (g .line) ss ≡ false → Changes ss (gate g) 0 (g .line) 2
-unfolding lineParts linesMarked linesClaimed member driverWord pick
+unfolding lineParts linesMarked linesClaimed rangesIn member driverWord pick
 gate-changes ss g free =
     let s = gate g in
     let l = g .line in
@@ -346,23 +415,26 @@ gate-changes ss g free =
           );
       other = λ k apart. same-driver ss s k (other-not ss l k apart);
       rest =
-          ap (λ (f : ℕ → ℕ). driverWord (ss ++ (s ∷ [])) ∷ f ∷ mentionWord ss ∷ [])
-          (fun-ext (λ k. sym (same-output ss s k refl)));
+          ap₂ (λ (f g : ℕ → ℕ). driverWord (ss ++ (s ∷ [])) ∷ f ∷ mentionWord ss ∷ g ∷ [])
+          (fun-ext (λ k. sym (same-output ss s k refl)))
+          (fun-ext (λ k. sym (same-range ss s refl k)));
     }
 
-one-gate : (gs : List Gate) (past : List ℕ) (g : Gate) → length gs < Size.gates
-    → sets (gatesLaid gs past) (length gs * Size.gateWords) (gateWords g) ≡ gatesLaid (gs ++ (g ∷ [])) past
+one-gate : (w : ℕ) (gs : List Gate) (past : List ℕ) (g : Gate) → length gs < Size.gates
+    → sets (gatesLaid w gs past) (1 + length gs * Size.gateWords) (gateWords g) ≡ gatesLaid w (gs ++ (g ∷ [])) past
 unfolding gatesLaid blocks
-one-gate gs past g few =
+one-gate w gs past g few =
     let bs = blocks gateWords gs in
     let size = Size.gates * Size.gateWords in
     let long = length-blocks gateWords Size.gateWords length-gateWords gs in
-    sets-front (gateWords g) (fitted 0 size bs) past (length gs * Size.gateWords)
+    sets-behind (gateWords g) (w ∷ []) (fitted 0 size bs ++ past) 1 (length gs * Size.gateWords) refl
+    ∙ ap (λ (l : List ℕ). w ∷ l)
+    (sets-front (gateWords g) (fitted 0 size bs) past (length gs * Size.gateWords)
     (rw (length-gateWords g, length-fitted 0 size bs) (omega arith))
     ∙ ap (λ (l : List ℕ). l ++ past)
     (ap (λ (i : ℕ). sets (fitted 0 size bs) i (gateWords g)) (sym long)
     ∙ sets-fitted 0 size (gateWords g) bs
-    ∙ ap (fitted 0 size) (sym (blocks-append gateWords gs (g ∷ []) ∙ ap (λ (l : List ℕ). bs ++ l) (append-nil (gateWords g)))))
+    ∙ ap (fitted 0 size) (sym (blocks-append gateWords gs (g ∷ []) ∙ ap (λ (l : List ℕ). bs ++ l) (append-nil (gateWords g))))))
 
 pub stored-gate : (ss : List Statement) (past : List ℕ) (g : Gate) → anyLineBad (g .line ∷ g .pins) ≡ false
     → claimed (g .line) ss ≡ false → length (gatesOf ss) < Size.gates
@@ -370,7 +442,7 @@ pub stored-gate : (ss : List Statement) (past : List ℕ) (g : Gate) → anyLine
     (sets (mentionAll (g .line ∷ g .pins) (set (netlistWords ss ++ past) (driverPlace (g .line)) 2))
     (gatePlace (length (gatesOf ss))) (gateWords g)) 0 (length (gatesOf ss) + 1)
     ≡ netlistWords (ss ++ (gate g ∷ [])) ++ past
-unfolding linesOf anyLineBad gatesIn lineParts
+unfolding linesOf anyLineBad gatesIn linesRanged lineParts
 stored-gate ss past g good free few =
     let s = gate g in
     let l = g .line in
@@ -383,7 +455,8 @@ stored-gate ss past g good free few =
     ∙ ap (λ (t : List ℕ). set (sets t (gatePlace n) (gateWords g)) 0 (n + 1))
     (stored ss s past 0 l 2 (gate-changes ss g free) (or-left (lineBad l) (anyLineBad (g .pins)) good) good)
     ∙ ap (λ (t : List ℕ). set t 0 (n + 1))
-    (sets-gates n fs (gatesLaid (gatesOf ss) past) (gateWords g) (n * Size.gateWords)
-    ∙ ap (laid n fs) (one-gate (gatesOf ss) past g few))
-    ∙ set-count n fs (gatesLaid (gatesOf ss ++ (g ∷ [])) past) (n + 1)
-    ∙ rw (count, ← gates) (sym (netlist-laid (ss ++ (s ∷ [])) past))
+    (ap (λ (i : ℕ). sets (laid n fs (gatesLaid (rangedWord ss) (gatesOf ss) past)) i (gateWords g)) (omega arith)
+    ∙ sets-behind-parts n fs (gatesLaid (rangedWord ss) (gatesOf ss) past) (gateWords g) (1 + n * Size.gateWords)
+    ∙ ap (laid n fs) (one-gate (rangedWord ss) (gatesOf ss) past g few))
+    ∙ set-count n fs (gatesLaid (rangedWord ss) (gatesOf ss ++ (g ∷ [])) past) (n + 1)
+    ∙ rw (count, ← gates, same-ranged ss s refl) (sym (netlist-laid (ss ++ (s ∷ [])) past))

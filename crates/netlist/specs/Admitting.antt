@@ -1,6 +1,6 @@
 -- One statement over plain numbers, as `admit` takes it from texts and from records, and what admitting it comes to.
 -- Assumes nothing.
-use mathlib.Core.Bool.{Bool, true, false, _&&_}
+use mathlib.Core.Bool.{Bool, true, false, _&&_, not}
 use mathlib.Core.List.{List, [], _∷_, _++_}
 use mathlib.Core.Logic.{_⊎_}
 use mathlib.Core.Option.{Option, none, some}
@@ -9,7 +9,7 @@ use Prim.Native.Nat.{ℕ, _+_, _%_, _<_, min}
 use lib.Dec.{eqb}
 use lib.ListN.{length, getD, set, take}
 use lib.Seq.{sets}
-use Rattle.sizes.specs.Places.{driverPlace, outputPlace, mentionPlace, gatePlace}
+use Rattle.sizes.specs.Places.{driverPlace, outputPlace, mentionPlace, rangePlace, rangedPlace, gatePlace}
 use Rattle.sizes.specs.Sizes as Size
 use Rattle.table.specs.Blocks.{fitted}
 use Rattle.reading.specs.Choice.{pick}
@@ -17,10 +17,10 @@ use Rattle.reading.specs.Numbers as No
 use Rattle.cell_library.specs.Cells.{Cell}
 use Rattle.netlist.specs.declared.RawStatement.{RawStatement}
 use Rattle.netlist.specs.Lowest.{lowest}
-use Rattle.netlist.specs.Netlist.{Gate, Mark, input, output, opened, Statement, mark, gate, kindOf, gateKind, lastKind}
+use Rattle.netlist.specs.Netlist.{Gate, Mark, input, output, opened, Range, Statement, mark, gate, priced, kindOf, gateKind, rangeKind, lastKind}
 use Rattle.netlist.specs.Netlist.{linesOf, anyLineBad, linesWhere, someLine}
 use Rattle.netlist.specs.Netlist.{unknownCell, countDiffers, causes}
-use Rattle.netlist.specs.Layout.{netlistWords, NetlistHolds}
+use Rattle.netlist.specs.Layout.{packed, netlistWords, NetlistHolds}
 use Rattle.netlist.specs.Lines.{mentionAt}
 use Rattle.netlist.specs.Sound.{Sound}
 
@@ -40,11 +40,19 @@ pub record IsGate (g : Gate) (p : RawStatement) : Type 0 where
   pub count : p .count ≡ length (g .pins)
   pub bad : p .bad ≡ anyLineBad (g .pins)
 
+-- L, LOW and HIGH are gathered as the pins of a gate are.
+pub record IsRange (r : Range) (p : RawStatement) : Type 0 where
+  pub form : p .form ≡ true
+  pub kind : p .kind ≡ rangeKind
+  pub line : p .line ≡ r .line
+  pub pins : p .pins ≡ fitted 0 Size.pins (r .line ∷ r .low ∷ r .high ∷ [])
+
 -- The statement that the numbers stand for; none is bad form, which they say themselves, or by a kind that is not known.
 unfoldable pub StandsFor : RawStatement → Option Statement → Type 0
 StandsFor p none = (p .form ≡ false) ⊎ (lastKind < p .kind)
 StandsFor p (some (mark m l)) = IsMark m l p
 StandsFor p (some (gate g)) = IsGate g p
+StandsFor p (some (priced r)) = IsRange r p
 
 -- ---- what admitting a statement comes to
 
@@ -110,6 +118,10 @@ mentionAll (l ∷ ls) table = mentionAll ls (set table (mentionPlace l) 1)
 unfoldable pub gateStored : ℕ → ℕ → ℕ → List ℕ → List ℕ → List ℕ
 gateStored g cell line pins table = sets table (gatePlace g) (cell ∷ (line ∷ take Size.pins pins))
 
+-- What a range leaves at its line: its one number, that the line is mentioned, and that there is a range.
+unfoldable pub rangeStored : Range → List ℕ → List ℕ
+rangeStored r table = set (mentionAll (r .line ∷ []) (set table (rangePlace (r .line)) (packed r))) rangedPlace 1
+
 -- The count of gates with one more, as the 32 bits of a number have it.
 abbrev pub oneMore : ℕ → ℕ
 oneMore g = (g + 1) % 4294967296
@@ -131,3 +143,9 @@ wordsUndeclared table l = mentionAt table l && eqb (getD table (driverPlace l) 0
 -- Whether it says so of some line.
 abbrev pub someUndeclared : List ℕ → Bool
 someUndeclared table = someLine (linesWhere (wordsUndeclared table) Size.lines 1)
+
+-- ---- ranges
+
+-- Whether the table says that some line has a range.
+abbrev pub someRanged : List ℕ → Bool
+someRanged table = not (eqb (getD table rangedPlace 0) 0)

@@ -1,10 +1,11 @@
--- The netlist: its statements, and where a text of them stops. Document 01, "Netlist" and "Where a text stops", netlist line.
+-- The netlist: its statements, and where a text of them stops. Document 01, "Netlist" and "Where a text stops", netlist line;
+-- document 02, K5 and K10.
 -- Assumes nothing.
 use mathlib.Core.Bool.{Bool, true, false, not, _&&_, _||_}
 use mathlib.Core.List.{List, [], _∷_, _++_, flatMap}
 use mathlib.Core.Option.{Option, none, some}
 use Prim.Native.Nat.{ℕ, zero, suc}
-use lib.Dec.{leb, eqb}
+use lib.Dec.{leb, ltb, eqb}
 use lib.ListN.{length}
 use Rattle.sizes.specs.Sizes as Size
 use Rattle.text.specs.Bytes.{bytes, bytes-open}
@@ -31,10 +32,19 @@ pub data Mark : Type 0 where
   output : Mark
   opened : Mark
 
--- "`input,L`, `output,L`, `gate,NAME,L,P1,..,Pn`. L is the line marked or driven, P1.. the lines read by the pins in order."
+-- "A line `range,L,LOW,HIGH` gives input L, marked above it, a combinational price somewhere from LOW to HIGH for both values"
+-- (K10).
+pub record Range : Type 0 where
+  pub line : ℕ
+  pub low : ℕ
+  pub high : ℕ
+
+-- "`input,L`, `output,L`, `gate,NAME,L,P1,..,Pn`. L is the line marked or driven, P1.. the lines read by the pins in order.";
+-- and a range.
 pub data Statement : Type 0 where
   mark : Mark → (line : ℕ) → Statement
   gate : Gate → Statement
+  priced : Range → Statement
 
 -- "kind (0 input, 1 output, 2 gate)"; "In record lists, kind 3 is open." (K5)
 abbrev pub kindOf : Mark → ℕ
@@ -45,11 +55,16 @@ kindOf opened = 3
 abbrev pub gateKind : ℕ
 gateKind = 2
 
+-- "Record lists have no ranges." (K10): no record has this kind.
+abbrev pub rangeKind : ℕ
+rangeKind = 4
+
 -- The last kind that is known.
 abbrev pub lastKind : ℕ
-lastKind = 3
+lastKind = rangeKind
 
--- By the old rules, "those in force just before" K5, nothing declares a line open; by the new ones `open,L` does.
+-- By the old rules, "those in force just before" K5, nothing declares a line open; by the new ones `open,L` does. The old rules
+-- know no ranges either.
 abbrev pub declaring : Rules → Bool
 declaring Old = false
 declaring New = true
@@ -86,13 +101,23 @@ unfoldable pub gateOf : List Cell → Fields → Option Statement
 gateOf cells [] = none
 gateOf cells (name ∷ fs) = pick (nameForm name) (drivenBy (cellNamed name cells) (decimals fs)) none
 
+-- `L,LOW,HIGH`: three decimals.
+unfoldable pub rangeOf : Option (List ℕ) → Option Statement
+rangeOf none = none
+rangeOf (some []) = none
+rangeOf (some (l ∷ [])) = none
+rangeOf (some (l ∷ (low ∷ []))) = none
+rangeOf (some (l ∷ (low ∷ (high ∷ [])))) = some (priced (record { line = l; low = low; high = high }))
+rangeOf (some (l ∷ (low ∷ (high ∷ (n ∷ ns))))) = none
+
 unfoldable pub statementOf : Rules → List Cell → Fields → Option Statement
 statementOf rules cells [] = none
 statementOf rules cells (f ∷ fs) =
     pick (sameBytes f (bytes "input")) (markOf input (lone fs))
     (pick (sameBytes f (bytes "output")) (markOf output (lone fs))
     (pick (sameBytes f (bytes "gate")) (gateOf cells fs)
-    (pick (declaring rules && sameBytes f (bytes "open")) (markOf opened (lone fs)) none)))
+    (pick (declaring rules && sameBytes f (bytes "open")) (markOf opened (lone fs))
+    (pick (declaring rules && sameBytes f (bytes "range")) (rangeOf (decimals fs)) none))))
 
 -- ---- what one statement says
 
@@ -100,11 +125,13 @@ statementOf rules cells (f ∷ fs) =
 unfoldable pub linesOf : Statement → List ℕ
 linesOf (mark m l) = l ∷ []
 linesOf (gate g) = g .line ∷ g .pins
+linesOf (priced r) = r .line ∷ []
 
 -- The line that it marks so, if any.
 unfoldable pub linesMarked : Mark → Statement → List ℕ
 linesMarked m (mark k l) = pick (eqb (kindOf m) (kindOf k)) (l ∷ []) []
 linesMarked m (gate g) = []
+linesMarked m (priced r) = []
 
 -- The line that it claims, if any: that it drives, "driven .. (input or gate)", or declares open.
 unfoldable pub linesClaimed : Statement → List ℕ
@@ -112,6 +139,7 @@ linesClaimed (mark input l) = l ∷ []
 linesClaimed (mark output l) = []
 linesClaimed (mark opened l) = l ∷ []
 linesClaimed (gate g) = g .line ∷ []
+linesClaimed (priced r) = []
 
 -- The lines that it asks a driver or `open,L` for: "a line that a pin reads or an output marks".
 unfoldable pub linesNeeded : Statement → List ℕ
@@ -119,10 +147,23 @@ linesNeeded (mark input l) = []
 linesNeeded (mark output l) = l ∷ []
 linesNeeded (mark opened l) = []
 linesNeeded (gate g) = g .pins
+linesNeeded (priced r) = []
+
+-- The line that it gives a range, if any.
+unfoldable pub linesRanged : Statement → List ℕ
+linesRanged (mark m l) = []
+linesRanged (gate g) = []
+linesRanged (priced r) = r .line ∷ []
 
 unfoldable pub gatesIn : Statement → List Gate
 gatesIn (mark m l) = []
 gatesIn (gate g) = g ∷ []
+gatesIn (priced r) = []
+
+unfoldable pub rangesIn : Statement → List Range
+rangesIn (mark m l) = []
+rangesIn (gate g) = []
+rangesIn (priced r) = r ∷ []
 
 -- ---- what the statements so far say, in netlist order
 
@@ -138,15 +179,25 @@ claimedLines ss = flatMap linesClaimed ss
 unfoldable pub neededLines : List Statement → List ℕ
 neededLines ss = flatMap linesNeeded ss
 
+unfoldable pub rangedLines : List Statement → List ℕ
+rangedLines ss = flatMap linesRanged ss
+
 unfoldable pub gatesOf : List Statement → List Gate
 gatesOf ss = flatMap gatesIn ss
+
+unfoldable pub rangesOf : List Statement → List Range
+rangesOf ss = flatMap rangesIn ss
 
 unfoldable pub member : ℕ → List ℕ → Bool
 member l [] = false
 member l (k ∷ ks) = eqb k l || member l ks
 
+unfoldable pub someLine : List ℕ → Bool
+someLine [] = false
+someLine (l ∷ ls) = true
+
 -- A line that stands anywhere in the netlist; a line marked so, an input, an output, an open line; a line driven by an input or
--- a gate, or declared open.
+-- a gate, or declared open; a line with a range.
 unfoldable pub mentioned : ℕ → List Statement → Bool
 mentioned l ss = member l (mentionedLines ss)
 
@@ -165,7 +216,26 @@ isOpen l ss = isMarked opened l ss
 unfoldable pub claimed : ℕ → List Statement → Bool
 claimed l ss = member l (claimedLines ss)
 
--- ---- refusals 11 to 15, of a statement after those before it
+unfoldable pub hasRange : ℕ → List Statement → Bool
+hasRange l ss = member l (rangedLines ss)
+
+-- "With such a line present"
+unfoldable pub someRange : List Statement → Bool
+someRange ss = someLine (rangedLines ss)
+
+-- What is asked of the range of a line, the first that it has; of a line that has none what stands for it.
+unfoldable pub ofRange : (Range → ℕ) → ℕ → List Range → ℕ → ℕ
+ofRange f otherwise [] l = otherwise
+ofRange f otherwise (r ∷ rs) l = pick (eqb (r .line) l) (f r) (ofRange f otherwise rs l)
+
+-- What inputs cost, "all inputs at LOW and all at HIGH"; "Inputs without one cost 1."
+unfoldable pub lowPrice : List Statement → ℕ → ℕ
+lowPrice ss l = ofRange (λ r. r .low) 1 (rangesOf ss) l
+
+unfoldable pub highPrice : List Statement → ℕ → ℕ
+highPrice ss l = ofRange (λ r. r .high) 1 (rangesOf ss) l
+
+-- ---- refusals 11 to 15, 21 and 22, of a statement after those before it
 
 -- "Line numbers run from 1 to 1,000."
 unfoldable pub lineBad : ℕ → Bool
@@ -180,6 +250,7 @@ anyLineBad (l ∷ ls) = lineBad l || anyLineBad ls
 unfoldable pub unknownCell : List Cell → Statement → Bool
 unknownCell cells (mark m l) = false
 unknownCell cells (gate g) = leb (length cells) (g .cell)
+unknownCell cells (priced r) = false
 
 unfoldable pub pinsAt : List Cell → ℕ → ℕ
 pinsAt [] k = 0
@@ -190,6 +261,7 @@ pinsAt (c ∷ cs) (suc k) = pinsAt cs k
 unfoldable pub countDiffers : List Cell → Statement → Bool
 countDiffers cells (mark m l) = false
 countDiffers cells (gate g) = not (eqb (length (g .pins)) (pinsAt cells (g .cell)))
+countDiffers cells (priced r) = false
 
 -- Whether one of some lines stands among others.
 unfoldable pub anyMember : List ℕ → List ℕ → Bool
@@ -205,6 +277,25 @@ drivenBefore ss s = anyMember (linesClaimed s) (claimedLines ss)
 unfoldable pub markedBefore : List Statement → Statement → Bool
 markedBefore ss s = anyMember (linesMarked output s) (markedLines output ss)
 
+-- "21 for a range on a line not marked input above" (K10)
+unfoldable pub notInput : List Statement → Statement → Bool
+notInput ss (mark m l) = false
+notInput ss (gate g) = false
+notInput ss (priced r) = not (isInput (r .line) ss)
+
+-- "bounds outside 1 to 999"; these, or "LOW above HIGH"
+unfoldable pub priceBad : ℕ → Bool
+priceBad x = ltb x 1 || ltb Size.mostPrice x
+
+unfoldable pub boundsBad : ℕ → ℕ → Bool
+boundsBad low high = priceBad low || (priceBad high || ltb high low)
+
+-- "then 22 for bounds outside 1 to 999, LOW above HIGH, or a second range for L." (K10)
+unfoldable pub rangeBad : List Statement → Statement → Bool
+rangeBad ss (mark m l) = false
+rangeBad ss (gate g) = false
+rangeBad ss (priced r) = boundsBad (r .low) (r .high) || hasRange (r .line) ss
+
 -- The causes for which a statement is refused, in the numbers' order, each with whether it holds.
 unfoldable pub causes : List Cell → List Statement → Statement → List (ℕ × Bool)
 causes cells ss s =
@@ -213,6 +304,8 @@ causes cells ss s =
     ∷ (No.pinsDiffer, countDiffers cells s)
     ∷ (No.drivenBefore, drivenBefore ss s)
     ∷ (No.markedBefore, markedBefore ss s)
+    ∷ (No.notInput, notInput ss s)
+    ∷ (No.rangeBad, rangeBad ss s)
     ∷ []
 
 unfoldable pub admit : ℕ → List Cell → List Statement → Statement → Read (Unit {0})
@@ -252,10 +345,6 @@ linesWhere p (suc n) first = pick (p first) (first ∷ linesWhere p n (suc first
 unfoldable pub undeclaredLines : List Statement → List ℕ
 undeclaredLines ss = linesWhere (undeclared ss) Size.lines 1
 
-unfoldable pub someLine : List ℕ → Bool
-someLine [] = false
-someLine (l ∷ ls) = true
-
 -- "Refused: 20 for a line read or marked but neither driven nor open, at line 0, after all netlist lines and before 17." By the
 -- old rules there is no 20.
 unfoldable pub declared : Rules → List Statement → Read (List Statement)
@@ -266,5 +355,5 @@ netlist rules cells t = textStatements rules cells t >>= declared rules
 
 -- Opens the page's definitions, where a figure computes with them.
 unfoldable pub netlist-open : ℕ
-unfolding bytes-open lines-open numeral-open refusal-open library-open flatMap with decimals lone markOf drivenBy gateOf statementOf linesOf linesMarked linesClaimed linesNeeded gatesIn mentionedLines markedLines claimedLines neededLines gatesOf member mentioned isMarked claimed lineBad anyLineBad unknownCell pinsAt countDiffers anyMember drivenBefore markedBefore causes admit admitted lineForm lineForms textStatements undeclared linesWhere undeclaredLines someLine declared netlist
+unfolding bytes-open lines-open numeral-open refusal-open library-open flatMap with decimals lone markOf drivenBy gateOf rangeOf statementOf linesOf linesMarked linesClaimed linesNeeded linesRanged gatesIn rangesIn mentionedLines markedLines claimedLines neededLines rangedLines gatesOf rangesOf member someLine mentioned isMarked claimed hasRange someRange ofRange lowPrice highPrice lineBad anyLineBad unknownCell pinsAt countDiffers anyMember drivenBefore markedBefore notInput priceBad boundsBad rangeBad causes admit admitted lineForm lineForms textStatements undeclared linesWhere undeclaredLines declared netlist
 netlist-open = 0

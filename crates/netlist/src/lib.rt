@@ -1,13 +1,13 @@
-// The netlist: its statements, refusals 10 to 15 and 20, and the netlist table. One statement over plain numbers is checked
-// and stored here; what a line of text says is read by `netlist_text`, what a record says by `records`.
+// The netlist: its statements, refusals 10 to 15 and 20 to 22, and the netlist table. One statement over plain numbers is
+// checked and stored here; what a line of text says is read by `netlist_text`, what a record says by `records`.
 //
-// Open to others: `line_bad`. For the crates above: `admit`, which checks a `RawStatement` and stores it, and behind all
-// statements `undeclared` and `some_undeclared`, which ask the table. Modules `gates` and `lines`: what a table says of its gates
-// and lines, for all that read it.
+// Open to others: `line_bad` and `some_range`. For the crates above: `admit`, which checks a `RawStatement` and stores it, and
+// behind all statements `undeclared` and `some_undeclared`, which ask the table. Modules `gates` and `lines`: what a table
+// says of its gates and lines, for all that read it.
 ghost use mathlib.Core.Path.{_≡_};
 ghost use mathlib.Core.List.{List, [], _∷_};
 ghost use mathlib.Core.Option.{Option, some};
-ghost use Prim.Native.Nat.{_+_, _≤_, min};
+ghost use Prim.Native.Nat.{_+_, _*_, _≤_, min};
 ghost use lib.ListN.{set, take};
 ghost use lib.Seq.{sets};
 ghost use Rattle.sizes.specs.Places.{gatePlace, mentionPlace};
@@ -16,8 +16,8 @@ ghost use Rattle.reading.specs.Numbers as No;
 ghost use Rattle.cell_library.specs.Cells.{Cell};
 ghost use Rattle.cell_library.specs.Layout.{LibraryHolds};
 ghost use Rattle.netlist.specs.Lowest.{lowest};
-ghost use Rattle.netlist.specs.Netlist.{Gate, Mark, Statement, mark, gate, lineBad};
-ghost use Rattle.netlist.specs.Admitting.{IsGate, StandsFor, gateCause, Admits, markPlace, markNumber, markValue, mentionAll, gateStored, oneMore, gateAdded, wordsUndeclared, someUndeclared};
+ghost use Rattle.netlist.specs.Netlist.{Gate, Mark, Statement, mark, gate, priced, lineBad, priceBad, boundsBad};
+ghost use Rattle.netlist.specs.Admitting.{IsGate, StandsFor, gateCause, Admits, markPlace, markNumber, markValue, mentionAll, gateStored, rangeStored, oneMore, gateAdded, wordsUndeclared, someUndeclared, someRanged};
 use cell_library::cells::count;
 use cell_library::cells::pins_of;
 use gates::place_of;
@@ -38,7 +38,11 @@ pub const GATE: u32 = 2;
 
 pub const OPEN: u32 = 3;
 
-// Which rules are in force: the old ones, by which nothing declares a line open, or the new ones (K5).
+// "Record lists have no ranges" (K10): a kind for lines of text alone.
+pub const RANGE: u32 = 4;
+
+// Which rules are in force: the old ones, by which nothing declares a line open and no input has a range, or the new ones (K5,
+// K10).
 pub enum Rules {
     Old,
     New,
@@ -138,19 +142,73 @@ fn admit_mark(table: &mut [u32], at: usize, value: u32, second: u32, l: u32) -> 
     0
 }
 
-// The lowest number of a gate's own causes, 0 where none holds.
-fn lowest(bad: bool, unknown: bool, differs: bool) -> u32
-    ensures { λ r. ⌜ r ≡ lowest ((No.lineBad, bad) ∷ (No.cellUnknown, unknown) ∷ (No.pinsDiffer, differs) ∷ []) ⌝ }
+// The lowest number of three causes, the first of which is a line out of range; 0 where none holds.
+fn lowest(bad: bool, second: bool, number: u32, third: bool, other: u32) -> u32
+    ensures { λ r. ⌜ r ≡ lowest ((No.lineBad, bad) ∷ (number, second) ∷ (other, third) ∷ []) ⌝ }
 {
     if bad {
         reading::LINE_BAD
-    } else if unknown {
-        reading::CELL_UNKNOWN
-    } else if differs {
-        reading::PINS_DIFFER
+    } else if second {
+        number
+    } else if third {
+        other
     } else {
         0
     }
+}
+
+// Whether a bound is outside 1 to 999.
+fn price_bad(x: u32) -> bool
+    ensures { λ r. ⌜ r ≡ priceBad x ⌝ }
+{
+    (x < 1) | (sizes::MOST_PRICE < x)
+}
+
+// Whether a range has bad bounds.
+fn bounds_bad(low: u32, high: u32) -> bool
+    ensures { λ r. ⌜ r ≡ boundsBad low high ⌝ }
+{
+    price_bad(low) | (price_bad(high) | (high < low))
+}
+
+// A range as one number.
+fn packed(low: u32, high: u32) -> u32
+    requires { ⌜ (low ≤ Size.mostPrice) × (high ≤ Size.mostPrice) ⌝ }
+    ensures { λ r. ⌜ r ≡ low + Size.prices * high ⌝ }
+{
+    low + sizes::PRICES * high
+}
+
+// Stores a range.
+fn store_range(table: &mut [u32], l: u32, low: u32, high: u32)
+    requires { ⌜ (low ≤ Size.mostPrice) × (high ≤ Size.mostPrice) ⌝ }
+    ensures { λ _. ⌜ now (table .exit) ≡ rangeStored (record { line = l; low = low; high = high }) (now (table .entry)) ⌝ }
+{
+    put(table, sizes::RANGES_AT + l as usize, packed(low, high));
+    mention(table, l);
+    put(table, sizes::RANGED_AT, 1);
+}
+
+// Checks a range, and admits it: 11, then 21, then 22.
+fn admit_range(table: &mut [u32], l: u32, low: u32, high: u32) -> u32
+    ensures { λ r. ⌜ ((cells : List Cell) → Admits cells (some (priced (record { line = l; low = low; high = high })))
+        (now (table .entry)) r (now (table .exit))) ⌝ }
+{
+    let unmarked = word(table, l as usize) != 1;
+    let again = word(table, sizes::RANGES_AT + l as usize) != 0;
+    let unfit = bounds_bad(low, high) | again;
+    let cause = lowest(
+        line_bad(l),
+        unmarked,
+        reading::NOT_INPUT,
+        unfit,
+        reading::RANGE_BAD,
+    );
+    if cause != 0 {
+        return cause;
+    }
+    store_range(table, l, low, high);
+    0
 }
 
 // Why a gate is refused by its own numbers: 11 to 13, or 0. The count of pins of an unknown cell does not matter.
@@ -163,7 +221,13 @@ fn gate_cause(library: &[u32], s: RawStatement) -> u32
     let pins = pins_of(library, s.cell) as usize;
     let n = s.count;
     let differs = pins != n;
-    lowest(bad, unknown, differs)
+    lowest(
+        bad,
+        unknown,
+        reading::CELL_UNKNOWN,
+        differs,
+        reading::PINS_DIFFER,
+    )
 }
 
 // A count of gates with one more. A netlist has at most as many gates as lines; in a table that holds none any count may
@@ -204,7 +268,7 @@ fn admit_gate(table: &mut [u32], library: &[u32], s: RawStatement) -> u32
 }
 
 // Checks one statement after those that the table holds, and admits it: 0, or the lowest number that
-// refuses it, 10 to 15, with the table as it was. A kind that is not known is bad form, 10.
+// refuses it, 10 to 15, 21 or 22, with the table as it was. A kind that is not known is bad form, 10.
 pub fn admit(table: &mut [u32], library: &[u32], s: RawStatement) -> u32
     ensures { λ r. ⌜ ((cells : List Cell) (w : Option Statement) → LibraryHolds (now (library .entry)) cells
         → StandsFor s w → Admits cells w (now (table .entry)) r (now (table .exit))) ⌝ }
@@ -233,6 +297,10 @@ pub fn admit(table: &mut [u32], library: &[u32], s: RawStatement) -> u32
     if kind == GATE {
         return admit_gate(table, library, s);
     }
+    if kind == RANGE {
+        let pins = s.pins;
+        return admit_range(table, l, pins[1], pins[2]);
+    }
     reading::NETLIST_FORM
 }
 
@@ -260,4 +328,13 @@ pub fn some_undeclared(table: &[u32]) -> bool
         l += 1;
     }
     false
+}
+
+// ---- ranges
+
+// Whether some line has a range: one number of the table says so.
+pub fn some_range(table: &[u32]) -> bool
+    ensures { λ r. ⌜ r ≡ someRanged (now (table .entry)) ⌝ }
+{
+    word(table, sizes::RANGED_AT) != 0
 }

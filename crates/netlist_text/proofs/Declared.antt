@@ -2,7 +2,7 @@
 -- Assumes nothing.
 use mathlib.Core.Bool.{true, false, _&&_}
 use mathlib.Core.List.{List}
-use mathlib.Core.Path.{_≡_, sym, _∙_}
+use mathlib.Core.Path.{_≡_, refl, sym, _∙_}
 use Prim.Native.Nat.{ℕ}
 use lib.ListN.{length, drop, replicate}
 use lib.Seq.{drop-at}
@@ -20,6 +20,8 @@ use Rattle.netlist.specs.declared.Rules.{Rules}
 use Rattle.netlist.specs.Netlist.{Statement, declaring, textStatements, undeclaredLines, someLine, declared, netlist}
 use Rattle.netlist.specs.Layout.{netlistWords, NetlistHolds, netlistAfter}
 use Rattle.netlist.specs.Admitting.{someUndeclared}
+use Rattle.netlist.specs.Sound.{Sound}
+use Rattle.netlist.proofs.Laws.{text-sound}
 use Rattle.netlist.proofs.Opening.{some-same}
 use Rattle.netlist.proofs.Places.{length-netlistWords}
 use Rattle.netlist_text.specs.Reading.{ReadsAs}
@@ -27,19 +29,20 @@ use Rattle.netlist_text.specs.Reading.{ReadsAs}
 held-past : {table : List ℕ} {ss : List Statement} (h : NetlistHolds table ss) → drop Size.netlist table ≡ h .past
 held-past {table} {ss} h = rw (h .words) (drop-at (netlistWords ss) (h .past) Size.netlist (length-netlistWords ss))
 
-module _ (rules : Rules) (before : List ℕ) (ss : List Statement) (h : NetlistHolds before ss) (r : Verdict) (after : List ℕ) where
+module _ {cells : List Cell} (rules : Rules) (before : List ℕ) (ss : List Statement) (so : Sound cells ss) (h : NetlistHolds before ss)
+    (r : Verdict) (after : List ℕ) where
   pub declares-refused : (declaring rules && someUndeclared before) ≡ true → verdictRead r ≡ refused No.undeclared 0
       → after ≡ replicate (length before) 0 → ReadsAs (declared rules ss) before r after
   unfolding declared weigh pick _>>_ doneRead netlistAfter
   declares-refused t said z =
-      let e : (declaring rules && someLine (undeclaredLines ss)) ≡ true = rw (← some-same h) t in
+      let e : (declaring rules && someLine (undeclaredLines ss)) ≡ true = rw (← some-same h so) t in
       record { answers = rw e said; leaves = rw e z }
 
   pub declares-read : (declaring rules && someUndeclared before) ≡ false → verdictRead r ≡ read tt → after ≡ before
       → ReadsAs (declared rules ss) before r after
   unfolding declared weigh pick _>>_ doneRead netlistAfter
   declares-read t said z =
-      let e : (declaring rules && someLine (undeclaredLines ss)) ≡ false = rw (← some-same h) t in
+      let e : (declaring rules && someLine (undeclaredLines ss)) ≡ false = rw (← some-same h so) t in
       record { answers = rw e said; leaves = rw (e, held-past h) (z ∙ h .words) }
 
 -- ---- the lines of a text, and what comes behind them
@@ -58,14 +61,15 @@ module _ (f : List Statement → Read (List Statement)) {before mid : List ℕ} 
   then-refused (refused number line) r reads = reads
   then-refused (read ss) r reads = refused-read (reads .answers)
 
-  then-read : (o : Read (List Statement)) → ReadsAs o before Accepted mid → length mid ≡ length before → (w : Verdict) (after : List ℕ)
-      → ((ss : List Statement) → NetlistHolds mid ss → ReadsAs (f ss) mid w after)
+  then-read : {cells : List Cell} (o : Read (List Statement)) → ((ss : List Statement) → o ≡ read ss → Sound cells ss)
+      → ReadsAs o before Accepted mid → length mid ≡ length before → (w : Verdict) (after : List ℕ)
+      → ((ss : List Statement) → Sound cells ss → NetlistHolds mid ss → ReadsAs (f ss) mid w after)
       → ReadsAs (o >>= f) before w after
   unfolding _>>=_ verdictRead doneRead netlistAfter
-  then-read (refused number line) reads size w after behind = refused-read (sym (reads .answers))
-  then-read (read ss) reads size w after behind =
+  then-read (refused number line) sound reads size w after behind = refused-read (sym (reads .answers))
+  then-read (read ss) sound reads size w after behind =
       let held : NetlistHolds mid ss = record { past = drop Size.netlist before; words = reads .leaves } in
-      let d = behind ss held in
+      let d = behind ss (sound ss refl) held in
       record { answers = d .answers; leaves = d .leaves ∙ after-same mid before size (held-past held) (f ss) }
 
 module _ (rules : Rules) (cells : List Cell) (text before : List ℕ) (v : Verdict) (mid : List ℕ)
@@ -75,7 +79,8 @@ module _ (rules : Rules) (cells : List Cell) (text before : List ℕ) (v : Verdi
   all-refused r q = rw q (then-refused (declared rules) (textStatements rules cells text) r (rw q at lines))
 
   pub all-read : v ≡ Accepted → length mid ≡ length before → (w : Verdict) (after : List ℕ)
-      → ((ss : List Statement) → NetlistHolds mid ss → ReadsAs (declared rules ss) mid w after)
+      → ((ss : List Statement) → Sound cells ss → NetlistHolds mid ss → ReadsAs (declared rules ss) mid w after)
       → ReadsAs (netlist rules cells text) before w after
   unfolding netlist
-  all-read q size w after declares = then-read (declared rules) (textStatements rules cells text) (rw q at lines) size w after declares
+  all-read q size w after declares =
+      then-read (declared rules) (textStatements rules cells text) (text-sound cells rules text) (rw q at lines) size w after declares

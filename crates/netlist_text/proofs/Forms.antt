@@ -1,14 +1,17 @@
 -- The statement of a line of text, field by field.
 -- Assumes nothing.
-use mathlib.Core.Bool.{Bool, true, false, _||_, or-false, or-assoc}
+use mathlib.Core.Bool.{Bool, true, false, _&&_, _||_, or-false, or-assoc}
 use mathlib.Core.List.{List, [], _∷_, _++_, append-nil, append-assoc}
 use mathlib.Core.Logic.{inl}
 use mathlib.Core.Option.{Option, none, some}
 use mathlib.Core.Path.{_≡_, refl, sym, ap, _∙_}
 use Prim.Native.Nat.{ℕ, _+_, _≤_, _<_}
 use native.Mathlib.Omega.{arith}
-use lib.ListN.{length, set, length-append}
+use borrow.Author.Tests.{ne-eqb}
+use lib.Dec.{eqb}
+use lib.ListN.{length, getD, set, length-append}
 use Rattle.sizes.specs.Sizes as Size
+use Rattle.table.specs.Blocks.{fitted}
 use Rattle.reading.specs.Choice.{pick}
 use Rattle.text.specs.Lines.{part, fields, fieldsFrom, nextAfter, sameBytes}
 use Rattle.text.specs.Numeral.{decimal, nameForm, numeralRead}
@@ -19,7 +22,7 @@ use Rattle.cell_library.specs.Cells.{Cell}
 use Rattle.cell_library.specs.Library.{cellNamed}
 use Rattle.netlist_text.specs.declared.Pins.{Pins}
 use Rattle.netlist.specs.declared.RawStatement.{RawStatement}
-use Rattle.netlist.specs.Netlist.{Statement, gateKind, with, decimals, lone, drivenBy, gateOf, lineBad, anyLineBad}
+use Rattle.netlist.specs.Netlist.{Statement, gateKind, rangeKind, rangeOf, with, decimals, lone, drivenBy, gateOf, lineBad, anyLineBad}
 use Rattle.netlist.specs.Admitting.{StandsFor}
 use Rattle.netlist_text.specs.Reading.{PinsAre, PinsRead}
 use Rattle.netlist.proofs.Storing.{set-fitted}
@@ -170,6 +173,21 @@ gathered-gate cell l (some ls) ps p h form kind named line pins count bad =
       count = count ∙ h .1 .count;
       bad = bad ∙ h .1 .bad;
     }
+
+-- ---- a range
+
+-- Three numbers, gathered as pins are.
+pub gathered-range : (o : Option (List ℕ)) (ps : Pins) (p : RawStatement) → PinsRead o ps → p .form ≡ (ps .form && eqb (ps .count) 3)
+    → p .kind ≡ rangeKind → p .line ≡ getD (ps .pins) 0 0 → p .pins ≡ ps .pins → StandsFor p (rangeOf o)
+unfolding PinsRead StandsFor rangeOf fitted
+gathered-range none ps p h form kind line pins = inl (form ∙ rw h)
+gathered-range (some []) ps p h form kind line pins = inl (form ∙ rw (h .0, h .1 .count))
+gathered-range (some (l ∷ [])) ps p h form kind line pins = inl (form ∙ rw (h .0, h .1 .count))
+gathered-range (some (l ∷ (a ∷ []))) ps p h form kind line pins = inl (form ∙ rw (h .0, h .1 .count))
+gathered-range (some (l ∷ (a ∷ (b ∷ [])))) ps p h form kind line pins =
+    record { form = form ∙ rw (h .0, h .1 .count); kind = kind; line = line ∙ rw (h .1 .pins); pins = pins ∙ h .1 .pins }
+gathered-range (some (l ∷ (a ∷ (b ∷ (c ∷ ls))))) ps p h form kind line pins =
+    inl (form ∙ rw (h .0, h .1 .count) (ne-eqb (length (l ∷ a ∷ b ∷ c ∷ ls)) 3 (λ e. omega arith)))
 
 -- ---- a statement
 

@@ -14,9 +14,10 @@ ghost use Rattle.reading.specs.Refusal.{refused};
 ghost use Rattle.reading.specs.Verdict.{verdictRead};
 ghost use Rattle.cell_library.specs.Cells.{Cell};
 ghost use Rattle.cell_library.specs.Layout.{LibraryHolds};
-ghost use Rattle.netlist.specs.Netlist.{Mark, Statement, kindOf, declaring, lone, markOf, gateOf, statementOf, decimals, textStatements, declared, netlist};
+ghost use Rattle.netlist.specs.Netlist.{Mark, Statement, kindOf, declaring, lone, markOf, gateOf, rangeOf, statementOf, decimals, textStatements, declared, netlist};
 ghost use Rattle.netlist.specs.Layout.{NetlistHolds};
 ghost use Rattle.netlist.specs.Admitting.{IsMark, StandsFor, Admits};
+ghost use Rattle.netlist.specs.Sound.{Sound};
 ghost use Rattle.netlist_text.specs.Reading.{PinsRead, netlistEntry, ReadsAs, ReadsNetlist};
 use cell_library::cells::find;
 use netlist::RawStatement;
@@ -36,7 +37,7 @@ use text::is_name;
 use text::line;
 use text::same;
 
-// Whether `open,L` is a statement.
+// Whether `open,L` and `range,L,LOW,HIGH` are statements.
 fn declaring(rules: Rules) -> bool
     ensures { λ r. ⌜ r ≡ declaring rules ⌝ }
 {
@@ -172,6 +173,24 @@ fn gate_from(line: &[u8], at: usize, library: &[u32]) -> RawStatement
     }
 }
 
+// A range, from the field of its line on: three numbers, gathered as pins are.
+fn range_from(line: &[u8], at: usize) -> RawStatement
+    ensures { λ r. ⌜ StandsFor r (rangeOf (decimals (fieldsFrom (now (line .entry)) at))) ⌝ }
+{
+    let p = pins_from(line, at);
+    let pins = p.pins;
+    let three = p.count == 3;
+    RawStatement {
+        form: p.form & three,
+        kind: netlist::RANGE,
+        cell: 0,
+        line: pins[0],
+        pins: pins,
+        count: p.count,
+        bad: false,
+    }
+}
+
 fn statement_of(rules: Rules, line: &[u8], library: &[u32]) -> RawStatement
     ensures { λ r. ⌜ ((cells : List Cell) → LibraryHolds (now (library .entry)) cells
         → StandsFor r (statementOf rules cells (fields (now (line .entry))))) ⌝ }
@@ -190,6 +209,10 @@ fn statement_of(rules: Rules, line: &[u8], library: &[u32]) -> RawStatement
     let opens = declaring(rules) & same(f, b"open");
     if opens {
         return mark_from(line, at, netlist::OPEN);
+    }
+    let prices = declaring(rules) & same(f, b"range");
+    if prices {
+        return range_from(line, at);
     }
     malformed()
 }
@@ -244,7 +267,7 @@ fn read_lines(rules: Rules, text: &[u8], library: &[u32], table: &mut [u32], use
 
 // What comes behind the lines of a text: the new rules ask that each line read or marked is driven or open.
 fn declare(rules: Rules, table: &mut [u32]) -> Verdict
-    ensures { λ r. ⌜ ((ss : List Statement) → NetlistHolds (now (table .entry)) ss
+    ensures { λ r. ⌜ ((cells : List Cell) (ss : List Statement) → Sound cells ss → NetlistHolds (now (table .entry)) ss
         → ReadsAs (declared rules ss) (now (table .entry)) r (now (table .exit))) ⌝ }
 {
     let asked = declaring(rules) & some_undeclared(table);

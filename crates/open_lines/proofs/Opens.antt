@@ -16,7 +16,7 @@ use Rattle.reading.proofs.Laws.{by-test}
 use Rattle.text.specs.Bytes.{bytes}
 use Rattle.writer.specs.Put.{Put}
 use Rattle.writer.specs.Refused.{refusalBytes}
-use Rattle.writer.specs.Buffer.{shown}
+use Rattle.writer.specs.Buffer.{textWithin, shown}
 use Rattle.writer.proofs.Decimal.{decimal-below}
 use Rattle.writer.proofs.Buffer.{refusal-short, put-prints}
 use Rattle.cell_library.specs.Cells.{Cell}
@@ -25,10 +25,14 @@ use Rattle.netlist.specs.declared.Rules.the-variants.{Old}
 use Rattle.netlist.specs.Netlist.{Statement, mentioned, undeclared, linesWhere, undeclaredLines, netlist}
 use Rattle.netlist.specs.Layout.{NetlistHolds}
 use Rattle.netlist.specs.Admitting.{wordsUndeclared}
+use Rattle.netlist.specs.Sound.{Sound}
 use Rattle.netlist.proofs.HeldLines.{where-same}
+use Rattle.netlist.proofs.Laws.{netlist-sound}
 use Rattle.netlist.proofs.Opening.{words-undeclared}
 use Rattle.calculation.specs.Calculation.{Analysed, analysed}
 use Rattle.report.specs.Report.{reportBytes}
+use Rattle.report.proofs.Laws.{report-fits}
+use Rattle.outcome.specs.Outcome as O
 use Rattle.copying.specs.Copy.{openLine, openLines, copyOf, declaredToo}
 use Rattle.copying.specs.Kept.{Kept}
 use Rattle.copying.proofs.Copying.{copy-keeps}
@@ -90,12 +94,12 @@ copy-length net ss h =
     (omega (arith, opens-length (undeclared ss) Size.lines 1 (omega arith)))
 
 -- The lines that the table says are those of the statements that it holds.
-pub table-copy : {table : List ℕ} {ss : List Statement} → NetlistHolds table ss → (net : List ℕ)
+pub table-copy : {cells : List Cell} {table : List ℕ} {ss : List Statement} → NetlistHolds table ss → Sound cells ss → (net : List ℕ)
     → net ++ openLines (linesWhere (wordsUndeclared table) Size.lines 1) ≡ copyOf net ss
 unfolding copyOf undeclaredLines
-table-copy {table} {ss} h net =
+table-copy {cells} {table} {ss} h so net =
     ap (λ (ls : List ℕ). net ++ openLines ls)
-    (where-same (wordsUndeclared table) (undeclared ss) Size.lines 1 (λ l low high. words-undeclared h l low (omega arith)))
+    (where-same (wordsUndeclared table) (undeclared ss) Size.lines 1 (λ l low high. words-undeclared h so l low (omega arith)))
 
 -- ---- what an accepted netlist comes to
 
@@ -116,11 +120,25 @@ module _ (lib net : List ℕ) where
         ap (λ (x : Analysed). reportBytes (λ l. mentioned l (declaredToo ss)) (x .numbers) (x .counts)) (kept .numbers)
         ∙ ap (λ (f : ℕ → Bool). reportBytes f (a .numbers) (a .counts)) (fun-ext (kept .mentions))
 
+    one-report : O.reports cells (declaredToo ss) ≡ reportOf ss (analysed cells ss)
+    unfolding O.reports O.second pick
+    one-report = rw (kept .unranged) (append-nil (reportOf (declaredToo ss) (analysed cells (declaredToo ss))) ∙ same-report)
+
+    short-report : length (reportOf ss (analysed cells ss)) ≤ Size.reportBytes
+    unfolding reportOf
+    short-report = let a = analysed cells ss in report-fits (λ l. mentioned l ss) (a .numbers) (a .counts)
+
     reports : length (copyOf net ss) ≤ Size.textBytes → printed lib (copyOf net ss) ≡ reportOf ss (analysed cells ss)
-    unfolding printed reported readPair givenBy shown textLong weigh pick _>>=_ _>>_
+    unfolding printed reported readPair givenBy shown textLong textWithin weigh pick _>>=_ _>>_
     reports short =
-        rw (le-ltb Size.textBytes (length lib) short-lib, le-ltb Size.textBytes (length (copyOf net ss)) short, cells-read, kept .accepts)
-        same-report
+        rw (
+          le-ltb Size.textBytes (length lib) short-lib,
+          le-ltb Size.textBytes (length (copyOf net ss)) short,
+          cells-read,
+          kept .accepts,
+          one-report,
+          le-ltb Size.reportBytes (length (reportOf ss (analysed cells ss))) short-report,
+        )
 
     accepted : Accepted lib net cells ss
     unfolding copyPrinted shown
@@ -155,7 +173,7 @@ module _ (lib net : List ℕ) where
       put-all before room after said (copyOf net (b .statements))
       (ap shown (copied-read (b .cells) (b .statements) (b .libShort) (b .netShort) (b .cellsRead) (b .statementsRead)))
       (copy-length net (b .statements) (b .netShort))
-      (rw (← table-copy (b .holds) net) p)
+      (rw (← table-copy (b .holds) (netlist-sound (b .cells) Old net (b .statements) (b .statementsRead)) net) p)
 
   -- The entry, on tables of their own.
   abbrev first : Read (Unit {0})

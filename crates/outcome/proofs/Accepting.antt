@@ -1,17 +1,19 @@
 -- What an accepted outcome says of what was given.
 -- Assumes nothing.
-use mathlib.Core.List.{List}
+use mathlib.Core.List.{List, []}
 use mathlib.Core.Path.{_≡_, refl, subst}
-use Prim.Native.Nat.{ℕ}
+use Prim.Native.Nat.{ℕ, _≤_}
+use borrow.Author.Tests.{ltb-false}
 use lib.ListN.{length}
+use Rattle.reading.specs.Numbers as No
 use Rattle.reading.specs.Refusal.{read, _>>=_, weigh}
-use Rattle.reading.proofs.Laws.{bind-read, then-read}
+use Rattle.reading.proofs.Laws.{bind-read, then-read, weigh-one}
 use Rattle.cell_library.specs.Cells.{Cell}
 use Rattle.cell_library.specs.Library.{library}
 use Rattle.netlist.specs.Netlist.{Statement}
 use Rattle.calculation.specs.Calculation.{analysed}
 use Rattle.outcome.specs.Demands.{PairRead}
-use Rattle.outcome.specs.Outcome.{Given, Lent, Pair, pairOf, Accepted, entry, outcome, readPair, reading, conclude, reportOf}
+use Rattle.outcome.specs.Outcome.{Given, Lent, Pair, pairOf, Accepted, entry, outcome, readPair, reading, conclude, reports}
 
 -- ---- the library and the netlist
 
@@ -38,19 +40,22 @@ pair-is pair = rw (pair .cellsRead, pair .statementsRead)
 -- What was concluded from cells and statements.
 abbrev pub concluded : List Cell → List Statement → Accepted
 concluded cells ss =
-    record { cells = cells; statements = ss; analysis = analysed cells ss; report = reportOf ss (analysed cells ss) }
+    record { cells = cells; statements = ss; analysis = analysed cells ss; report = reports cells ss }
 
 pub concludes : (cells : List Cell) (ss : List Statement) (space : ℕ) (a : Accepted) → conclude cells ss space ≡ read a
-    → concluded cells ss ≡ a
+    → (concluded cells ss ≡ a) × (length (reports cells ss) ≤ space)
 unfolding conclude
-concludes cells ss space a e = then-read (weigh 0 _) (read (concluded cells ss)) a (λ u p q. cc) e
+concludes cells ss space a e =
+    then-read (weigh 0 _) (read (concluded cells ss)) a
+    (λ u p q. (cc, ltb-false space (length (reports cells ss)) (weigh-one No.reportLong 0 _ [] u p .0))) e
 
-pub record Accepts (g : Given) (a : Accepted) : Type 0 where
+pub record Accepts (g : Given) (space : ℕ) (a : Accepted) : Type 0 where
   pub cells : library (g .library) ≡ read (a .cells)
   pub statements : g .statements (a .cells) ≡ read (a .statements)
   pub made : concluded (a .cells) (a .statements) ≡ a
+  pub fits : length (a .report) ≤ space
 
-pub accepts : (g : Given) (m : Lent) (a : Accepted) → outcome g m ≡ read a → Accepts g a
+pub accepts : (g : Given) (m : Lent) (a : Accepted) → outcome g m ≡ read a → Accepts g (length (m .report)) a
 unfolding outcome reading
 accepts g m a r =
     then-read (entry g m) _ a
@@ -58,4 +63,4 @@ accepts g m a r =
     (λ p q r₂.
     let h = read-as g p q in
     let same = concludes (p .cells) (p .statements) (length (m .report)) a r₂ in
-    subst (Accepts g) same (record { cells = h .cells; statements = h .statements; made = refl })) r₁) r
+    subst (Accepts g (length (m .report))) (same .0) (record { cells = h .cells; statements = h .statements; made = refl; fits = same .1 })) r₁) r

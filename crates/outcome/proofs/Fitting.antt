@@ -1,7 +1,7 @@
--- Which calls are accepted, and by which numbers the others are refused. No report is longer than the longest: what is read is
--- accepted where the buffer has room for that, and 17 needs a shorter one.
+-- Which calls are accepted, and by which numbers the others are refused: what is read is accepted where the buffer has room
+-- for its report, and 17 needs a shorter one. No report is longer than the longest.
 -- Assumes nothing.
-use mathlib.Core.Bool.{true, false, true≢false}
+use mathlib.Core.Bool.{Bool, true, false, true≢false}
 use mathlib.Core.List.{List}
 use mathlib.Core.Logic.{_⊎_, inl, inr, ⊎-elim}
 use mathlib.Core.Path.{_≡_, refl, sym, ap, subst, _∙_}
@@ -9,7 +9,7 @@ use Prim.Native.Nat.{ℕ, _+_, _≤_, _<_}
 use native.Mathlib.Omega.{arith}
 use borrow.Author.Tests.{le-ltb, ltb-true}
 use lib.Dec.{ltb}
-use lib.ListN.{length}
+use lib.ListN.{length, length-append}
 use Rattle.reading.specs.Choice.{pick}
 use Rattle.reading.specs.Numbers as No
 use Rattle.reading.specs.Refusal.{Read, refused, read, _>>=_, _>>_, weigh}
@@ -19,36 +19,50 @@ use Rattle.cell_library.specs.Cells.{Cell}
 use Rattle.cell_library.specs.Library.{library}
 use Rattle.cell_library.proofs.Bounds.{library-within}
 use Rattle.cell_library.proofs.Laws.{library-sound}
-use Rattle.netlist.specs.Netlist.{Statement, mentioned, gatesOf}
-use Rattle.calculation.specs.Prices.{pricesOf}
+use Rattle.netlist.specs.Netlist.{Statement, mentioned, gatesOf, someRange}
+use Rattle.calculation.specs.Prices.{pricesAt}
 use Rattle.calculation.specs.Acceptance.{BothSound}
-use Rattle.calculation.specs.Calculation.{analysed}
-use Rattle.calculation.proofs.Laws.{own-figures}
+use Rattle.calculation.specs.Calculation.{analysedAt}
+use Rattle.calculation.proofs.Laws.{end-figures}
 use Rattle.calculation.proofs.Laws.{few-sweeps}
-use Rattle.report.specs.Report.{longestReport}
-use Rattle.report.proofs.Laws.{report-length}
-use Rattle.outcome.specs.Demands.{PairRead}
-use Rattle.outcome.specs.Outcome.{Given, Lent, Accepted, entry, outcome, readPair, reading, conclude, answer, summary, reportOf, tableShort}
+use Rattle.report.specs.Report.{longestReport, longestReports}
+use Rattle.report.proofs.Laws.{report-length, high-length}
+use Rattle.outcome.specs.Demands.{PairRead, longest, TooShort}
+use Rattle.outcome.specs.Outcome.{Given, Lent, Accepted, entry, outcome, readPair, reading, conclude, answer, summary, reportOf, second, reports, tableShort}
 use Rattle.outcome.proofs.Accepting.{read-as, pair-is, concluded}
 use Rattle.outcome.proofs.Checking.{Checked}
 use Rattle.outcome.proofs.Refusing.{bind-refused, then-refused}
 
+pub longest-most : (ss : List Statement) → longest ss ≤ longestReports
+unfolding longest pick
+longest-most ss = by-test (someRange ss) (λ t. rw t (omega arith)) (λ t. rw t (omega arith))
+
 module _ (cells : List Cell) (ss : List Statement) (sound : BothSound cells ss) where
-  pub report-short : length (reportOf ss (analysed cells ss)) ≤ longestReport
+  report-short : (high : Bool) → length (reportOf ss (analysedAt (pricesAt high ss) cells ss)) ≤ longestReport
   unfolding reportOf
-  report-short =
-      let a = analysed cells ss in
-      report-length (λ l. mentioned l ss) (a .numbers) (a .counts) (length (gatesOf ss)) (sound .netlist .few) (few-sweeps cells ss sound (pricesOf ss) (own-figures sound))
+  report-short high =
+      let a = analysedAt (pricesAt high ss) cells ss in
+      report-length (λ l. mentioned l ss) (a .numbers) (a .counts) (length (gatesOf ss)) (sound .netlist .few)
+      (few-sweeps cells ss sound (pricesAt high ss) (end-figures sound high))
 
-  concludes-fitting : (space : ℕ) → longestReport ≤ space → conclude cells ss space ≡ read (concluded cells ss)
+  pub reports-short : length (reports cells ss) ≤ longest ss
+  unfolding reports second longest pick
+  reports-short =
+      by-test (someRange ss)
+      (λ t. rw t (simp length-append (omega (arith, report-short false, report-short true, high-length))))
+      (λ t. rw t (simp length-append (omega (arith, report-short false))))
+
+module _ (cells : List Cell) (ss : List Statement) where
+  concludes-fitting : (space : ℕ) → length (reports cells ss) ≤ space → conclude cells ss space ≡ read (concluded cells ss)
   unfolding conclude weigh _>>_ pick
-  concludes-fitting space h = rw (le-ltb space (length (reportOf ss (analysed cells ss))) (omega (arith, report-short)))
+  concludes-fitting space h = rw (le-ltb space (length (reports cells ss)) h)
 
-  concludes-long : (space number line : ℕ) → conclude cells ss space ≡ refused number line → (number ≡ No.reportLong) × (space < longestReport)
+  concludes-long : (space number line : ℕ) → conclude cells ss space ≡ refused number line
+      → (number ≡ No.reportLong) × (space < length (reports cells ss))
   unfolding conclude weigh _>>_ pick
   concludes-long space number line e =
-      by-test (ltb space (length (reportOf ss (analysed cells ss))))
-      (λ long. (cc (rw long at e), omega (arith, ltb-true space (length (reportOf ss (analysed cells ss))) long, report-short)))
+      by-test (ltb space (length (reports cells ss)))
+      (λ long. (cc (rw long at e), ltb-true space (length (reports cells ss)) long))
       (λ fits. refused-read (sym (rw fits at e)))
 
 module _ (g : Given) (checked : Checked g) where
@@ -69,16 +83,16 @@ module _ (g : Given) (checked : Checked g) where
       (λ cells p q. bind-refused (g .statements cells) _ number line (λ r. checked .numbered cells number line r) (λ ss r t. refused-read (sym t)) q) e
 
   module _ (m : Lent) where
-    pub accepts-fitting : entry g m ≡ read tt → (pair : PairRead g) → longestReport ≤ length (m .report)
+    pub accepts-fitting : entry g m ≡ read tt → (pair : PairRead g) → length (reports (pair .cells) (pair .statements)) ≤ length (m .report)
         → answer (outcome g m) ≡ read (summary (concluded (pair .cells) (pair .statements)))
     unfolding answer outcome reading _>>_ _>>=_
     accepts-fitting e pair h =
-        rw (e, pair-is pair, concludes-fitting (pair .cells) (pair .statements) (pair-sound pair) (length (m .report)) h)
+        rw (e, pair-is pair, concludes-fitting (pair .cells) (pair .statements) (length (m .report)) h)
 
     -- ---- which numbers there are behind the entry: those of the texts, and 17 where the buffer is short
 
     abbrev Behind : ℕ → Type 0
-    Behind number = (textNumber number ≡ true) ⊎ ((number ≡ No.reportLong) × (length (m .report) < longestReport))
+    Behind number = (textNumber number ≡ true) ⊎ ((number ≡ No.reportLong) × TooShort g m)
 
     module _ (number line : ℕ) where
       behind : reading g (length (m .report)) ≡ refused number line → Behind number
@@ -88,7 +102,8 @@ module _ (g : Given) (checked : Checked g) where
           (λ x p q.
           let h = read-as g x p in
           let pair : PairRead g = record { cells = x .cells; statements = x .statements; cellsRead = h .cells; statementsRead = h .statements } in
-          inr (concludes-long (x .cells) (x .statements) (pair-sound pair) (length (m .report)) number line q)) e
+          let long = concludes-long (x .cells) (x .statements) (length (m .report)) number line q in
+          inr (long .0, (pair, long .1))) e
 
       pub entry-number : entry g m ≡ refused number line → No.ofEntry number ≡ true
       unfolding entry
@@ -111,7 +126,7 @@ module _ (g : Given) (checked : Checked g) where
       unfolding outcome
       refused-where e at-entry later = then-refused (entry g m) _ number line at-entry (λ u p q. later p q) (from-answer (outcome g m) e)
 
-    pub long-refused : (line : ℕ) → answer (outcome g m) ≡ refused No.reportLong line → length (m .report) < longestReport
+    pub long-refused : (line : ℕ) → answer (outcome g m) ≡ refused No.reportLong line → TooShort g m
     long-refused line e =
         refused-where No.reportLong line e
         (λ p. absurd (true≢false (sym (entry-number No.reportLong line p))))

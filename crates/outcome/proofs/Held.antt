@@ -36,7 +36,7 @@ module _ (g : Given) (checked : Checked g) (before after : Lent) (said : Read Su
       p .leaves
       ∙ then-read (entry g before) (reading g (length (before .report))) (came .0) (λ u a r. rw (a, r) refl) (came .1)
 
-  as-read : Accepts g (came .0)
+  as-read : Accepts g (length (before .report)) (came .0)
   as-read = accepts g before (came .0) (came .1)
 
   same-cells : came .0 .cells ≡ pair .cells

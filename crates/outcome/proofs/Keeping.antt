@@ -23,16 +23,16 @@ use Rattle.calculation.specs.Settled.{Settled, FewSweeps}
 use Rattle.calculation.specs.Plans.{Exact}
 use Rattle.calculation.specs.Acceptance.{BothSound}
 use Rattle.calculation.specs.declared.Counts.{Counts}
-use Rattle.calculation.proofs.Laws.{own-figures}
+use Rattle.calculation.proofs.Laws.{own-figures, low-within, high-within, analysis-at, between}
 use Rattle.calculation.proofs.Laws.{exact, settled, settled-once, few-sweeps, unmentioned, entry-bounded, numbers-length, node-inside, Placed}
 use Rattle.report.specs.Report.{reportBytes}
 use Rattle.report.proofs.Laws.{report-same}
 use Rattle.outcome.specs.declared.Summary.{Summary}
-use Rattle.outcome.specs.Outcome.{Given, Lent, Accepted, summary, reportOf, entry, outcome, reading, answer, left, leftFrom, leftLater, filled, zeroed}
+use Rattle.outcome.specs.Outcome.{Given, Lent, Accepted, summary, reportOf, second, reports, entry, outcome, reading, answer, left, leftFrom, leftLater, filled, zeroed}
 use Rattle.outcome.specs.Demands.{Reported, standing, standingReport, PairRead, Acceptance, Calculated, ReportStands, Promised}
 use Rattle.outcome.proofs.Checking.{Checked}
 use Rattle.outcome.proofs.Accepting.{concluded, Accepts, accepts}
-use Rattle.outcome.proofs.Fitting.{report-short, pair-sound, accepts-fitting, entry-number, later-number, refused-where, long-refused}
+use Rattle.outcome.proofs.Fitting.{reports-short, pair-sound, accepts-fitting, entry-number, later-number, refused-where, long-refused}
 
 placed : (p : Purpose) → Reported p → Placed p
 unfolding InRange
@@ -80,8 +80,9 @@ module _ (g : Given) (checked : Checked g) (before after : Lent) (said : Read Su
   -- What an accepted call answers and leaves, by the cells and statements that were read.
   record Agrees (cells : List Cell) (ss : List Statement) (s : Summary) : Type 0 where
     numbers : after .numbers ≡ analysed cells ss .numbers ++ drop Size.numbers (before .numbers)
-    report : after .report ≡ reportOf ss (analysed cells ss) ++ drop (length (reportOf ss (analysed cells ss))) (before .report)
+    report : after .report ≡ reports cells ss ++ drop (length (reports cells ss)) (before .report)
     says : s ≡ summary (concluded cells ss)
+    fits : length (reports cells ss) ≤ length (before .report)
 
   filled-by : (x : Accepted) → outcome g before ≡ read x → left g before ≡ filled x before
   unfolding outcome left leftFrom leftLater
@@ -94,7 +95,7 @@ module _ (g : Given) (checked : Checked g) (before after : Lent) (said : Read Su
   agrees (read x) e a l pair s r =
       let cells = pair .cells in
       let ss = pair .statements in
-      let h : Accepts g x = accepts g before x e in
+      let h : Accepts g (length (before .report)) x = accepts g before x e in
       let sc : x .cells ≡ cells = cc (h .cells, pair .cellsRead) in
       let h2 : g .statements cells ≡ read (x .statements) = rw (← sc) (h .statements) in
       let st : x .statements ≡ ss = cc (pair .statementsRead) in
@@ -104,6 +105,7 @@ module _ (g : Given) (checked : Checked g) (before after : Lent) (said : Read Su
         numbers = ap (λ (y : Lent). y .numbers) stands;
         report = ap (λ (y : Lent). y .report) stands;
         says = let e2 : s ≡ summary x = cc in e2 ∙ ap summary made;
+        fits = subst (λ (y : Accepted). length (y .report) ≤ length (before .report)) made (h .fits);
       }
 
   -- ---- an accepted call
@@ -153,18 +155,30 @@ module _ (g : Given) (checked : Checked g) (before after : Lent) (said : Read Su
         report-same marks marks (analysed cells ss .numbers) (after .numbers) (analysed cells ss .counts) (λ l a b. refl) (λ i h. sym (entry-at i h))
         ∙ ap (λ (k : Counts). reportBytes marks (after .numbers) k) (sym counts-are)
 
-    length-is : s .length ≡ length (reportOf ss (analysed cells ss))
+    reports-are : reports cells ss ≡ standingReport ss after s ++ second cells ss
+    unfolding reports
+    reports-are = ap (λ (y : List ℕ). y ++ second cells ss) report-is
+
+    length-is : s .length ≡ length (reports cells ss)
     unfolding summary
     length-is = ap (λ (y : Summary). y .length) (z .says)
 
-    prints : ReportStands g before after said ss s
+    prints : ReportStands g before after said cells ss s
     prints =
-        let r = reportOf ss (analysed cells ss) in
+        let r = reports cells ss in
         record {
-          size = length-is ∙ ap length report-is;
-          bytes = rw (z .report) (take-at r (drop (length r) (before .report)) (s .length) (sym length-is)) ∙ report-is;
+          size = length-is ∙ ap length reports-are;
+          bytes = rw (z .report) (take-at r (drop (length r) (before .report)) (s .length) (sym length-is)) ∙ reports-are;
+          prices =
+              record {
+                low = low-within sound;
+                high = high-within sound;
+                analyses = analysis-at cells ss sound;
+                between = λ price w p r. between cells ss sound p (placed p r) price w;
+              };
           past = rw (z .report) (drop-at r (drop (length r) (before .report)) (s .length) (sym length-is)) ∙ ap (λ (n : ℕ). drop n (before .report)) (sym length-is);
-          short = rw length-is (report-short cells ss sound);
+          fits = rw length-is (z .fits);
+          short = rw length-is (reports-short cells ss sound);
         }
 
   -- ---- the promise
@@ -173,7 +187,7 @@ module _ (g : Given) (checked : Checked g) (before after : Lent) (said : Read Su
   unfolding answer
   pair-of (refused number line) e s r = refused-read (sym r)
   pair-of (read x) e s r =
-      let h : Accepts g x = accepts g before x e in
+      let h : Accepts g (length (before .report)) x = accepts g before x e in
       record { cells = x .cells; statements = x .statements; cellsRead = h .cells; statementsRead = h .statements }
 
   accepting : said ≡ answer (outcome g before) → Acceptance g before after said
@@ -182,6 +196,7 @@ module _ (g : Given) (checked : Checked g) (before after : Lent) (said : Read Su
         wasRead = λ s r. pair-of (outcome g before) refl s (sym r ∙ a);
         accepts = λ e pair h. (summary (concluded (pair .cells) (pair .statements)), a ∙ accepts-fitting g checked before e pair h);
         reportLong = λ line r. long-refused g checked before line (sym a ∙ r);
+        shortEnough = λ pair. reports-short (pair .cells) (pair .statements) (pair-sound g checked pair);
       }
 
   pub keeps : said ≡ answer (outcome g before) → after ≡ left g before → Promised g before after said

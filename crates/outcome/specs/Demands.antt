@@ -3,25 +3,28 @@
 -- call ends, and relies on no earlier check, is what the checker shows of every function that has no `requires`.
 -- Assumes nothing.
 use mathlib.Core.Bool.{true, false}
-use mathlib.Core.List.{List}
+use mathlib.Core.List.{List, _++_}
 use mathlib.Core.Path.{_≡_}
 use Prim.Native.Nat.{ℕ, _+_, _≤_, _<_}
 use lib.ListN.{length, getD, take, drop}
 use Rattle.sizes.specs.Sizes as Size
 use Rattle.sizes.specs.Places.{linePlace}
+use Rattle.reading.specs.Choice.{pick}
 use Rattle.reading.specs.Numbers as No
 use Rattle.reading.specs.Refusal.{Read, refused, read}
 use Rattle.cost.specs.Cost.{never}
 use Rattle.cell_library.specs.Cells.{Cell}
 use Rattle.cell_library.specs.Library.{library}
-use Rattle.netlist.specs.Netlist.{Statement, mentioned, gatesOf}
+use Rattle.netlist.specs.Netlist.{Statement, mentioned, gatesOf, someRange, lowPrice, highPrice}
 use Rattle.calculation.specs.Nodes.{Kind, Purpose, set, observe, node}
 use Rattle.calculation.specs.Calculation.{Analysed, analysed}
+use Rattle.calculation.specs.Prices.{Pricing, WithinRanges}
+use Rattle.calculation.specs.Between.{AnalysisAt, Between}
 use Rattle.calculation.specs.Settled.{Settled, FewSweeps}
 use Rattle.calculation.specs.Plans.{Exact}
-use Rattle.report.specs.Report.{reportBytes, longestReport}
+use Rattle.report.specs.Report.{reportBytes, longestReport, longestReports}
 use Rattle.outcome.specs.declared.Summary.{Summary}
-use Rattle.outcome.specs.Outcome.{Given, Lent, entry, outcome, answer, left, zeroed}
+use Rattle.outcome.specs.Outcome.{Given, Lent, entry, outcome, answer, second, reports, left, zeroed}
 
 -- The purposes whose numbers are reported: "lines 1 to 1,000", values 0 and 1.
 abbrev pub Reported : Purpose → Type 0
@@ -43,6 +46,22 @@ pub record PairRead (g : Given) : Type 0 where
   pub cellsRead : library (g .library) ≡ read cells
   pub statementsRead : g .statements cells ≡ read statements
 
+-- No report, or two with the line between them, are longer.
+unfoldable pub longest : List Statement → ℕ
+longest ss = pick (someRange ss) longestReports longestReport
+
+-- What is given reads, and its own report, or both, are longer than the buffer.
+abbrev pub TooShort : Given → Lent → Type 0
+TooShort g m = (pair : PairRead g) × (length (m .report) < length (reports (pair .cells) (pair .statements)))
+
+-- Document 02, K10: demands 2 and 3 hold at all prices within the ranges, where each number lies between the two printed; both
+-- ends of the ranges are such prices.
+pub record AtAllPrices (cells : List Cell) (ss : List Statement) : Type 0 where
+  pub low : WithinRanges ss (lowPrice ss)
+  pub high : WithinRanges ss (highPrice ss)
+  pub analyses : (price : Pricing) → WithinRanges ss price → AnalysisAt cells ss price
+  pub between : (price : Pricing) → WithinRanges ss price → (p : Purpose) → Reported p → Between cells ss price p
+
 module _ (g : Given) (before after : Lent) (said : Read Summary) where
   -- 1. "The analyser, from the first byte read to the last byte of its report, ends on every pair of texts and refuses a bad
   -- one by the number and line given in document 01. It relies on no earlier check. A refusal at entry touches no lent table;
@@ -60,11 +79,14 @@ module _ (g : Given) (before after : Lent) (said : Read Summary) where
   pub record Acceptance : Type 0 where
     -- Only an accepted library and netlist have a report,
     pub wasRead : (s : Summary) → said ≡ read s → PairRead g
-    -- and "demand 2 accepts every text that the table doesn't name", where the buffer has room for the longest report.
-    pub accepts : entry g before ≡ read tt → PairRead g → longestReport ≤ length (before .report)
-        → (s : Summary) × (said ≡ read s)
-    -- "17 report longer than its buffer": never of such a buffer, nor of the 65,536 bytes that `scoap` lends.
-    pub reportLong : (line : ℕ) → said ≡ refused No.reportLong line → length (before .report) < longestReport
+    -- and "demand 2 accepts every text that the table doesn't name", where the buffer has room for its report;
+    pub accepts : entry g before ≡ read tt → (pair : PairRead g)
+        → length (reports (pair .cells) (pair .statements)) ≤ length (before .report) → (s : Summary) × (said ≡ read s)
+    -- "17 report longer than its buffer", where "refusal 17 counts both reports" (02, K10).
+    pub reportLong : (line : ℕ) → said ≡ refused No.reportLong line → TooShort g before
+    -- So 17 never comes of a buffer with room for the longest; of the 65,536 bytes that `scoap` lends only where there are
+    -- ranges.
+    pub shortEnough : (pair : PairRead g) → length (reports (pair .cells) (pair .statements)) ≤ longest (pair .statements)
 
   -- 2. "For every accepted library and netlist, loops included, the six numbers of each line and the four sweep counts are
   -- those of Goldstein's calculation as document 01 sets it out, costs up to 999,999,999 exact."
@@ -98,16 +120,20 @@ module _ (g : Given) (before after : Lent) (said : Read Summary) where
 
   -- "The numbers reported are the entries that an accepted analysis leaves in the numbers table, for lines 1 to 1,000, and the
   -- costs in its report." The report is that of the entries in the table, so that demand 3 holds of what its bytes say.
-  pub record ReportStands (ss : List Statement) (s : Summary) : Type 0 where
-    pub size : s .length ≡ length (standingReport ss after s)
-    pub bytes : take (s .length) (after .report) ≡ standingReport ss after s
+  -- Behind it stands, where there are ranges, the line `high` and the report of the numbers and counts at HIGH, of which
+  -- `prices` has the demands.
+  pub record ReportStands (cells : List Cell) (ss : List Statement) (s : Summary) : Type 0 where
+    pub size : s .length ≡ length (standingReport ss after s ++ second cells ss)
+    pub bytes : take (s .length) (after .report) ≡ standingReport ss after s ++ second cells ss
+    pub prices : AtAllPrices cells ss
     -- "Report bytes past its end keep their values."
     pub past : drop (s .length) (after .report) ≡ drop (s .length) (before .report)
+    pub fits : s .length ≤ length (before .report)
     -- Below the 1,000,000 from which on a C caller has a refusal.
-    pub short : s .length ≤ longestReport
+    pub short : s .length ≤ longest ss
 
   abbrev pub Reporting : Type 0
-  Reporting = (pair : PairRead g) (s : Summary) → said ≡ read s → ReportStands (pair .statements) s
+  Reporting = (pair : PairRead g) (s : Summary) → said ≡ read s → ReportStands (pair .cells) (pair .statements) s
 
   -- What a call promises: by equation its answer, the refusal and its line, and every entry of every lent slice afterwards;
   -- the three demands; which calls are accepted, and what their reports say.

@@ -7,6 +7,7 @@ use Prim.Native.Nat.{ℕ}
 use lib.Dec.{ltb}
 use lib.ListN.{length, drop, replicate}
 use Rattle.sizes.specs.Sizes as Size
+use Rattle.reading.specs.Choice.{pick}
 use Rattle.reading.specs.Numbers as No
 use Rattle.reading.specs.Refusal.{Read, refused, read, _>>=_, _>>_, weigh}
 use Rattle.cell_library.specs.Cells.{Cell}
@@ -14,10 +15,10 @@ use Rattle.cell_library.specs.Library.{library}
 use Rattle.cell_library.specs.Layout.{libraryWords}
 use Rattle.netlist.specs.declared.Rules.{Rules}
 use Rattle.netlist.specs.declared.Rules.the-variants.{New}
-use Rattle.netlist.specs.Netlist.{Statement, mentioned, netlist}
+use Rattle.netlist.specs.Netlist.{Statement, mentioned, highPrice, someRange, netlist}
 use Rattle.netlist.specs.Layout.{netlistWords}
-use Rattle.calculation.specs.Calculation.{Analysed, analysed}
-use Rattle.report.specs.Report.{reportBytes}
+use Rattle.calculation.specs.Calculation.{Analysed, analysedAt, analysed}
+use Rattle.report.specs.Report.{reportBytes, highLine}
 use Rattle.outcome.specs.declared.Summary.{Summary}
 
 -- What a caller lends beside the texts: three tables and a report buffer.
@@ -96,11 +97,19 @@ pub record Accepted : Type 0 where
 unfoldable pub reportOf : List Statement → Analysed → List ℕ
 reportOf ss a = reportBytes (λ l. mentioned l ss) (a .numbers) (a .counts)
 
--- "17 report longer than its buffer", which has room for `space` bytes.
+-- "With such a line present the report is printed twice, all inputs at LOW and all at HIGH, the second after a line `high`."
+-- (02, K10)
+unfoldable pub second : List Cell → List Statement → List ℕ
+second cells ss = pick (someRange ss) (highLine ++ reportOf ss (analysedAt (highPrice ss) cells ss)) []
+
+unfoldable pub reports : List Cell → List Statement → List ℕ
+reports cells ss = reportOf ss (analysed cells ss) ++ second cells ss
+
+-- "17 report longer than its buffer", which has room for `space` bytes; "refusal 17 counts both reports".
 unfoldable pub conclude : List Cell → List Statement → ℕ → Read Accepted
 conclude cells ss space =
     let a = analysed cells ss in
-    let bs = reportOf ss a in
+    let bs = reports cells ss in
     weigh 0 ((No.reportLong, ltb space (length bs)) ∷ [])
     >> read (record { cells = cells; statements = ss; analysis = a; report = bs })
 

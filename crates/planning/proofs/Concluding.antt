@@ -171,5 +171,5 @@ number-is library netlist numbers cells ss h l v kind =
 
 -- Behind the calculation the tables hold an accepted analysis.
 pub analysis-held : {library netlist before numbers : List ℕ} {cells : List Cell} {ss : List Statement} {counts : Counts}
-    → Holds library netlist cells ss → Calculated cells ss before numbers counts → HoldsAnalysis library netlist numbers cells ss
+    → Holds library netlist cells ss → Calculated (pricesOf ss) cells ss before numbers counts → HoldsAnalysis library netlist numbers cells ss
 analysis-held {before = before} h c = record { holds = h; rest = drop Size.numbers before; stand = c .numbers }

@@ -12,6 +12,7 @@ use read_pair::clear_all;
 use read_pair::read_texts;
 use reading::NO_FIGURE;
 use reading::PLAN_LONG;
+use starting::LOW;
 use table::word;
 use writer::Written;
 ghost use mathlib.Core.List.{List};
@@ -88,7 +89,7 @@ fn calculate_plan(
         → PlanMade cells ss line value kind (now (numbers .entry)) (now (text .entry))
         (now (numbers .exit)) (now (text .exit)) (writtenRead r)) ⌝ }
 {
-    let _counts = sweep::calculate(library, netlist, numbers);
+    let _counts = sweep::calculate(library, netlist, numbers, LOW);
     conclude_plan(library, netlist, numbers, text, line, value, kind)
 }
 

@@ -1,12 +1,12 @@
 -- What is printed of two texts, from the answer of the analysis on tables of the published sizes and a buffer of 65,536 bytes:
--- neither 1 nor 17 can arise there.
+-- 1 cannot arise there, and 17 goes by that buffer.
 -- Assumes nothing.
 use mathlib.Core.Bool.{_||_}
 use mathlib.Core.List.{List, [], _∷_, _++_}
 use mathlib.Core.Path.{_≡_, refl, sym, ap, _∙_}
 use Prim.Native.Nat.{ℕ, _+_, _≤_}
 use native.Mathlib.Omega.{arith}
-use borrow.Author.Tests.{le-ltb}
+use lib.Dec.{ltb}
 use lib.ListN.{length, drop}
 use lib.Seq.{take-append-seam}
 use Rattle.sizes.specs.Sizes as Size
@@ -17,13 +17,11 @@ use Rattle.reading.specs.declared.Refusal.{Refusal}
 use Rattle.reading.proofs.Laws.{refused-read, then-read}
 use Rattle.text.specs.Bytes.{bytes}
 use Rattle.cell_library.specs.Cells.{Cell}
-use Rattle.netlist.specs.Netlist.{Statement, mentioned}
-use Rattle.calculation.specs.Calculation.{analysed}
+use Rattle.netlist.specs.Netlist.{Statement}
 use Rattle.writer.specs.Put.{Put}
 use Rattle.writer.specs.Refused.{refusalBytes}
-use Rattle.writer.specs.Buffer.{lengthRead, shown, ShownBy}
+use Rattle.writer.specs.Buffer.{textWithin, lengthRead, shown, ShownBy}
 use Rattle.writer.proofs.Buffer.{answer-prints}
-use Rattle.report.proofs.Laws.{report-fits}
 use Rattle.outcome.specs.declared.Answer.{Answer}
 use Rattle.outcome.specs.declared.Answer.the-variants.{Accepted, Refused}
 use Rattle.outcome.specs.declared.Summary.{Summary}
@@ -35,7 +33,7 @@ use Rattle.outcome.specs.Own.{ownTables}
 use Rattle.outcome.specs.Printed.{reported, printed}
 use Rattle.printing.specs.Printed.{shownOf, Printed}
 
--- ---- neither 1 nor 17 can arise
+-- ---- what the analysis comes to
 
 reportsOf : Read O.Accepted → Read (List ℕ)
 reportsOf (refused number line) = refused number line
@@ -61,14 +59,12 @@ unfolding O.answer O.summary reportsOf lengthRead reportLength _>>=_
 lengths-by (refused number line) = refl
 lengths-by (read a) = refl
 
--- "a report buffer of 65,536 bytes" has room for every report
-always-reported : (cells : List Cell) (ss : List Statement) (space : ℕ) → Size.reportBytes ≤ space
-    → reportsOf (O.conclude cells ss space) ≡ read (O.reportOf ss (analysed cells ss))
-unfolding reportsOf O.conclude O.reportOf weigh pick _>>_
-always-reported cells ss space h =
-    let a = analysed cells ss in
-    let fits : length (O.reportOf ss a) ≤ space = omega (arith, report-fits (λ l. mentioned l ss) (a .numbers) (a .counts)) in
-    rw (le-ltb space (length (O.reportOf ss a)) fits) refl
+-- 17 goes by the buffer.
+concluded-reported : (cells : List Cell) (ss : List Statement) (space : ℕ)
+    → reportsOf (O.conclude cells ss space) ≡ textWithin No.reportLong space (O.reports cells ss)
+unfolding O.conclude textWithin
+concluded-reported cells ss space =
+    reports-then (weigh 0 ((No.reportLong, ltb space (length (O.reports cells ss))) ∷ [])) _ (read (O.reports cells ss)) (unfold reportsOf in refl)
 
 module _ (lib net before : List ℕ) where
   abbrev given : Given
@@ -81,13 +77,13 @@ module _ (lib net before : List ℕ) where
   unfolding O.entry O.tableShort givenBy ownTables weigh pick
   tables-long = refl
 
-  outcome-reported : Size.reportBytes ≤ length before → reportsOf (O.outcome given lent) ≡ reported lib net
+  outcome-reported : Size.reportBytes ≡ length before → reportsOf (O.outcome given lent) ≡ reported lib net
   unfolding O.outcome O.reading ownTables reported
   outcome-reported room =
       rw tables-long
       (reports-then (weigh 0 ((No.textLong, O.textLong lib || O.textLong net) ∷ [])) _ _
       (reports-bind (O.readPair given) _ _
-      (λ p. always-reported (p .cells) (p .statements) (length before) room)))
+      (λ p. rw (← room) (concluded-reported (p .cells) (p .statements) Size.reportBytes))))
 
   filled-by : (a : O.Accepted) → O.outcome given lent ≡ read a → O.left given lent .report ≡ a .report ++ drop (length (a .report)) before
   unfolding O.outcome O.left O.leftFrom O.leftLater O.filled ownTables
@@ -101,7 +97,7 @@ module _ (lib net before : List ℕ) where
     left-by = ap (λ (m : Lent). m .report) (p .leaves)
 
     came : reportsOf (O.outcome given lent) ≡ reported lib net
-    came = outcome-reported (omega arith)
+    came = outcome-reported room
 
     lengths : reportLength said ≡ lengthRead (reported lib net)
     lengths = rw (p .answers) (lengths-by (O.outcome given lent) ∙ ap lengthRead came)

@@ -73,3 +73,11 @@ planLong = 19
 -- "20 for a line read or marked but neither driven nor open, at line 0, after all netlist lines" (document 02, K5)
 abbrev pub undeclared : ℕ
 undeclared = 20
+
+-- "21 for a range on a line not marked input above; then 22 for bounds outside 1 to 999, LOW above HIGH, or a second range for
+-- L." (02, K10)
+abbrev pub notInput : ℕ
+notInput = 21
+
+abbrev pub rangeBad : ℕ
+rangeBad = 22

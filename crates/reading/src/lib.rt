@@ -60,3 +60,8 @@ pub const PLAN_LONG: u32 = 19;
 
 // Of a whole netlist, behind its lines.
 pub const UNDECLARED: u32 = 20;
+
+// Of a netlist line that prices an input within a range.
+pub const NOT_INPUT: u32 = 21;
+
+pub const RANGE_BAD: u32 = 22;

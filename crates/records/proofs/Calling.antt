@@ -3,12 +3,13 @@
 use mathlib.Core.Bool.{Bool, or-false, _&&_}
 use mathlib.Core.List.{List, [], _∷_}
 use mathlib.Core.Path.{_≡_, refl, sym, ap, subst, _∙_}
-use Prim.Native.Nat.{ℕ, _+_}
+use Prim.Native.Nat.{ℕ, _+_, _≤_}
 use native.Mathlib.Omega.{arith}
 use lib.Dec.{ltb}
 use lib.ListN.{length, drop}
 use Rattle.sizes.specs.Sizes as Size
 use Rattle.table.specs.Blocks.{cleared}
+use Rattle.reading.specs.Choice.{pick}
 use Rattle.reading.specs.Numbers as No
 use Rattle.reading.specs.Refusal.{Read, read, weigh}
 use Rattle.reading.proofs.Bounds.{Within, textNumber, within-bind, within-then, within-weigh}
@@ -25,11 +26,13 @@ use Rattle.netlist.proofs.Sounding.{sound-none}
 use Rattle.calculation.specs.Stored.{Ready}
 use Rattle.read_pair.specs.declared.Progress.{Progress}
 use Rattle.read_pair.specs.declared.Progress.the-variants.{Unrefused}
+use Rattle.report.specs.Report.{longestReport}
 use Rattle.outcome.specs.declared.Summary.{Summary}
 use Rattle.outcome.specs.Answer.{lentOf}
-use Rattle.outcome.specs.Demands.{Promised}
-use Rattle.outcome.specs.Outcome.{Given, Lent, entry, entryBy, tableShort, textLong}
+use Rattle.outcome.specs.Demands.{PairRead, longest}
+use Rattle.outcome.specs.Outcome.{Given, Lent, entry, entryBy, tableShort, textLong, reports}
 use Rattle.outcome.proofs.Checking.{Checked}
+use Rattle.outcome.proofs.Fitting.{reports-short, pair-sound}
 use Rattle.outcome.proofs.Entering.{Entered, entered}
 use Rattle.read_pair.specs.Progress.{Begun, Reached}
 use Rattle.read_pair.proofs.Reached.{NetlistRead, unrefused-entry, reached, ready}
@@ -38,8 +41,8 @@ use Rattle.conclusion.proofs.Promising.{promised}
 use Rattle.records.specs.declared.Record.{Record}
 use Rattle.records.specs.Records.{recordForms, recordStatements, fromRecords}
 use Rattle.records.specs.Walk.{declaredProgress, Walked}
-use Rattle.records.specs.Outcome.{givenRecords, Prepared}
-use Rattle.records.proofs.Laws.{walked-end, declared-stays, declared-end}
+use Rattle.records.specs.Outcome.{givenRecords, RecordsPromised, Prepared}
+use Rattle.records.proofs.Laws.{records-unranged, walked-end, declared-stays, declared-end}
 use Rattle.netlist.proofs.Admitting.{cleared-empty}
 
 -- ---- before the walk
@@ -84,6 +87,12 @@ module _ (text lib ts num rep : List ℕ) (recs : List Record) where
         numbered = λ cells number line e. subst (Within textNumber _) e (within cells) .0;
       }
 
+  one-report : (pair : PairRead given) → length (reports (pair .cells) (pair .statements)) ≤ longestReport
+  unfolding givenRecords longest pick
+  one-report pair =
+      rw (records-unranged recs (pair .cells) (pair .statements) (pair .statementsRead))
+      at (reports-short (pair .cells) (pair .statements) (pair-sound given checked pair))
+
   -- The entry is weighed by lengths: there is no second text.
   records-entry : entryBy (length text) 0 (length lib) (length ts) (length num) ≡ entry given before
   unfolding entryBy entry tableShort givenRecords textLong
@@ -123,5 +132,9 @@ module _ (text lib ts num rep : List ℕ) (recs : List Record) where
         (λ e. entered _ _ _ _ _ (records-entry ∙ e) .numbers-long)
 
     pub promised-then : length lib′ ≡ length lib → length ts″ ≡ length ts → (after : Lent) (said : Read Summary)
-        → Finished (declaredProgress ts″ s′) (lentOf lib′ ts″ num rep) after said → Promised given before after said
-    promised-then el et = promised given before checked lib′ ts″ el et (declaredProgress ts″ s′) progress
+        → Finished (declaredProgress ts″ s′) (lentOf lib′ ts″ num rep) after said → RecordsPromised text recs before after said
+    promised-then el et after said f =
+        record {
+          promised = promised given before checked lib′ ts″ el et (declaredProgress ts″ s′) progress after said f;
+          oneReport = one-report;
+        }

@@ -1,9 +1,9 @@
 -- What the proofs of this crate and of its callers cite of the definitions.
 -- Assumes nothing.
 use mathlib.Core.Bool.{Bool, true, false, _&&_}
-use mathlib.Core.List.{List, [], _∷_, _++_, append-nil, append-assoc}
+use mathlib.Core.List.{List, [], _∷_, _++_, append-nil, append-assoc, flatMap}
 use mathlib.Core.Logic.{inl}
-use mathlib.Core.Option.{Option}
+use mathlib.Core.Option.{Option, none}
 use mathlib.Core.Path.{_≡_, refl, sym, ap, _∙_}
 use Prim.Native.Nat.{ℕ, suc, _+_, _≤_, _<_}
 use native.Mathlib.Numerals.{add-one}
@@ -17,17 +17,22 @@ use Rattle.table.specs.Blocks.{fitted}
 use Rattle.reading.specs.Choice.{pick}
 use Rattle.reading.specs.Numbers as No
 use Rattle.reading.specs.Refusal.{Read, refused, read, _>>=_, _>>_, weigh}
-use Rattle.reading.proofs.Laws.{by-test, clash, refused-read}
+use Rattle.reading.specs.Each.{Each}
+use Rattle.reading.proofs.Laws.{by-test, clash, bind-read, refused-read}
 use Rattle.cell_library.specs.Cells.{Cell}
 use Rattle.cell_library.specs.Layout.{LibraryHolds}
 use Rattle.netlist.specs.declared.RawStatement.{RawStatement}
 use Rattle.netlist.specs.declared.Rules.the-variants.{New}
-use Rattle.netlist.specs.Netlist.{Statement, lineBad, anyLineBad, admitted, undeclaredLines, someLine, declared}
+use Rattle.netlist.specs.Netlist.{Mark, input, output, opened, Statement, mark, lineBad, anyLineBad, rangesIn, rangesOf, someRange, admitted}
+use Rattle.netlist.specs.Netlist.{undeclaredLines, someLine, declared}
 use Rattle.netlist.specs.Layout.{netlistWords, NetlistHolds}
 use Rattle.netlist.specs.Admitting.{StandsFor, Admits, refusalOf, extended, wordsAfter, someUndeclared}
 use Rattle.netlist.proofs.Admitting.{admitted-more, admitted-refused}
+use Rattle.netlist.specs.Sound.{Sound}
+use Rattle.netlist.proofs.Laws.{admitted-sound}
 use Rattle.netlist.proofs.Opening.{declared-read, some-same}
 use Rattle.netlist.proofs.Sounding.{sound-none, sound-next}
+use Rattle.netlist.proofs.Unranged.{Unranged, none-unranged, some-unranged, pick-unranged, admitted-unranged, no-range}
 use Rattle.read_pair.specs.declared.Progress.{Progress}
 use Rattle.read_pair.specs.declared.Progress.the-variants.{Unrefused, AtEntry, Later}
 use Rattle.read_pair.specs.Progress.{progressOf}
@@ -143,6 +148,39 @@ module _ (rec : Record) (p : RawStatement) (line : p .line ≡ rec .line) where
       let high : ltb (rec .kind) 4 ≡ false = le-ltb (rec .kind) 4 (omega (arith, k, eqb-false (rec .kind) 0 z, eqb-false (rec .kind) 1 o, eqb-false (rec .kind) 3 n)) in
       rw (z, o, ne-eqb (rec .kind) 2 k, n) (inl (form ∙ ap (λ (b : Bool). (b && eqb (rec .cell) 0) && allZero (rec .pins)) high)))))
 
+-- ---- no record is a range
+
+mark-unranged : (m : Mark) (rec : Record) → Unranged (markForm m rec)
+unfolding markForm rangesIn
+mark-unranged m rec = pick-unranged _ _ none (some-unranged (mark m (rec .line)) refl) none-unranged
+
+gate-unranged : (rec : Record) → Unranged (gateForm rec)
+unfolding gateForm rangesIn
+gate-unranged rec = pick-unranged _ _ none (some-unranged _ refl) none-unranged
+
+record-unranged : (rec : Record) → Unranged (recordForm rec)
+unfolding recordForm
+record-unranged rec =
+    pick-unranged (eqb (rec .kind) 0) _ _ (mark-unranged input rec)
+    (pick-unranged (eqb (rec .kind) 1) _ _ (mark-unranged output rec)
+    (pick-unranged (eqb (rec .kind) 2) _ _ (gate-unranged rec)
+    (pick-unranged (eqb (rec .kind) 3) _ none (mark-unranged opened rec) none-unranged)))
+
+all-unranged : (recs : List Record) → Each Unranged (recordForms recs)
+unfolding Each recordForms
+all-unranged [] = tt
+all-unranged (rec ∷ recs) = (record-unranged rec, all-unranged recs)
+
+pub records-unranged : (recs : List Record) (cells : List Cell) (ss : List Statement) → fromRecords recs cells ≡ read ss → someRange ss ≡ false
+unfolding fromRecords recordStatements
+records-unranged recs cells ss e =
+    bind-read (recordStatements recs cells) (declared New) ss
+    (λ rs read-all held.
+    no-range ss
+    (admitted-unranged 1 cells [] (recordForms recs) ss (all-unranged recs) (unfold rangesOf flatMap in refl)
+    (read-all ∙ ap read (declared-read New rs ss held))))
+    e
+
 -- ---- one step
 
 module _ (lib : List ℕ) (place : ℕ) (s : Progress) (rec : Record) (ts : List ℕ) where
@@ -252,14 +290,18 @@ declared-stays us Unrefused h = absurd (h refl)
 declared-stays us (AtEntry r) h = refl
 declared-stays us (Later r) h = refl
 
+pub records-sound : (recs : List Record) (cells : List Cell) (ss : List Statement) → recordStatements recs cells ≡ read ss → Sound cells ss
+unfolding recordStatements
+records-sound recs cells ss e = admitted-sound cells 1 [] (recordForms recs) ss (sound-none cells) e
+
 -- What the table says where nothing is refused.
-declared-progress : {us : List ℕ} {ss : List Statement} → NetlistHolds us ss
+declared-progress : {cells : List Cell} {us : List ℕ} {ss : List Statement} → NetlistHolds us ss → Sound cells ss
     → pick (someUndeclared us) (Later (record { number = No.undeclared; line = 0 })) Unrefused ≡ progressOf (declared New ss)
 unfolding declared weigh pick _>>_ progressOf
-declared-progress {us} {ss} h =
+declared-progress {cells} {us} {ss} h so =
     by-test (someUndeclared us)
-    (λ t. let e : someLine (undeclaredLines ss) ≡ true = sym (some-same h) ∙ t in rw (t, e))
-    (λ t. let e : someLine (undeclaredLines ss) ≡ false = sym (some-same h) ∙ t in rw (t, e))
+    (λ t. let e : someLine (undeclaredLines ss) ≡ true = sym (some-same h so) ∙ t in rw (t, e))
+    (λ t. let e : someLine (undeclaredLines ss) ≡ false = sym (some-same h so) ∙ t in rw (t, e))
 
 -- What `declare` answers, from what it asked of the table.
 module _ (us : List ℕ) (s : Progress) (o : s ≡ Unrefused) where
@@ -288,6 +330,6 @@ declared-end recs cells tail us r said held = go (recordStatements recs cells) r
     go (read ss) e =
         let h : NetlistHolds us ss = record { past = tail; words = held ss e } in
         unfold _>>=_ progressOf declaredProgress in (
-          rw (said, e) (declared-progress h),
+          rw (said, e) (declared-progress h (records-sound recs cells ss e)),
           rw e (λ rs f. rw (← declared-read New ss rs f) (h .words)),
         )

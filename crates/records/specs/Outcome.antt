@@ -2,13 +2,17 @@
 -- Assumes nothing.
 use mathlib.Core.List.{List}
 use mathlib.Core.Path.{_≡_}
-use Prim.Native.Nat.{ℕ}
+use Prim.Native.Nat.{ℕ, _≤_}
 use lib.ListN.{length}
 use Rattle.sizes.specs.Sizes as Size
 use Rattle.table.specs.Blocks.{cleared}
 use Rattle.read_pair.specs.declared.Progress.{Progress}
 use Rattle.read_pair.specs.declared.Progress.the-variants.{Unrefused}
-use Rattle.outcome.specs.Outcome.{Given, textLong}
+use Rattle.reading.specs.Refusal.{Read}
+use Rattle.report.specs.Report.{longestReport}
+use Rattle.outcome.specs.declared.Summary.{Summary}
+use Rattle.outcome.specs.Outcome.{Given, Lent, textLong, reports}
+use Rattle.outcome.specs.Demands.{PairRead, Promised}
 use Rattle.read_pair.specs.Progress.{Begun}
 use Rattle.records.specs.declared.Record.{Record}
 use Rattle.records.specs.Records.{fromRecords}
@@ -17,6 +21,12 @@ use Rattle.records.specs.Records.{fromRecords}
 -- length.
 unfoldable pub givenRecords : List ℕ → List Record → Given
 givenRecords lib rs = record { library = lib; statements = λ cells. fromRecords rs cells; long = textLong lib }
+
+-- What a call that is lent records promises: what every call does that analyses, and, since "Record lists have no ranges." (02,
+-- K10), that there is one report.
+pub record RecordsPromised (lib : List ℕ) (rs : List Record) (before after : Lent) (said : Read Summary) : Type 0 where
+  pub promised : Promised (givenRecords lib rs) before after said
+  pub oneReport : (pair : PairRead (givenRecords lib rs)) → length (reports (pair .cells) (pair .statements)) ≤ longestReport
 
 -- The entry and the library; where neither refuses, the netlist table is cleared. There is no netlist text, and so its length
 -- is 0; n is how many entries the numbers table has.

@@ -19,9 +19,8 @@ ghost use Rattle.sizes.specs.Sizes as Size;
 ghost use Rattle.netlist.specs.Netlist.{anyLineBad};
 ghost use Rattle.netlist.specs.Admitting.{StandsFor};
 ghost use Rattle.outcome.specs.Answer.{answerRead, lentOf};
-ghost use Rattle.outcome.specs.Demands.{Promised};
 ghost use Rattle.conclusion.specs.Finished.{ReadyIfUnrefused, Finished};
-ghost use Rattle.records.specs.Outcome.{givenRecords, Prepared};
+ghost use Rattle.records.specs.Outcome.{RecordsPromised, Prepared};
 ghost use Rattle.records.specs.Records.{allZero, pinsBefore, recordForm};
 ghost use Rattle.records.specs.Walk.{Stepped, declaredProgress, Walked};
 
@@ -224,7 +223,7 @@ pub fn analyse_records(
     numbers: &mut [u32],
     report: &mut [u8],
 ) -> Answer
-    ensures { λ r. ⌜ Promised (givenRecords (now (lib .entry)) (now (records .entry)))
+    ensures { λ r. ⌜ RecordsPromised (now (lib .entry)) (now (records .entry))
         (lentOf (now (library .entry)) (now (netlist .entry)) (now (numbers .entry)) (now (report .entry)))
         (lentOf (now (library .exit)) (now (netlist .exit)) (now (numbers .exit)) (now (report .exit)))
         (answerRead r) ⌝ }

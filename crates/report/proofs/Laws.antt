@@ -18,7 +18,7 @@ use Rattle.writer.specs.Decimal.{decimalBytes, decimal-open}
 use Rattle.writer.proofs.Decimal.{decimal-below, decimal-length}
 use Rattle.calculation.specs.declared.Counts.{Counts}
 use Rattle.calculation.specs.Settled.{FewSweeps}
-use Rattle.report.specs.Report.{costBytes, costsFrom, lineBytes, linesBytes, sweepsBytes, header, reportBytes, longestReport}
+use Rattle.report.specs.Report.{costBytes, costsFrom, lineBytes, linesBytes, sweepsBytes, header, reportBytes, highLine, longestReport}
 
 -- ---- what the report depends on
 
@@ -109,6 +109,10 @@ report-length m ns k gates h few =
     (decimal-below 3 (k .sc) (omega arith))
     (decimal-below 3 (k .co) (omega arith))
     (decimal-below 3 (k .so) (omega arith))
+
+pub high-length : length highLine ≡ 5
+unfolding highLine bytes
+high-length = refl
 
 -- Whatever the counts are, they have at most twenty digits each, so that "a report buffer of 65,536 bytes" has room.
 pub report-fits : (m : ℕ → Bool) (ns : List ℕ) (k : Counts) → length (reportBytes m ns k) ≤ Size.reportBytes

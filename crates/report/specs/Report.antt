@@ -2,7 +2,7 @@
 -- Assumes nothing.
 use mathlib.Core.Bool.{Bool}
 use mathlib.Core.List.{List, [], _∷_, _++_}
-use Prim.Native.Nat.{ℕ, zero, suc}
+use Prim.Native.Nat.{ℕ, zero, suc, _+_}
 use lib.Dec.{leb, eqb}
 use lib.ListN.{getD}
 use Rattle.sizes.specs.Sizes as Size
@@ -43,12 +43,20 @@ header = bytes "line,cc0,cc1,sc0,sc1,co,so" ++ (10 ∷ [])
 unfoldable pub reportBytes : (ℕ → Bool) → List ℕ → Counts → List ℕ
 reportBytes mentioned numbers k = header ++ (linesBytes mentioned numbers Size.lines 1 ++ sweepsBytes k)
 
+-- "the second after a line `high`" (02, K10)
+unfoldable pub highLine : List ℕ
+highLine = bytes "high" ++ (10 ∷ [])
+
 -- No report of an analysis is longer: 27 bytes of header; 1,000 lines, each with six costs of nine digits at most, in 63,893;
 -- and the sweeps, of four digits at most, in 27 (`report-length` of proofs/Laws.antt).
 abbrev pub longestReport : ℕ
 longestReport = 63947
 
+-- .. nor are two, with the line between them (02, K10).
+abbrev pub longestReports : ℕ
+longestReports = longestReport + (5 + longestReport)
+
 -- Opens the page's definitions, where a figure computes with them.
 unfoldable pub report-open : ℕ
-unfolding bytes-open decimal-open costBytes costsFrom lineBytes linesBytes sweepsBytes header reportBytes
+unfolding bytes-open decimal-open costBytes costsFrom lineBytes linesBytes sweepsBytes header reportBytes highLine
 report-open = 0

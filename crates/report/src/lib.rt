@@ -3,7 +3,7 @@
 // are is in specs/Report.antt, those of a call's arguments in specs/Arguments.antt, the laws are in
 // proofs/Laws.antt. Whether a report is longer than its buffer is asked at its end (`writer::close`).
 //
-// Open to others: `put_report`, for every input.
+// Open to others: `put_report` and `put_high`, for every input.
 ghost use mathlib.Core.Path.{_≡_};
 ghost use mathlib.Core.List.{[], _∷_, _++_};
 ghost use Prim.Native.Nat.{_+_};
@@ -11,7 +11,7 @@ ghost use Rattle.sizes.specs.Sizes as Size;
 ghost use Rattle.reading.specs.Choice.{pick};
 ghost use Rattle.writer.specs.Decimal.{decimalBytes};
 ghost use Rattle.writer.specs.Put.{Put};
-ghost use Rattle.report.specs.Report.{costBytes, costsFrom, lineBytes, linesBytes, sweepsBytes};
+ghost use Rattle.report.specs.Report.{costBytes, costsFrom, lineBytes, linesBytes, sweepsBytes, highLine};
 ghost use Rattle.report.specs.Arguments.{marked, reportOf};
 use calculation::Counts;
 use netlist::lines;
@@ -135,4 +135,11 @@ pub fn put_report(
     let lines = put_bytes(report, at, b"line,cc0,cc1,sc0,sc1,co,so\n");
     let counts = put_lines(report, lines, netlist, numbers);
     put_sweeps(report, counts, sweeps)
+}
+
+// "the second after a line `high`" (02, K10)
+pub fn put_high(report: &mut [u8], at: usize) -> usize
+    ensures { λ r. ⌜ Put at highLine (now (report .entry)) (now (report .exit)) r ⌝ }
+{
+    put_bytes(report, at, b"high\n")
 }

@@ -1,5 +1,6 @@
 -- The runs from numbers that were kept, at the tables of accepted cells and statements.
 -- Assumes nothing.
+use mathlib.Core.Bool.{false}
 use mathlib.Core.List.{List, [], _∷_}
 use mathlib.Core.Path.{_≡_, sym, _∙_, ap}
 use Prim.Native.Nat.{ℕ, _≤_}
@@ -28,9 +29,9 @@ module _ {library netlist : List ℕ} {cells : List Cell} {ss : List Statement} 
     {standing : List ℕ} (room : Size.numbers ≤ length standing) where
   -- ---- CO and SO from their start
 
-  module _ {x0 x : List ℕ} (begun : x0 ≡ linesStart netlist Size.lines 1) (kept : Kept Size.observedAt standing x0 Size.numbers x) where
+  module _ {x0 x : List ℕ} (begun : x0 ≡ linesStart false netlist Size.lines 1) (kept : Kept Size.observedAt standing x0 Size.numbers x) where
     starts : x0 ≡ start ss
-    starts = begun ∙ rw (h .statementsStand) (start-is cells ss (h .sound) (h .behind) (h .past))
+    starts = begun ∙ rw (h .statementsStand) (start-is cells ss (h .sound) (h .behind) (h .past) false)
 
     relaid-is : x ≡ relaid (pricesOf ss) ss (held standing)
     relaid-is = kept-all ss standing room x (rw starts at kept)

@@ -5,6 +5,7 @@
 use calculation::Counts;
 use cost::NEVER;
 use links::link;
+use starting::LOW;
 use starting::start;
 use sweep::Sweeps;
 use sweep::observe_lines;
@@ -69,7 +70,7 @@ pub fn observe_anew(
 {
     let mut links = [0u16; sizes::LINKS];
     link(library, netlist, &mut links);
-    start(netlist, numbers);
+    start(netlist, numbers, LOW);
     keep_numbers(standing, numbers, sizes::OBSERVED_AT);
     observe_lines(library, netlist, &links, numbers)
 }

@@ -11,17 +11,16 @@ use Rattle.reading.specs.Refusal.{Read, refused, read, _>>=_}
 use Rattle.reading.specs.declared.Refusal.{Refusal}
 use Rattle.writer.specs.Buffer.{codeLines, refusalCode, codeOf, Decoded}
 use Rattle.writer.proofs.Buffer.{decoded}
-use Rattle.report.specs.Report.{longestReport}
 use Rattle.outcome.specs.declared.Answer.{Answer}
 use Rattle.outcome.specs.declared.Answer.the-variants.{Accepted, Refused}
 use Rattle.outcome.specs.declared.Summary.{Summary}
 use Rattle.outcome.specs.Answer.{answerRead}
-use Rattle.outcome.specs.Demands.{Promised}
+use Rattle.outcome.specs.Demands.{PairRead, longest, Promised}
 use Rattle.outcome.specs.Outcome.{Lent, givenTexts}
 use Rattle.outcome.specs.Outcome as O
 use Rattle.outcome.proofs.Bounds.{refusal-told}
 use Rattle.outcome.proofs.Checking.{texts-checked}
-use Rattle.outcome.proofs.Fitting.{short-refused}
+use Rattle.outcome.proofs.Fitting.{longest-most, short-refused}
 use Rattle.outcome.specs.Own.{ownTables}
 use Rattle.scoap_c.specs.Coded.{numberOf, Seen, Coded}
 
@@ -41,12 +40,12 @@ module _ (lib net before : List ℕ) (after : Lent) (r : Answer) (p : Promised (
       let h = told number line e in
       rw e (decoded number line (h .0) (h .1))
 
-  length-short : (s : Summary) → answerRead r ≡ read s → s .length ≤ longestReport
+  length-short : (s : Summary) (e : answerRead r ≡ read s) → s .length ≤ longest (p .acceptance .wasRead s e .statements)
   length-short s e = p .reporting (p .acceptance .wasRead s e) s e .short
 
   length-below : (s : Summary) → answerRead r ≡ read s → numberOf (answerRead r) < codeLines
   unfolding numberOf codeOf _>>=_
-  length-below s e = rw e (omega (arith, length-short s e))
+  length-below s e = rw e (omega (arith, length-short s e, longest-most (p .acceptance .wasRead s e .statements)))
 
   seen-by : (o : Read Summary) → answerRead r ≡ o → numberOf o < codeLines → Seen lib net (after .report) (numberOf o)
   unfolding numberOf codeOf _>>=_
@@ -61,6 +60,7 @@ module _ (lib net before : List ℕ) (after : Lent) (r : Answer) (p : Promised (
         bytes = p .reporting pair s e .bytes;
         settled = p .demand2 pair s e .settled;
         exact = p .demand3 pair s e;
+        prices = p .reporting pair s e .prices;
         short = length-short s e;
       }
 
@@ -87,11 +87,15 @@ module _ (lib net before : List ℕ) (after : Lent) (r : Answer) (p : Promised (
       true≢false (sym (short-refused (givenTexts lib net) (texts-checked lib net) (ownTables before) line (sym (p .answers) ∙ same)) ∙ own-fit before))
       (above No.tableShort told-short (omega arith))
 
-  long-told : numberOf (answerRead r) / codeLines ≡ No.reportLong → length before < longestReport
+  long-told : numberOf (answerRead r) / codeLines ≡ No.reportLong → (pair : PairRead (givenTexts lib net))
+      × (length before < length (O.reports (pair .cells) (pair .statements)))
+      × (length (O.reports (pair .cells) (pair .statements)) ≤ longest (pair .statements))
   unfolding ownTables
   long-told told-long =
       by-code
-      (λ number line e is. p .acceptance .reportLong line (e ∙ ap (λ (x : ℕ). refused x line) (sym is ∙ told-long)))
+      (λ number line e is.
+      let long = p .acceptance .reportLong line (e ∙ ap (λ (x : ℕ). refused x line) (sym is ∙ told-long)) in
+      (long .0, long .1, p .acceptance .shortEnough (long .0)))
       (above No.reportLong told-long (omega arith))
 
   -- 0 is no number of the entry.

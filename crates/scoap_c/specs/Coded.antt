@@ -1,7 +1,7 @@
 -- What the calls for C answer and leave.
 -- Assumes nothing.
 use mathlib.Core.Bool.{true, false}
-use mathlib.Core.List.{List}
+use mathlib.Core.List.{List, _++_}
 use mathlib.Core.Path.{_≡_}
 use Prim.Native.Nat.{ℕ, _/_, _≤_, _<_}
 use lib.ListN.{length, getD, take, replicate}
@@ -14,9 +14,9 @@ use Rattle.calculation.specs.Nodes.{Kind, Purpose, node}
 use Rattle.calculation.specs.Plans.{Exact}
 use Rattle.calculation.specs.Settled.{Settled}
 use Rattle.writer.specs.Buffer.{codeLines, codeOf, Decoded}
-use Rattle.report.specs.Report.{reportBytes, longestReport}
+use Rattle.report.specs.Report.{reportBytes}
 use Rattle.outcome.specs.declared.Summary.{Summary}
-use Rattle.outcome.specs.Demands.{Reported, PairRead, Promised}
+use Rattle.outcome.specs.Demands.{Reported, PairRead, longest, AtAllPrices, Promised}
 use Rattle.outcome.specs.Outcome as O
 use Rattle.outcome.specs.Own.{ownTables}
 
@@ -25,16 +25,18 @@ unfoldable pub numberOf : Read Summary → ℕ
 numberOf o = codeOf (o >>= λ s. read (s .length))
 
 -- What a caller has of an accepted pair who sees its bytes alone: they are the report of numbers and counts of which demands 2
--- and 3 hold, and no more than the longest report has.
+-- and 3 hold, and behind it, where there are ranges, the line `high` and the report at HIGH, of which they hold too; no more
+-- than the longest have.
 pub record Seen (lib net after : List ℕ) (said : ℕ) : Type 0 where
   pub pair : PairRead (O.givenTexts lib net)
   pub numbers : List ℕ
   pub counts : Counts
-  pub size : said ≡ length (reportBytes (λ l. mentioned l (pair .statements)) numbers counts)
-  pub bytes : take said after ≡ reportBytes (λ l. mentioned l (pair .statements)) numbers counts
+  pub size : said ≡ length (reportBytes (λ l. mentioned l (pair .statements)) numbers counts ++ O.second (pair .cells) (pair .statements))
+  pub bytes : take said after ≡ reportBytes (λ l. mentioned l (pair .statements)) numbers counts ++ O.second (pair .cells) (pair .statements)
   pub settled : Settled (pair .cells) (pair .statements) (record { numbers = take Size.numbers numbers; counts = counts })
   pub exact : (k : Kind) (p : Purpose) → Reported p → Exact (pair .cells) (pair .statements) k p (getD numbers (node k p) 0)
-  pub short : said ≤ longestReport
+  pub prices : AtAllPrices (pair .cells) (pair .statements)
+  pub short : said ≤ longest (pair .statements)
 
 -- What the C entry promises: its number and the whole report buffer afterwards, by equation; that it is an analysis on tables
 -- of its own, whose numbers and report keep the whole promise of `analyse`, the three demands among it; that the number is
@@ -56,5 +58,7 @@ pub record Coded (lib net before after : List ℕ) (said : ℕ) : Type 0 where
   pub cleared : codeLines ≤ said → No.ofEntry (said / codeLines) ≡ false → after ≡ replicate (length before) 0
   -- "1 a lent table below its published size": its own tables are not,
   pub tableShort : said / codeLines ≡ No.tableShort → ⊥
-  -- "17 report longer than its buffer": never of a buffer that has room for the longest report.
-  pub reportLong : said / codeLines ≡ No.reportLong → length before < longestReport
+  -- "17 report longer than its buffer", which "counts both reports": never of a buffer that has room for the longest.
+  pub reportLong : said / codeLines ≡ No.reportLong → (pair : PairRead (O.givenTexts lib net))
+      × (length before < length (O.reports (pair .cells) (pair .statements)))
+      × (length (O.reports (pair .cells) (pair .statements)) ≤ longest (pair .statements))

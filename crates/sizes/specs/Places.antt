@@ -29,6 +29,13 @@ outputPlace l = Size.outputsAt + l
 abbrev pub mentionPlace : ℕ → ℕ
 mentionPlace l = Size.mentionsAt + l
 
+abbrev pub rangePlace : ℕ → ℕ
+rangePlace l = Size.rangesAt + l
+
+-- Whether there is a range.
+abbrev pub rangedPlace : ℕ
+rangedPlace = Size.rangedAt
+
 abbrev pub gatePlace : ℕ → ℕ
 gatePlace g = Size.gatesAt + g * Size.gateWords
 

@@ -65,6 +65,14 @@ observedAt = kinds * values
 abbrev pub costs : ℕ
 costs = observedAt + kinds
 
+-- "a combinational price somewhere from LOW to HIGH for both values, 1 to 999" (02, K10): the highest, and how many numbers
+-- there are from 0 to it.
+abbrev pub mostPrice : ℕ
+mostPrice = 999
+
+abbrev pub prices : ℕ
+prices = 1 + mostPrice
+
 -- ---- the library table
 
 -- A row: its depth and its columns. A group: its count of rows, and its rows.
@@ -112,16 +120,22 @@ library = cellsAt + cells * cellWords
 
 -- ---- the netlist table
 
--- The count of gates; for each line what drives it, whether it is an output, whether it is mentioned; then the gates. What is
--- said of line l stands at the part's number and l, what drives it at l itself.
+-- The count of gates; for each line what drives it, whether it is an output, whether it is mentioned, its range; whether there
+-- is a range; then the gates. What is said of line l stands at the part's number and l, what drives it at l itself.
 abbrev pub outputsAt : ℕ
 outputsAt = lines
 
 abbrev pub mentionsAt : ℕ
 mentionsAt = outputsAt + lines
 
+abbrev pub rangesAt : ℕ
+rangesAt = mentionsAt + lines
+
+abbrev pub rangedAt : ℕ
+rangedAt = rangesAt + lines + 1
+
 abbrev pub gatesAt : ℕ
-gatesAt = mentionsAt + lines + 1
+gatesAt = rangedAt + 1
 
 -- A gate: its cell, then its lines, which are the one that it drives and those of its pins.
 abbrev pub gateLines : ℕ

@@ -42,6 +42,11 @@ pub const OBSERVED_AT: usize = KINDS * VALUES;
 
 pub const COSTS: usize = OBSERVED_AT + KINDS;
 
+// "a combinational price .., 1 to 999": the highest, and how many numbers there are from 0 to it.
+pub const MOST_PRICE: u32 = 999;
+
+pub const PRICES: u32 = 1 + MOST_PRICE;
+
 // ---- the library table
 
 // A row: its depth and its columns. A group: its count of rows, and its rows.
@@ -76,13 +81,18 @@ pub const LIBRARY: usize = CELLS_AT + CELLS * CELL_WORDS;
 
 // ---- the netlist table
 
-// The count of gates; for each line what drives it, whether it is an output, whether it is mentioned;
-// then the gates. What is said of line l stands at the part's number and l, what drives it at l itself.
+// The count of gates; for each line what drives it, whether it is an output, whether it is mentioned, its
+// range; whether there is a range; then the gates. What is said of line l stands at the part's number and
+// l, what drives it at l itself.
 pub const OUTPUTS_AT: usize = LINES;
 
 pub const MENTIONS_AT: usize = OUTPUTS_AT + LINES;
 
-pub const GATES_AT: usize = MENTIONS_AT + LINES + 1;
+pub const RANGES_AT: usize = MENTIONS_AT + LINES;
+
+pub const RANGED_AT: usize = RANGES_AT + LINES + 1;
+
+pub const GATES_AT: usize = RANGED_AT + 1;
 
 // A gate: its cell, then its lines, which are the one that it drives and those of its pins.
 pub const GATE_LINES: usize = 1 + PINS;

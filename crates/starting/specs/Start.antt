@@ -1,10 +1,12 @@
 -- The start, out of the netlist table.
 -- Assumes nothing.
+use mathlib.Core.Bool.{Bool}
 use mathlib.Core.List.{List, [], _∷_, _++_}
-use Prim.Native.Nat.{ℕ, zero, suc}
+use Prim.Native.Nat.{ℕ, zero, suc, _/_, _%_}
 use lib.Dec.{eqb}
 use lib.ListN.{getD}
-use Rattle.sizes.specs.Places.{driverPlace, outputPlace}
+use Rattle.sizes.specs.Sizes as Size
+use Rattle.sizes.specs.Places.{driverPlace, outputPlace, rangePlace, rangedPlace}
 use Rattle.cost.specs.Cost.{never}
 use Rattle.reading.specs.Choice.{pick}
 
@@ -12,14 +14,24 @@ use Rattle.reading.specs.Choice.{pick}
 unfoldable pub startNumber : ℕ → ℕ → ℕ
 startNumber mark price = pick (eqb mark 1) price never
 
+-- What a range says in its one number, at its high end or its low one; "Inputs without one cost 1."
+unfoldable pub priceWord : Bool → ℕ → ℕ
+priceWord high w = pick (eqb w 0) 1 (pick high (w / Size.prices) (w % Size.prices))
+
+-- What setting a line costs where it is an input. Where the table says that there is no range, those of lines are not asked
+-- for.
+unfoldable pub linePrice : Bool → List ℕ → ℕ → ℕ
+linePrice high netlist l =
+    pick (eqb (getD netlist rangedPlace 0) 0) 1 (priceWord high (getD netlist (rangePlace l) 0))
+
 -- The six numbers of a line, and of `count` lines from `first` on.
-unfoldable pub lineStart : List ℕ → ℕ → List ℕ
-lineStart netlist l =
-    let cc = startNumber (getD netlist (driverPlace l) 0) 1 in
+unfoldable pub lineStart : Bool → List ℕ → ℕ → List ℕ
+lineStart high netlist l =
+    let cc = startNumber (getD netlist (driverPlace l) 0) (linePrice high netlist l) in
     let sc = startNumber (getD netlist (driverPlace l) 0) 0 in
     let o = startNumber (getD netlist (outputPlace l) 0) 0 in
     cc ∷ cc ∷ sc ∷ sc ∷ o ∷ o ∷ []
 
-unfoldable pub linesStart : List ℕ → ℕ → ℕ → List ℕ
-linesStart netlist zero first = []
-linesStart netlist (suc count) first = lineStart netlist first ++ linesStart netlist count (suc first)
+unfoldable pub linesStart : Bool → List ℕ → ℕ → ℕ → List ℕ
+linesStart high netlist zero first = []
+linesStart high netlist (suc count) first = lineStart high netlist first ++ linesStart high netlist count (suc first)

@@ -4,28 +4,34 @@
 use mathlib.Core.Bool.{Bool, true, false}
 use mathlib.Core.List.{List, [], _∷_, _++_, append-nil, append-assoc}
 use mathlib.Core.Path.{_≡_, refl, sym, ap, ap₂, _∙_}
-use Prim.Native.Nat.{ℕ, zero, suc, _+_, _-_, _≤_, _<_}
+use Prim.Native.Nat.{ℕ, zero, suc, _+_, _*_, _-_, _/_, _%_, _≤_, _<_}
 use native.Mathlib.Omega.{arith}
+use borrow.Author.Tests.{ne-eqb}
+use lib.Dec.{eqb}
 use lib.ListN.{length, getD}
 use Rattle.sizes.specs.Sizes as Size
 use Rattle.cost.specs.Cost.{never}
 use Rattle.plans.specs.System.{Visit}
 use Rattle.reading.specs.Choice.{pick}
+use Rattle.reading.specs.Each.{Each}
+use Rattle.reading.proofs.Laws.{by-test, clash}
 use Rattle.cell_library.specs.Cells.{Cell}
 use Rattle.cell_library.specs.Layout.{libraryWords}
-use Rattle.netlist.specs.Netlist.{Gate, Statement, gatesOf, isInput, isOutput, isOpen, claimed}
-use Rattle.netlist.specs.Layout.{netlistWords, driverWord, outputWord}
+use Rattle.netlist.specs.Netlist.{Gate, Range, Statement, someLine, gatesOf, rangesOf, someRange, ofRange, lowPrice, highPrice, isInput, isOutput, isOpen, claimed}
+use Rattle.netlist.specs.Layout.{netlistWords, driverWord, outputWord, packed, rangeWord, rangedWord}
 use Rattle.netlist.specs.Gates.{noGate}
-use Rattle.netlist.proofs.Places.{netlist-count, driver-word, output-word}
-use Rattle.calculation.specs.Prices.{inputCost, pricesOf}
+use Rattle.netlist.specs.Sound.{RangeSound}
+use Rattle.netlist.proofs.Causes.{rangeLines, ranged-lines}
+use Rattle.netlist.proofs.Places.{netlist-count, driver-word, output-word, range-word, ranged-word}
+use Rattle.calculation.specs.Prices.{inputCost, pricesAt}
 use Rattle.calculation.specs.Nodes.{Kind, kindNumber}
 use Rattle.calculation.specs.Ways.{cellOf, setting, observing, groupIndex, visit, valueRoles, pinRoles, settingVisits, observingVisits}
 use Rattle.calculation.specs.Ways as W
-use Rattle.calculation.specs.Calculation.{startLine, startLines, startAt, start}
+use Rattle.calculation.specs.Calculation.{startLine, startLines, startAt}
 use Rattle.calculation.specs.Acceptance.{BothSound}
 use Rattle.gates.specs.Tables.{byRole, gateVisit}
 use Rattle.gates.proofs.Bridge.{pins-number, visit-is}
-use Rattle.starting.specs.Start.{startNumber, lineStart, linesStart}
+use Rattle.starting.specs.Start.{startNumber, priceWord, linePrice, lineStart, linesStart}
 use Rattle.visits.specs.Order.{gateVisits}
 use Rattle.sweep.specs.Order.{sweepVisits}
 use Rattle.plans.specs.Idle.{inTurn}
@@ -144,22 +150,61 @@ module _ (cells : List Cell) (ss : List Statement) (sound : BothSound cells ss) 
   output-price true x = refl
   output-price false x = refl
 
-  line-start : (l : ℕ) → 1 ≤ l → l ≤ Size.lines → lineStart netlist l ≡ startLine (pricesOf ss) ss l
-  unfolding inputCost pricesOf lineStart startLine driverWord outputWord
-  line-start l b h =
-      rw (
-        driver-word ss past l b h,
-        output-word ss past l b h,
-        driver-price (isInput l ss) (isOpen l ss) (claimed l ss) 1,
-        driver-price (isInput l ss) (isOpen l ss) (claimed l ss) 0,
-        output-price (isOutput l ss) 0,
-      )
+  -- What the table says of a range is its price.
+  range-price : (high : Bool) (rs : List Range) → Each (RangeSound ss) rs → (l : ℕ)
+      → priceWord high (ofRange packed 0 rs l) ≡ pick high (ofRange (λ r. r .high) 1 rs l) (ofRange (λ r. r .low) 1 rs l)
+  unfolding priceWord ofRange packed Each pick
+  range-price true [] h l = refl
+  range-price false [] h l = refl
+  range-price high (r ∷ rs) h l =
+      by-test (eqb (r .line) l)
+      (λ t. rw (t, ne-eqb (r .low + Size.prices * r .high) 0 (λ e. omega (arith, h .0 .least))) (at-end high))
+      (λ t. rw t (range-price high rs (h .1) l))
+    where
+      at-end : (b : Bool) → pick b ((r .low + Size.prices * r .high) / Size.prices) ((r .low + Size.prices * r .high) % Size.prices) ≡ pick b (r .high) (r .low)
+      at-end true = omega (arith, h .0 .order, h .0 .most)
+      at-end false = omega (arith, h .0 .order, h .0 .most)
 
-  lines-start : (n first : ℕ) → 1 ≤ first → first + n ≤ Size.lines + 1 → linesStart netlist n first ≡ startLines (pricesOf ss) ss n first
-  unfolding linesStart startLines
-  lines-start zero first b h = refl
-  lines-start (suc n) first b h = ap₂ (λ (l m : List ℕ). l ++ m) (line-start first b (omega arith)) (lines-start n (suc first) (omega arith) (omega arith))
+  module _ (high : Bool) where
+    word-price : (l : ℕ) → priceWord high (rangeWord ss l) ≡ pricesAt high ss l
+    unfolding rangeWord lowPrice highPrice pick
+    word-price l = range-price high (rangesOf ss) (sound .netlist .ranges) l ∙ side high
+      where
+        side : (b : Bool) → pick b (highPrice ss l) (lowPrice ss l) ≡ pricesAt b ss l
+        side true = refl
+        side false = refl
 
-  pub start-is : linesStart netlist Size.lines 1 ≡ start ss
-  unfolding startAt
-  start-is = lines-start Size.lines 1 (omega arith) (omega arith)
+    -- Without a range each word is 0, which says 1.
+    no-word : (rs : List Range) → someLine (rangeLines rs) ≡ false → (l : ℕ) → 1 ≡ priceWord high (ofRange packed 0 rs l)
+    unfolding someLine rangeLines ofRange priceWord pick
+    no-word [] h l = refl
+    no-word (r ∷ rs) h l = clash true refl h
+
+    end-price : (l : ℕ) → 1 ≤ l → l ≤ Size.lines → linePrice high netlist l ≡ pricesAt high ss l
+    unfolding linePrice rangeWord rangedWord someRange pick
+    end-price l b h = rw (ranged-word ss past, range-word ss past l b h, ← word-price l) (side (someRange ss) refl)
+      where
+        side : (b : Bool) → someRange ss ≡ b → pick (eqb (pick b 1 0) 0) 1 (priceWord high (rangeWord ss l)) ≡ priceWord high (rangeWord ss l)
+        side true e = refl
+        side false e = no-word (rangesOf ss) (ap someLine (sym (ranged-lines ss)) ∙ e) l
+
+    line-start : (l : ℕ) → 1 ≤ l → l ≤ Size.lines → lineStart high netlist l ≡ startLine (pricesAt high ss) ss l
+    unfolding inputCost lineStart startLine driverWord outputWord
+    line-start l b h =
+        rw (
+          driver-word ss past l b h,
+          output-word ss past l b h,
+          end-price l b h,
+          driver-price (isInput l ss) (isOpen l ss) (claimed l ss) (pricesAt high ss l),
+          driver-price (isInput l ss) (isOpen l ss) (claimed l ss) 0,
+          output-price (isOutput l ss) 0,
+        )
+
+    lines-start : (n first : ℕ) → 1 ≤ first → first + n ≤ Size.lines + 1 → linesStart high netlist n first ≡ startLines (pricesAt high ss) ss n first
+    unfolding linesStart startLines
+    lines-start zero first b h = refl
+    lines-start (suc n) first b h = ap₂ (λ (l m : List ℕ). l ++ m) (line-start first b (omega arith)) (lines-start n (suc first) (omega arith) (omega arith))
+
+    pub start-is : linesStart high netlist Size.lines 1 ≡ startAt (pricesAt high ss) ss
+    unfolding startAt
+    start-is = lines-start Size.lines 1 (omega arith) (omega arith)

@@ -1,5 +1,6 @@
 -- The four runs at the tables of accepted cells and statements.
 -- Assumes nothing.
+use mathlib.Core.Bool.{Bool}
 use mathlib.Core.List.{List, [], _∷_, _++_}
 use mathlib.Core.Path.{_≡_, refl, sym, ap, _∙_}
 use Prim.Native.Nat.{ℕ, _+_, _*_, _≤_}
@@ -18,14 +19,14 @@ use Rattle.netlist.specs.Netlist.{Statement, gatesOf}
 use Rattle.netlist.specs.Gates.{LinesStand}
 use Rattle.netlist.proofs.HeldGates.{lines-stand}
 use Rattle.netlist.proofs.Places.{netlist-room}
-use Rattle.calculation.specs.Prices.{pricesOf}
+use Rattle.calculation.specs.Prices.{pricesAt}
 use Rattle.calculation.specs.Nodes.{Kind, combinational, sequential, kindNumber}
 use Rattle.calculation.specs.Ways.{settingVisits, observingVisits}
-use Rattle.calculation.specs.Calculation.{analysed, start, stages}
+use Rattle.calculation.specs.Calculation.{analysedAt, startAt, stages}
 use Rattle.calculation.specs.Runs.{settingStages, observingStages}
 use Rattle.calculation.specs.Settled.{inOrder}
 use Rattle.calculation.specs.declared.Counts.{Counts}
-use Rattle.calculation.proofs.Laws.{own-figures, kind-small, start-bounded, within, settled-once, setting-within, observing-within}
+use Rattle.calculation.proofs.Laws.{end-figures, kind-small, start-bounded, within, settled-once, setting-within, observing-within}
 use Rattle.gates.specs.Fits.{TablesFit}
 use Rattle.gates.proofs.Bridge.{tables-fit}
 use Rattle.links.specs.Lines.{LinkFits, Links}
@@ -59,8 +60,8 @@ module _ {library netlist : List ℕ} {cells : List Cell} {ss : List Statement} 
   pub room : Size.netlist ≤ length netlist
   room = rw (h .statementsStand) (netlist-room ss (h .past))
 
-  starts : linesStart netlist Size.lines 1 ≡ start ss
-  starts = rw (h .statementsStand) (start-is cells ss (h .sound) (h .behind) (h .past))
+  starts : (high : Bool) → linesStart high netlist Size.lines 1 ≡ startAt (pricesAt high ss) ss
+  starts high = rw (h .statementsStand) (start-is cells ss (h .sound) (h .behind) (h .past) high)
 
   sets : (k : Kind) → sweepVisits 0 (kindNumber k) library netlist ≡ settingVisits k cells (gatesOf ss)
   sets k = rw (h .cellsStand, h .statementsStand) (setting-sweep cells ss (h .sound) (h .behind) (h .past) k)
@@ -135,18 +136,20 @@ module _ {library netlist : List ℕ} {cells : List Cell} {ss : List Statement} 
 
   -- ---- from the start they come to the numbers of the calculation
 
-  module _ {x0 : List ℕ} (begun : x0 ≡ linesStart netlist Size.lines 1) where
-    at-start : x0 ≡ start ss
-    at-start = begun ∙ starts
+  module _ (high : Bool) {x0 : List ℕ} (begun : x0 ≡ linesStart high netlist Size.lines 1) where
+    at-start : x0 ≡ startAt (pricesAt high ss) ss
+    at-start = begun ∙ starts high
 
     pub start-size : length x0 ≡ Size.numbers
-    start-size = ap length begun ∙ laid-length netlist Size.lines 1
+    start-size = ap length begun ∙ laid-length high netlist Size.lines 1
 
     pub start-costs : Bounded x0
-    start-costs = rw at-start (start-bounded (pricesOf ss) ss (own-figures (h .sound)))
+    start-costs = rw at-start (start-bounded (pricesAt high ss) ss (end-figures (h .sound) high))
 
-    pub calculated : {x4 : List ℕ} (counts : Counts) → Stages (allByLower (stages cells (gatesOf ss))) x0 (inOrder counts) x4 → whole counts x4 ≡ analysed cells ss
+    pub calculated : {x4 : List ℕ} (counts : Counts) → Stages (allByLower (stages cells (gatesOf ss))) x0 (inOrder counts) x4 → whole counts x4 ≡ analysedAt (pricesAt high ss) cells ss
     calculated {x4} counts ran =
-        let all : Stages (stages cells (gatesOf ss)) (start ss) (inOrder counts) x4 =
-        lowered-stages (stages cells (gatesOf ss)) (start ss) x4 (inOrder counts) (within cells ss (h .sound) (pricesOf ss) (own-figures (h .sound))) (rw at-start at ran) in
-        settled-once cells ss (h .sound) (pricesOf ss) (own-figures (h .sound)) (whole counts x4) all
+        let price = pricesAt high ss in
+        let figures = end-figures (h .sound) high in
+        let all : Stages (stages cells (gatesOf ss)) (startAt price ss) (inOrder counts) x4 =
+        lowered-stages (stages cells (gatesOf ss)) (startAt price ss) x4 (inOrder counts) (within cells ss (h .sound) price figures) (rw at-start at ran) in
+        settled-once cells ss (h .sound) price figures (whole counts x4) all

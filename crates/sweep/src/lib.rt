@@ -36,6 +36,7 @@ ghost use Rattle.sizes.specs.Sizes as Size;
 ghost use Rattle.plans.specs.Sweep.{lower, Settles};
 ghost use Rattle.cell_library.specs.Cells.{Cell};
 ghost use Rattle.netlist.specs.Netlist.{Statement, gatesOf};
+ghost use Rattle.calculation.specs.Prices.{pricesAt};
 ghost use Rattle.calculation.specs.Runs.{settingStages, observingStages};
 ghost use Rattle.visits.specs.Order.{gateOfTurn};
 ghost use Rattle.visits.specs.Renewed.{Swept};
@@ -194,21 +195,22 @@ fn hand_over(found: &[u32; sizes::NUMBERS], numbers: &mut [u32])
     }
 }
 
-// Goldstein's calculation over the tables of an accepted library and netlist: leaves the six numbers
-// of each line in the numbers table, and says how many sweeps each run took.
-pub fn calculate(library: &[u32], netlist: &[u32], numbers: &mut [u32]) -> Counts
+// Goldstein's calculation over the tables of an accepted library and netlist, inputs at the high end of
+// their ranges or at the low one: leaves the six numbers of each line in the numbers table, and says how
+// many sweeps each run took.
+pub fn calculate(library: &[u32], netlist: &[u32], numbers: &mut [u32], high: bool) -> Counts
     requires { ⌜ Ready (now library) (now netlist) (now numbers) ⌝ }
     ensures { λ r.
         ⌜ ((cells : List Cell) (ss : List Statement) → Holds (now (library .entry))
-        (now (netlist .entry)) cells ss → Calculated cells ss (now (numbers .entry))
-        (now (numbers .exit)) r) ⌝ }
+        (now (netlist .entry)) cells ss → Calculated (pricesAt high ss) cells ss
+        (now (numbers .entry)) (now (numbers .exit)) r) ⌝ }
 {
     let mut links = [0u16; sizes::LINKS];
     link(library, netlist, &mut links);
     // The sweeps work on an array of their own: a reference to it is one machine word, so that the
     // row sum's calls of itself stay in registers.
     let mut found = [0u32; sizes::NUMBERS];
-    start(netlist, &mut found);
+    start(netlist, &mut found, high);
     let set = set_lines(library, netlist, &links, &mut found);
     let observed = observe_lines(library, netlist, &links, &mut found);
     hand_over(&found, numbers);

@@ -1,5 +1,6 @@
 -- The run at the tables of accepted cells and statements: its marks are those that the definitions remember.
 -- Assumes nothing.
+use mathlib.Core.Bool.{false}
 use mathlib.Core.List.{List}
 use mathlib.Core.Option.{Option, none}
 use mathlib.Core.Path.{_≡_, refl, sym, ap, subst, _∙_}
@@ -40,7 +41,7 @@ module _ (kind : ℕ) (library netlist : List ℕ) where
 
   -- What the first `done` sweeps remember.
   abbrev pub after : ℕ → Trace
-  after done = traceSweeps lower run-visits done (untraced (linesStart netlist Size.lines 1))
+  after done = traceSweeps lower run-visits done (untraced (linesStart false netlist Size.lines 1))
 
   visits-count : length run-visits ≡ 2 * getD netlist 0 0
   visits-count = ap length (sym (all-turns kind library netlist)) ∙ turns-length kind library netlist (2 * getD netlist 0 0)
@@ -63,14 +64,14 @@ module _ (kind : ℕ) (library netlist : List ℕ) where
       rw (unmarked n)
       (record { visit = getD-replicate Size.marks (markPlace l v) 0 0 (omega arith); columns = getD-replicate Size.marks (markPlace l v + 2) 0 0 (omega arith) })
 
-  pub begins : (numbers marks : List ℕ) → numbers ≡ linesStart netlist Size.lines 1 → marks ≡ replicate Size.marks 0
+  pub begins : (numbers marks : List ℕ) → numbers ≡ linesStart false netlist Size.lines 1 → marks ≡ replicate Size.marks 0
       → Stands kind library netlist (after 0) numbers marks × (after 0 .time ≡ 0)
   unfolding traceSweeps untraced
   begins numbers marks e m =
-      let long = laid-length netlist Size.lines 1 in (
+      let long = laid-length false netlist Size.lines 1 in (
         record {
           numbersAre = e;
-          long = length-replicate {A = Option Mark} (length (linesStart netlist Size.lines 1)) none ∙ long;
+          long = length-replicate {A = Option Mark} (length (linesStart false netlist Size.lines 1)) none ∙ long;
           noted = λ l v a b c. rw (m, long) (none-noted (settingPlace kind l v) l v a b c);
         },
         refl,
@@ -80,7 +81,7 @@ module _ (kind : ℕ) (library netlist : List ℕ) where
     module _ {said : _} (swept : Traced kind library netlist run-visits clock numbers marks numbers′ marks′ said) where
       pub one-more : Stands kind library netlist (after (suc done)) numbers′ marks′ × (after (suc done) .time ≡ clock + 2 * getD netlist 0 0)
       one-more =
-          let e = traces-last lower run-visits done (untraced (linesStart netlist Size.lines 1)) in
+          let e = traces-last lower run-visits done (untraced (linesStart false netlist Size.lines 1)) in
           (rw e (swept .stands (after done) t s), rw e (trace-time lower run-visits (after done) ∙ omega (arith, visits-count)))
 
   -- ---- at accepted cells and statements
@@ -99,8 +100,8 @@ module _ (kind : ℕ) (library netlist : List ℕ) where
     visits-are : run-visits ≡ visits cells ss (h .sound) k
     visits-are = rw (← e, h .cellsStand, h .statementsStand) (setting-sweep cells ss (h .sound) (h .behind) (h .past) k)
 
-    start-are : linesStart netlist Size.lines 1 ≡ start ss
-    start-are = rw (h .statementsStand) (start-is cells ss (h .sound) (h .behind) (h .past))
+    start-are : linesStart false netlist Size.lines 1 ≡ start ss
+    start-are = rw (h .statementsStand) (start-is cells ss (h .sound) (h .behind) (h .past) false)
 
     all-is : after (2 * getD netlist 0 0 + 1) ≡ settingTrace k cells ss
     all-is = rw (visits-are, start-are, count-is) (sym (trace-lower cells ss (h .sound) k))
@@ -117,7 +118,7 @@ module _ (kind : ℕ) (library netlist : List ℕ) where
         → Stands kind library netlist (after done) numbers marks → Stands kind library netlist (after (suc done)) numbers′ marks′
         → AllNoted kind library netlist (settingTrace k cells ss .marks) marks′
     ends-early done more all numbers marks numbers′ marks′ long still s s′ =
-        let t = untraced (linesStart netlist Size.lines 1) in
+        let t = untraced (linesStart false netlist Size.lines 1) in
         let last = after (suc done) in
         let same : last .numbers ≡ after done .numbers = sym (s′ .numbersAre) ∙ still ∙ s .numbersAre in
         let swept : last .numbers ≡ sweep lower run-visits (after done .numbers) = ap (λ (x : Trace). x .numbers) (traces-last lower run-visits done t) ∙ trace-numbers lower run-visits (after done) in

@@ -20,6 +20,7 @@ use links::link;
 use netlist::gates::place_of;
 use netlist::gates::unchecked::lines_of;
 use row_sums::kinds::wide;
+use starting::LOW;
 use starting::start;
 use table::word;
 use wires::once;
@@ -231,7 +232,7 @@ pub fn trace(kind: usize, library: &[u32], netlist: &[u32], marks: &mut [u32; si
     let mut links = [0u16; sizes::LINKS];
     link(library, netlist, &mut links);
     let mut numbers = [0u32; sizes::NUMBERS];
-    start(netlist, &mut numbers);
+    start(netlist, &mut numbers, LOW);
     let mut clock: u32 = 0;
     let mut left = 2 * gates + 1;
     while 0 < left {

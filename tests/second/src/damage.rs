@@ -2,7 +2,8 @@
 //! that it must give; and damage of which nothing is said beforehand.
 
 use crate::generate::{
-    add_cell, fields, fresh_name, groups_of, rows_line, CellForm, Fields, Pair, Style, ENTRY,
+    add_cell, bounds, fields, fresh_name, groups_of, range_line, rows_line, CellForm, Fields, Pair,
+    Style, ENTRY,
 };
 use crate::library::{MOST_CELLS, MOST_ROWS};
 use crate::random::Random;
@@ -12,7 +13,7 @@ use crate::{Refusal, MOST_BYTES};
 const WORDS: [&str; 6] = ["Name", "CC", "CO", "SC", "SO", "End"];
 
 /// The numbers that a damage of one place can be made for.
-const NUMBERS: [u32; 14] = [
+const NUMBERS: [u32; 16] = [
     LIBRARY_FORM,
     NAME_USED,
     PINS_BAD,
@@ -27,6 +28,8 @@ const NUMBERS: [u32; 14] = [
     DRIVEN_BEFORE,
     MARKED_BEFORE,
     UNDECLARED,
+    NOT_INPUT,
+    RANGE_BAD,
 ];
 
 /// Damages the pair for the number, if it has a place for that.
@@ -67,6 +70,8 @@ fn damage(rng: &mut Random, pair: &mut Pair, number: u32) -> Option<Refusal> {
         }
         DRIVEN_BEFORE => driven_twice(rng, pair),
         MARKED_BEFORE => marked_twice(rng, pair),
+        NOT_INPUT => unmarked_range(rng, pair),
+        RANGE_BAD => bad_range(rng, pair),
         UNDECLARED => {
             undeclared(rng, pair)?;
             return Some(Refusal { number, line: 0 });
@@ -126,13 +131,15 @@ fn bad_field(rng: &mut Random, field: &[u8], kind: usize) -> Vec<u8> {
                 let head = field.starts_with(b"Name");
                 let others: Vec<&str> = WORDS
                     .into_iter()
-                    .chain(["input", "output", "gate", "M", "0", "NAME", "Name3"])
+                    .chain([
+                        "input", "output", "gate", "range", "M", "0", "NAME", "Name3",
+                    ])
                     .filter(|word| word.as_bytes() != field)
                     .filter(|word| !(head && word.starts_with("Name")))
                     .collect();
                 bad = rng.pick(&others).as_bytes().to_vec();
-                // An input and an output line have the same form otherwise.
-                if [&b"input"[..], b"output", b"gate"].contains(&&bad[..]) {
+                // An input and an output line have the same form otherwise; a range may have a gate's.
+                if [&b"input"[..], b"output", b"gate", b"range"].contains(&&bad[..]) {
                     bad.push(b's');
                 }
             }
@@ -453,10 +460,13 @@ fn netlist_form(rng: &mut Random, pair: &mut Pair) -> Option<usize> {
     Some(at)
 }
 
-/// Any of a line's numbers, the marked or driven line or a pin.
+/// Any of a line's numbers, the marked, driven or priced line or a pin.
 fn bad_line_number(rng: &mut Random, line: &mut Fields) {
-    let first = if line[0] == b"gate" { 2 } else { 1 };
-    let at = rng.within(first, line.len() - 1);
+    let at = if line[0] == b"gate" {
+        rng.within(2, line.len() - 1)
+    } else {
+        1
+    };
     line[at] = match rng.below(6) {
         0 | 1 => b"0".to_vec(),
         2 | 3 => b"1001".to_vec(),
@@ -544,6 +554,78 @@ fn marked_twice(rng: &mut Random, pair: &mut Pair) -> Option<usize> {
     Some(at)
 }
 
+/// A line that no input marks above a place, in range: another line, or one whose input comes later.
+fn unmarked(rng: &mut Random, pair: &Pair, at: usize) -> Option<Vec<u8>> {
+    let marked = |number: &Vec<u8>| {
+        pair.net.lines[..at]
+            .iter()
+            .any(|line| line[0] == b"input" && line.get(1) == Some(number))
+    };
+    let below = place_of(rng, pair, |line| line.len() > 2 || line[0] != b"input");
+    let near = below.and_then(|at| pair.net.lines[at].get(2).cloned());
+    let later = pair.net.lines[at..]
+        .iter()
+        .filter(|line| line[0] == b"input")
+        .map(|line| line[1].clone());
+    let number = |rng: &mut Random| rng.within(1, 1_000).to_string().into_bytes();
+    let any: Vec<Vec<u8>> = (0..20).map(|_| number(rng)).collect();
+    let mut found = Vec::new();
+    found.extend(near.filter(|_| rng.once_in(2)));
+    found.extend(later.filter(|_| rng.once_in(2)));
+    found.extend(any);
+    found.into_iter().find(|number| {
+        let digits = std::str::from_utf8(number)
+            .ok()
+            .and_then(|text| text.parse().ok());
+        digits.is_some_and(|line: u32| (1..=1_000).contains(&line)) && !marked(number)
+    })
+}
+
+/// Bounds for which a range is refused.
+fn bad_bounds(rng: &mut Random) -> [u32; 2] {
+    let [low, high] = bounds(rng);
+    match rng.below(5) {
+        0 => [0, high],
+        1 => [low, *rng.pick(&[0, 1_000, 99_999])],
+        2 => [*rng.pick(&[1_000, 1_001, 99_999]); 2],
+        3 if low < high => [high, low],
+        _ => [rng.within(2, 999) as u32, 1],
+    }
+}
+
+/// A range on a line that is not marked input above it, its bounds good or bad.
+fn unmarked_range(rng: &mut Random, pair: &mut Pair) -> Option<usize> {
+    let at = rng.within(0, pair.net.lines.len());
+    let number = unmarked(rng, pair, at)?;
+    let bounds = if rng.once_in(3) {
+        bad_bounds(rng)
+    } else {
+        bounds(rng)
+    };
+    pair.net.lines.insert(at, range_line(&number, bounds));
+    Some(at)
+}
+
+/// A range of an input with bad bounds, or one more where it has one already.
+fn bad_range(rng: &mut Random, pair: &mut Pair) -> Option<usize> {
+    let first = place_of(rng, pair, |line| line[0] == b"range");
+    if let Some(first) = first.filter(|_| rng.once_in(2)) {
+        let mut again = pair.net.lines[first].clone();
+        if rng.once_in(2) {
+            again = range_line(&again[1], bounds(rng));
+        }
+        let at = rng.within(first + 1, pair.net.lines.len());
+        pair.net.lines.insert(at, again);
+        return Some(at);
+    }
+    let input = place_of(rng, pair, |line| line[0] == b"input")?;
+    let number = pair.net.lines[input][1].clone();
+    let at = rng.within(input + 1, pair.net.lines.len());
+    let bounds = bad_bounds(rng);
+    pair.net.lines.insert(at, range_line(&number, bounds));
+    Some(at)
+}
+
 /// Whether a cause is taken; the last one is where none was before.
 fn take(rng: &mut Random, lowest: &mut u32, number: u32, last: bool) -> bool {
     let taken = rng.once_in(2) || (last && *lowest == 0);
@@ -557,10 +639,11 @@ fn take(rng: &mut Random, lowest: &mut u32, number: u32, last: bool) -> bool {
 /// numbers come first here, as bad form can hide the places of the others.
 pub fn one_line(rng: &mut Random, pair: &mut Pair) -> Option<Refusal> {
     let mut lowest = 0;
-    let at = match rng.below(4) {
+    let at = match rng.below(5) {
         0 => one_name_line(rng, pair, &mut lowest),
         1 => one_rows_line(rng, pair, &mut lowest),
         2 => one_gate_line(rng, pair, &mut lowest),
+        3 => one_range_line(rng, pair, &mut lowest),
         _ => one_mark_line(rng, pair, &mut lowest),
     }?;
     Some(Refusal {
@@ -651,6 +734,26 @@ fn one_mark_line(rng: &mut Random, pair: &mut Pair, lowest: &mut u32) -> Option<
     Some(pair.net.lines.len() - 1)
 }
 
+/// A range past the end, of an input or of another line.
+fn one_range_line(rng: &mut Random, pair: &mut Pair, lowest: &mut u32) -> Option<usize> {
+    let input = place_of(rng, pair, |line| line[0] == b"input")?;
+    let mut number = pair.net.lines[input][1].clone();
+    *lowest = RANGE_BAD;
+    let bounds = bad_bounds(rng);
+    if take(rng, lowest, NOT_INPUT, false) {
+        number = unmarked(rng, pair, pair.net.lines.len())?;
+    }
+    let mut line = range_line(&number, bounds);
+    if take(rng, lowest, LINE_BAD, false) {
+        bad_line_number(rng, &mut line);
+    }
+    if take(rng, lowest, NETLIST_FORM, false) {
+        bad_net_line(rng, &mut line);
+    }
+    pair.net.lines.push(line);
+    Some(pair.net.lines.len() - 1)
+}
+
 /// A text made too long for the entry, whatever stands in it.
 pub fn overlong(rng: &mut Random, text: &mut Vec<u8>) {
     let length = match rng.below(4) {
@@ -669,7 +772,7 @@ pub fn overlong(rng: &mut Random, text: &mut Vec<u8>) {
 
 /// Blind damage of bytes, of which nothing is said beforehand.
 pub fn scramble(rng: &mut Random, text: &mut Vec<u8>) {
-    const TELLING: &[u8] = b"\n\n,,00178903MZCSOEndNamegateinputoutput \r\0";
+    const TELLING: &[u8] = b"\n\n,,00178903MZCSOEndNamegateinputoutputrange \r\0";
     let length = text.len();
     if length == 0 {
         text.push(*rng.pick(TELLING));
@@ -730,7 +833,7 @@ pub fn scramble(rng: &mut Random, text: &mut Vec<u8>) {
 
 /// Words and signs of both texts in any order.
 pub fn babble(rng: &mut Random, pieces: usize) -> Vec<u8> {
-    const PIECES: [&str; 34] = [
+    const PIECES: [&str; 37] = [
         "Name",
         "Name3",
         "CC",
@@ -743,6 +846,7 @@ pub fn babble(rng: &mut Random, pieces: usize) -> Vec<u8> {
         "input",
         "output",
         "gate",
+        "range",
         "A",
         "B",
         "0",
@@ -762,6 +866,8 @@ pub fn babble(rng: &mut Random, pieces: usize) -> Vec<u8> {
         ",",
         "01",
         "input,1\n",
+        "range,1,2,",
+        "range,1,2,999\n",
         "Name,A,1\nCC,3,5\nCO,41\nSC,2,4\nSO,40\nEnd\n",
         "Name,B,0\nCC,1,Z\nCO\nSC,Z,0\nSO\nEnd\n",
         "Name3,C,1\nCC,27,10\nCO,207\nSC,20,17\nSO,200\nEnd\n",

@@ -59,6 +59,33 @@ output,4
 ";
 
 /// As the scope paper prints it.
+/// C1130 with the first input's price from 2 to 5.
+pub const C1130_RANGE_NET: &str = "\
+input,1
+input,2
+input,3
+range,1,2,5
+gate,C1130,4,1,2,3
+output,4
+";
+
+/// The output is 0 by another input at price 1, and 1 by all three; to observe an input the others are set.
+pub const C1130_RANGE_REPORT: &str = "\
+line,cc0,cc1,sc0,sc1,co,so
+1,2,2,0,0,3,0
+2,1,1,0,0,4,0
+3,1,1,0,0,4,0
+4,2,5,0,0,0,0
+sweeps,2,2,2,2
+high
+line,cc0,cc1,sc0,sc1,co,so
+1,5,5,0,0,3,0
+2,1,1,0,0,7,0
+3,1,1,0,0,7,0
+4,2,8,0,0,0,0
+sweeps,2,2,2,2
+";
+
 pub const C1130_REPORT: &str = "\
 line,cc0,cc1,sc0,sc1,co,so
 1,1,1,0,0,3,0

@@ -2,7 +2,7 @@
 //! place can be damaged afterwards.
 
 use crate::library::{MOST_CELLS, MOST_PINS, MOST_ROWS};
-use crate::netlist::MOST_LINES;
+use crate::netlist::{MOST_LINES, MOST_PRICE};
 use crate::random::Random;
 
 pub type Fields = Vec<Vec<u8>>;
@@ -475,6 +475,49 @@ pub fn add_netlist(rng: &mut Random, pair: &mut Pair, shape: &Shape) {
     lines.append(&mut opens_text);
     if shape.order == Order::Shuffled {
         rng.shuffle(lines);
+    }
+}
+
+/// A range's bounds, LOW first; often the ends of what is allowed, and often the same.
+pub fn bounds(rng: &mut Random) -> [u32; 2] {
+    let mut one = || match rng.below(8) {
+        0 => 1,
+        1 => MOST_PRICE,
+        2..=4 => rng.within(1, 9) as u32,
+        _ => rng.within(1, MOST_PRICE as usize) as u32,
+    };
+    let [a, b] = [one(), one()];
+    if rng.once_in(8) {
+        [a, a]
+    } else {
+        [a.min(b), a.max(b)]
+    }
+}
+
+pub fn range_line(line: &[u8], [low, high]: [u32; 2]) -> Fields {
+    vec![
+        b"range".to_vec(),
+        line.to_vec(),
+        low.to_string().into_bytes(),
+        high.to_string().into_bytes(),
+    ]
+}
+
+/// A range for some of the inputs, somewhere below each: the pair is accepted as before.
+pub fn add_ranges(rng: &mut Random, pair: &mut Pair) {
+    let lines = &mut pair.net.lines;
+    let inputs: Vec<Fields> = lines
+        .iter()
+        .filter(|line| line[0] == b"input")
+        .cloned()
+        .collect();
+    let share = rng.within(1, 4);
+    for input in inputs {
+        if rng.once_in(share) {
+            let above = lines.iter().position(|line| *line == input).unwrap();
+            let at = rng.within(above + 1, lines.len());
+            lines.insert(at, range_line(&input[1], bounds(rng)));
+        }
     }
 }
 

@@ -3,6 +3,7 @@
 //! It is written from the scope paper alone and shares nothing with the proved program, which it is
 //! held against. Texts go in; a report or a refusal comes out.
 
+pub mod between;
 pub mod cell;
 pub mod chip;
 mod cost;
@@ -25,8 +26,9 @@ mod tests;
 
 pub use cost::{Cost, LARGEST, NEVER, OVER};
 pub use library::{MOST_CELLS, MOST_PINS, MOST_ROWS};
-pub use netlist::{Rules, MOST_LINES};
+pub use netlist::{Rules, MOST_LINES, MOST_PRICE};
 use refusal::{NO_FIGURE, PLAN_LONG, REPORT_LONG, TEXT_LONG};
+pub use report::HIGH;
 pub use sweep::Counts;
 
 /// A text above this many bytes is refused at entry.
@@ -41,8 +43,15 @@ pub struct Refusal {
 
 #[derive(Clone, Debug, PartialEq, Eq)]
 pub enum Answer {
-    Accepted { report: Vec<u8>, counts: Counts },
-    Refused { number: u32, line: u32 },
+    /// The counts are those at low prices.
+    Accepted {
+        report: Vec<u8>,
+        counts: Counts,
+    },
+    Refused {
+        number: u32,
+        line: u32,
+    },
 }
 
 /// The answer for a library, a netlist and a report buffer of `room` bytes.
@@ -67,8 +76,13 @@ fn both_read(lib: &[u8], net: &[u8]) -> Result<(library::Library, netlist::Netli
 
 fn accepted(lib: &[u8], net: &[u8], room: usize) -> Result<(Vec<u8>, Counts), Refusal> {
     let (library, netlist) = both_read(lib, net)?;
-    let (numbers, counts) = sweep::run(&library, &netlist);
-    let report = report::write(&netlist, &numbers, &counts);
+    let (numbers, counts) = sweep::run(&library, &netlist, |line| netlist.price(line, 0));
+    let mut report = report::write(&netlist, &numbers, &counts);
+    if netlist.ranged() {
+        let (numbers, counts) = sweep::run(&library, &netlist, |line| netlist.price(line, 1));
+        report.extend_from_slice(report::HIGH);
+        report.extend(report::write(&netlist, &numbers, &counts));
+    }
     if report.len() > room {
         return Err(Refusal {
             number: REPORT_LONG,

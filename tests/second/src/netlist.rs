@@ -1,14 +1,20 @@
-//! The netlist: inputs, outputs, open lines and gates in any order.
+//! The netlist: inputs, outputs, open lines, gates and ranges; but for a range, which stands below its
+//! input, in any order.
 
+use crate::cost::Cost;
 use crate::library::{Library, MOST_PINS};
 use crate::refusal::{
-    CELL_UNKNOWN, DRIVEN_BEFORE, LINE_BAD, MARKED_BEFORE, NETLIST_FORM, PINS_DIFFER, UNDECLARED,
+    CELL_UNKNOWN, DRIVEN_BEFORE, LINE_BAD, MARKED_BEFORE, NETLIST_FORM, NOT_INPUT, PINS_DIFFER,
+    RANGE_BAD, UNDECLARED,
 };
 use crate::text::{self, Line, Lines};
 use crate::Refusal;
 
 /// Line numbers run from 1 to this one.
 pub const MOST_LINES: usize = 1_000;
+
+/// Prices run from 1 to this one.
+pub const MOST_PRICE: u32 = 999;
 
 pub struct Gate {
     pub cell: usize,
@@ -36,6 +42,8 @@ pub struct Marks {
     pub claimed: bool,
     pub output: bool,
     pub mentioned: bool,
+    /// An input's lowest and highest price.
+    pub range: Option<[u32; 2]>,
 }
 
 pub struct Netlist {
@@ -79,6 +87,17 @@ impl Netlist {
         (1..=MOST_LINES).filter(|&line| self.marks[line].mentioned && !self.marks[line].claimed)
     }
 
+    /// Whether some input has a range.
+    pub fn ranged(&self) -> bool {
+        self.marks.iter().any(|marks| marks.range.is_some())
+    }
+
+    /// What a line costs to set where it is an input: at the low end of its range, which is 0 here, or at the
+    /// high one, which is 1.
+    pub fn price(&self, line: usize, end: usize) -> Cost {
+        self.marks[line].range.map_or(1, |range| range[end])
+    }
+
     /// Takes a line in, or answers the lowest number that holds of it.
     fn read_line(&mut self, line: &Line, library: &Library, rules: Rules) -> Result<(), u32> {
         if !line.ended {
@@ -112,6 +131,7 @@ impl Netlist {
                 Ok(())
             }
             Some(b"gate") => self.gate(fields, library),
+            Some(b"range") if rules == Rules::New => self.range(fields),
             _ => Err(NETLIST_FORM),
         }
     }
@@ -154,6 +174,23 @@ impl Netlist {
         }
         lines[pins] = output as u16;
         self.gates.push(Gate { cell, pins, lines });
+        Ok(())
+    }
+
+    fn range<'a>(&mut self, fields: impl Iterator<Item = &'a [u8]>) -> Result<(), u32> {
+        let numbers: Option<Vec<u32>> = fields.map(text::decimal).collect();
+        let Some([line, low, high]) = numbers.as_deref() else {
+            return Err(NETLIST_FORM);
+        };
+        let marks = self.mark(*line)?;
+        if !marks.input {
+            return Err(NOT_INPUT);
+        }
+        let priced = |bound: &u32| (1..=MOST_PRICE).contains(bound);
+        if !priced(low) || !priced(high) || low > high || marks.range.is_some() {
+            return Err(RANGE_BAD);
+        }
+        marks.range = Some([*low, *high]);
         Ok(())
     }
 

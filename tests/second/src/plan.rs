@@ -1,7 +1,7 @@
 //! The cheapest way to set a line, written out: the sweeps of one kind once more, with the row by which
 //! each number was last lowered.
 
-use crate::cost::{Cost, LARGEST, NEVER};
+use crate::cost::{LARGEST, NEVER};
 use crate::library::{Library, Row};
 use crate::netlist::{Netlist, MOST_LINES};
 use crate::sweep::{is_wired, row_sum, wired_sum};
@@ -28,7 +28,7 @@ pub fn write(
     let mut costs = [[NEVER; 2]; MOST_LINES + 1];
     for (line, marks) in netlist.marks.iter().enumerate() {
         if marks.input {
-            costs[line] = [1 - kind as Cost; 2];
+            costs[line] = [if kind == 0 { netlist.price(line, 0) } else { 0 }; 2];
         }
     }
     let rows = |gate: usize, value: usize| -> &[Row] {

@@ -31,7 +31,7 @@ pub const PINS_DIFFER: u32 = 13;
 pub const DRIVEN_BEFORE: u32 = 14;
 /// the line is marked output already
 pub const MARKED_BEFORE: u32 = 15;
-/// the report is longer than its buffer
+/// the report is longer than its buffer; of a netlist with ranges both reports together
 pub const REPORT_LONG: u32 = 17;
 /// the number is over or never, or there is none
 pub const NO_FIGURE: u32 = 18;
@@ -39,3 +39,7 @@ pub const NO_FIGURE: u32 = 18;
 pub const PLAN_LONG: u32 = 19;
 /// a line is read by a pin or marked output, and neither driven nor declared open
 pub const UNDECLARED: u32 = 20;
+/// a range on a line that is not marked input above
+pub const NOT_INPUT: u32 = 21;
+/// a bound of a range is not 1 to 999, LOW is above HIGH, or the line has a range already
+pub const RANGE_BAD: u32 = 22;

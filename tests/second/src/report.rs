@@ -4,6 +4,9 @@ use crate::cost::{Cost, NEVER, OVER};
 use crate::netlist::Netlist;
 use crate::sweep::{Counts, Numbers};
 
+/// What stands between the report at low prices and that at high ones.
+pub const HIGH: &[u8] = b"high\n";
+
 pub fn write(netlist: &Netlist, numbers: &Numbers, counts: &Counts) -> Vec<u8> {
     let mut report = b"line,cc0,cc1,sc0,sc1,co,so\n".to_vec();
     for (line, marks) in netlist.marks.iter().enumerate() {

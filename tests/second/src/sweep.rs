@@ -18,7 +18,12 @@ pub struct Numbers {
     pub so: Observing,
 }
 
-pub fn run(library: &Library, netlist: &Netlist) -> (Numbers, Counts) {
+/// All numbers, with each input at its price.
+pub fn run(
+    library: &Library,
+    netlist: &Netlist,
+    price: impl Fn(usize) -> Cost,
+) -> (Numbers, Counts) {
     let mut numbers = Numbers {
         cc: [[NEVER; 2]; MOST_LINES + 1],
         sc: [[NEVER; 2]; MOST_LINES + 1],
@@ -27,7 +32,7 @@ pub fn run(library: &Library, netlist: &Netlist) -> (Numbers, Counts) {
     };
     for (line, marks) in netlist.marks.iter().enumerate() {
         if marks.input {
-            numbers.cc[line] = [1, 1];
+            numbers.cc[line] = [price(line); 2];
             numbers.sc[line] = [0, 0];
         }
         if marks.output {

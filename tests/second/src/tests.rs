@@ -1,7 +1,8 @@
 //! The scope paper's figures and at least one text for every refusal.
 
+use crate::between::{at_some_prices, between, parts};
 use crate::figures::*;
-use crate::generate::{fields, groups_of, ladder, pair, ENTRY};
+use crate::generate::{add_ranges, fields, groups_of, ladder, pair, ENTRY};
 use crate::library::{self, Library, Row, Ways, MOST_ROWS};
 use crate::netlist::{self, Netlist, Rules};
 use crate::random::Random;
@@ -53,6 +54,7 @@ fn net_refused(net: &str, number: u32, line: u32) {
 fn whole_reports() {
     assert_eq!(report(C1130, C1130_NET), C1130_REPORT);
     assert_eq!(report(C1490, C1490_NET), C1490_REPORT);
+    assert_eq!(report(C1130, C1130_RANGE_NET), C1130_RANGE_REPORT);
     assert_eq!(report(NAND2, LATCH_NET), LATCH_REPORT);
     assert_eq!(report(TIES, TIES_NET), TIES_REPORT);
     assert_eq!(report(C1130_DEEP, C1130_NET), C1130_REPORT);
@@ -485,6 +487,94 @@ fn netlist_meaning() {
 }
 
 #[test]
+fn ranges() {
+    for line in [
+        "range",
+        "range,1",
+        "range,1,2",
+        "range,1,2,3,4",
+        "range,1,2,",
+        "range,,2,3",
+        "range,1,02,3",
+        "range,1,2,100000",
+        "Range,1,2,3",
+        "range,1,2,x",
+        "range,1,-2,3",
+    ] {
+        net_refused(&format!("input,1\n{line}\n"), 10, 2);
+    }
+    net_refused("range,0,0,0\n", 11, 1);
+    net_refused("input,1\nrange,1001,1,2\n", 11, 2);
+    // Above its input, on a gate's line, on an open one, on one that nothing names.
+    net_refused("range,1,1,2\ninput,1\n", 21, 1);
+    net_refused("input,1\ngate,INV,2,1\nrange,2,1,2\n", 21, 3);
+    net_refused("open,1\nrange,1,0,2\n", 21, 2);
+    net_refused("output,1\nrange,1,2,1\n", 21, 2);
+    net_refused("range,7,1,2\n", 21, 1);
+    for bounds in [
+        "0,1",
+        "1,0",
+        "0,0",
+        "1000,1000",
+        "1,1000",
+        "99999,99999",
+        "2,1",
+        "999,998",
+    ] {
+        net_refused(&format!("input,1\nrange,1,{bounds}\n"), 22, 2);
+    }
+    net_refused("input,1\nrange,1,2,3\nrange,1,2,3\n", 22, 3);
+    net_refused("input,1\nrange,1,2,3\nrange,1,3,2\n", 22, 3);
+    // 20 comes after all lines.
+    net_refused("input,1\noutput,2\nrange,1,1,1\n", 20, 0);
+    net_refused("output,2\ninput,1\nrange,1,1,1000\n", 22, 3);
+    // Both reports count for 17, and the same bounds print twice, too.
+    let net = "input,1\nrange,1,1,1\n";
+    let one = report("", "input,1\n");
+    let both = format!("{one}high\n{one}");
+    assert_eq!(report("", net), both);
+    let mut buffer = vec![7; both.len()];
+    assert_eq!(
+        report_into(b"", net.as_bytes(), &mut buffer),
+        both.len() as u64
+    );
+    assert_eq!(buffer, both.as_bytes());
+    let mut buffer = vec![7; both.len() - 1];
+    assert_eq!(report_into(b"", net.as_bytes(), &mut buffer), 17_000_000);
+    assert!(buffer.iter().all(|&b| b == 0));
+    // The copier's rules know no range.
+    let library = library::read(b"").unwrap();
+    let old = netlist::read(net.as_bytes(), &library, Rules::Old);
+    assert_eq!(
+        old.err().map(|refusal| (refusal.number, refusal.line)),
+        Some((10, 2))
+    );
+}
+
+#[test]
+fn prices_within_the_ranges() {
+    let mut rng = Random::from(11);
+    let mut two = 0;
+    for round in 0..200 {
+        let mut made = pair(&mut rng, 1 + round % 30);
+        add_ranges(&mut rng, &mut made);
+        let [whole, some] =
+            [made.clone(), at_some_prices(&mut rng, &made)].map(|pair| {
+                match analyse(&pair.lib.bytes(), &pair.net.bytes(), 2 * ROOM) {
+                    Answer::Accepted { report, .. } => report,
+                    refused => panic!("{refused:?}"),
+                }
+            });
+        if let (Some([low, high]), Some([first, second])) = (parts(&whole), parts(&some)) {
+            assert!(first == second);
+            assert_eq!(between([low, first, high]), None);
+            two += 1;
+        }
+    }
+    assert!(two > 100, "{two} with ranges");
+}
+
+#[test]
 fn report_buffer() {
     let [lib, net] = [C1130, C1130_NET].map(str::as_bytes);
     let length = C1130_REPORT.len();
@@ -514,7 +604,12 @@ struct Plans {
 
 const FAR: u64 = 1 << 50;
 
-fn plans(library: &Library, netlist: &Netlist, input: u64, sequential: bool) -> Plans {
+fn plans(
+    library: &Library,
+    netlist: &Netlist,
+    price: impl Fn(usize) -> u32,
+    sequential: bool,
+) -> Plans {
     let lines = netlist.marks.len();
     let ways = |cell: usize| -> &Ways {
         let cell = &library.cells[cell];
@@ -527,7 +622,7 @@ fn plans(library: &Library, netlist: &Netlist, input: u64, sequential: bool) -> 
     let mut set = vec![[None; 2]; lines];
     for (line, marks) in netlist.marks.iter().enumerate() {
         if marks.input {
-            set[line] = [Some(input); 2];
+            set[line] = [Some(u64::from(price(line))); 2];
         }
     }
     // The sum over the columns of pins and output, straight from the paper's bit numbers.
@@ -635,16 +730,21 @@ fn cheapest_plans() {
     let mut counts = [0; 3];
     for round in 0..400 {
         // Costs grow fast along a ladder.
-        let pair = match round % 10 {
+        let mut pair = match round % 10 {
             0 => pair(&mut rng, 120),
             5 => ladder(&mut rng, 120),
             _ => pair(&mut rng, 15),
         };
+        if round % 2 == 0 {
+            add_ranges(&mut rng, &mut pair);
+        }
+        let end = round / 2 % 2;
         let library = library::read(&pair.lib.bytes()).unwrap();
         let netlist = netlist::read(&pair.net.bytes(), &library, Rules::New).unwrap();
-        let (numbers, _) = sweep::run(&library, &netlist);
-        let combinational = plans(&library, &netlist, 1, false);
-        let sequential = plans(&library, &netlist, 0, true);
+        let price = |line| netlist.price(line, end);
+        let (numbers, _) = sweep::run(&library, &netlist, price);
+        let combinational = plans(&library, &netlist, price, false);
+        let sequential = plans(&library, &netlist, |_| 0, true);
         for line in 1..netlist.marks.len() {
             assert_eq!(numbers.cc[line], combinational.set[line].map(told));
             assert_eq!(numbers.sc[line], sequential.set[line].map(told));

@@ -51,8 +51,7 @@ use denote.Exit.{yes}
 use denote.Signature.{plain}
 use Rattle.sizes.specs.Sizes as Size
 use Rattle.outcome.specs.Answer.{answerRead, lentOf}
-use Rattle.outcome.specs.Demands.{Promised}
-use Rattle.records.specs.Outcome.{givenRecords}
+use Rattle.records.specs.Outcome.{RecordsPromised}
 use Rattle.records.specs.declared.Record.{Record}
 use Rattle.outcome.specs.declared.Answer.{Answer}
 use Rattle.records.proofs.Record as R
@@ -176,7 +175,7 @@ module _ {M : Type 1} (𝓤 : URA M) (H : Heap 𝓤) (A : Atoms 𝓤) (W : Given
       nothing ! $ move ! (7 ∷ 0 ∷ []) $ fjoin ! $ move ! (6 ∷ 0 ∷ []) $ fjoin ! $ move ! (5 ∷ 0 ∷ []) $ fjoin ! $ move ! (4 ∷ 0 ∷ []) $ fjoin ! $ move ! (3 ∷ 0 ∷ []) $ fjoin ! $ move ! (2 ∷ 0 ∷ []) $ fjoin ! $ move ! (1 ∷ 0 ∷ []) $ join ! $ frame ! $ done !
 
   exits : (r : Answer) (w : Val) (us₁ us₂ us₃ us₄ : List ℕ) → length us₁ ≡ length (library .now) → length us₂ ≡ length (table .now) → length us₃ ≡ length (numbers .now) → length us₄ ≡ length (report .now)
-      → Promised (givenRecords (text .now) front) (lentOf (library .now) (table .now) (numbers .now) (report .now)) (lentOf us₁ us₂ us₃ us₄) (answerRead r)
+      → RecordsPromised (text .now) front (lentOf (library .now) (table .now) (numbers .now) (report .now)) (lentOf us₁ us₂ us₃ us₄) (answerRead r)
       → ent 𝓤 (⋆ 𝓤 H A ((‵ (flft κ₁ q₁) ⊛ ‵ (flft κ₂ q₂) ⊛ ‵ (flft κ₃ q₃) ⊛ ‵ (flft κ₄ q₄) ⊛ ‵ ftrue) ∷ ‵ (flft κ₀ q₀) ∷ ‵ Text ∷ ‵ (finally u32 (library .name) us₁) ∷ ‵ (finally u32 (table .name) us₂) ∷ ‵ (finally u32 (numbers .name) us₃) ∷ ‵ (finally u8 (report .name) us₄) ∷ ‵ (Ans.the-row .own r (w ∷ [])) ∷ [])) (Post w)
   exits r w us₁ us₂ us₃ us₄ e₁ e₂ e₃ e₄ said =
       qed W ((‵ (flft κ₁ q₁) ⊛ ‵ (flft κ₂ q₂) ⊛ ‵ (flft κ₃ q₃) ⊛ ‵ (flft κ₄ q₄) ⊛ ‵ ftrue) ∷ ‵ (flft κ₀ q₀) ∷ ‵ Text ∷ ‵ (finally u32 (library .name) us₁) ∷ ‵ (finally u32 (table .name) us₂) ∷ ‵ (finally u32 (numbers .name) us₃) ∷ ‵ (finally u8 (report .name) us₄) ∷ ‵ (Ans.the-row .own r (w ∷ [])) ∷ []) ∵
@@ -228,8 +227,8 @@ module _ {M : Type 1} (𝓤 : URA M) (H : Heap 𝓤) (A : Atoms 𝓤) (W : Given
         -- [what the call asks; text; what waits; the others; _18; …]
         calls-at ! fm (Callee 𝓤 H A mem run) known (to l₈ ν δ) (and-then ! (load ! (from ! (stop !)) (look ! (at 3 1) refl)) (and-then ! (load ! (from ! (stop !)) (look ! (at 4 10) refl)) (and-then ! (load ! (from ! (stop !)) (look ! (at 4 12) refl)) (and-then ! (load ! (from ! (stop !)) (look ! (at 4 14) refl)) (and-then ! (load ! (from ! (stop !)) (look ! (at 4 16) refl)) (and-then ! (load ! (from ! (stop !)) (look ! (at 4 18) refl)) (no-more !))))))) (λ w.
         use1 W (later (some (λ (r : Answer). ((‵ (flft κ₀ q₀) ⊛ ‵ (flft (ν ∷ []) fullShare) ⊛ ‵ (flft κ₁ q₁) ⊛ ‵ (flft κ₂ q₂) ⊛ ‵ (flft κ₃ q₃) ⊛ ‵ (flft κ₄ q₄) ⊛ ‵ ftrue) ⊛ ‵ (Ans.the-row .own r (w ∷ []))) ⊛ raw (ensured 𝓤 H A callee.ended (callee.clauses 𝓤 H A mem run) (κ₀, (ν ∷ [], (κ₁, (κ₂, (κ₃, (κ₄, tt)))))) (passed l₈ δ) tt r)))) (id⊢ 𝓤 _) $ await ! tt $ pick ! (λ r.
-        split ! $ move ! (1 ∷ []) $ use1 W (some (λ (zs : Unit {0} × (Unit {0} × (List ℕ × (List ℕ × (List ℕ × (List ℕ × Unit {0})))))). ‵ (lasts callee.ended (κ₀, (ν ∷ [], (κ₁, (κ₂, (κ₃, (κ₄, tt)))))) (passed l₈ δ) zs) ⊛ raw (fact 𝓤 (Promised (givenRecords (text .now) front) (lentOf (library .now) (table .now) (numbers .now) (report .now)) (lentOf (zs .1 .1 .0) (zs .1 .1 .1 .0) (zs .1 .1 .1 .1 .0) (zs .1 .1 .1 .1 .1 .0)) (answerRead r))))) (id⊢ 𝓤 _) $ pick ! (λ zs.
-        split ! $ move ! (1 ∷ []) $ heard ! (Promised (givenRecords (text .now) front) (lentOf (library .now) (table .now) (numbers .now) (report .now)) (lentOf (zs .1 .1 .0) (zs .1 .1 .1 .0) (zs .1 .1 .1 .1 .0) (zs .1 .1 .1 .1 .1 .0)) (answerRead r)) (λ said. fsplit ! $ drop ! $ fsplit ! $ drop ! $ fsplit ! $ fsplit ! $ move ! (1 ∷ []) $ feqL ! (λ f₁. move ! (1 ∷ []) $ fsplit ! $ fsplit ! $ move ! (1 ∷ []) $ feqL ! (λ f₂. move ! (1 ∷ []) $ fsplit ! $ fsplit ! $ move ! (1 ∷ []) $ feqL ! (λ f₃. move ! (1 ∷ []) $ fsplit ! $ fsplit ! $ move ! (1 ∷ []) $ feqL ! (λ f₄.
+        split ! $ move ! (1 ∷ []) $ use1 W (some (λ (zs : Unit {0} × (Unit {0} × (List ℕ × (List ℕ × (List ℕ × (List ℕ × Unit {0})))))). ‵ (lasts callee.ended (κ₀, (ν ∷ [], (κ₁, (κ₂, (κ₃, (κ₄, tt)))))) (passed l₈ δ) zs) ⊛ raw (fact 𝓤 (RecordsPromised (text .now) front (lentOf (library .now) (table .now) (numbers .now) (report .now)) (lentOf (zs .1 .1 .0) (zs .1 .1 .1 .0) (zs .1 .1 .1 .1 .0) (zs .1 .1 .1 .1 .1 .0)) (answerRead r))))) (id⊢ 𝓤 _) $ pick ! (λ zs.
+        split ! $ move ! (1 ∷ []) $ heard ! (RecordsPromised (text .now) front (lentOf (library .now) (table .now) (numbers .now) (report .now)) (lentOf (zs .1 .1 .0) (zs .1 .1 .1 .0) (zs .1 .1 .1 .1 .0) (zs .1 .1 .1 .1 .1 .0)) (answerRead r)) (λ said. fsplit ! $ drop ! $ fsplit ! $ drop ! $ fsplit ! $ fsplit ! $ move ! (1 ∷ []) $ feqL ! (λ f₁. move ! (1 ∷ []) $ fsplit ! $ fsplit ! $ move ! (1 ∷ []) $ feqL ! (λ f₂. move ! (1 ∷ []) $ fsplit ! $ fsplit ! $ move ! (1 ∷ []) $ feqL ! (λ f₃. move ! (1 ∷ []) $ fsplit ! $ fsplit ! $ move ! (1 ∷ []) $ feqL ! (λ f₄.
         -- [report's last; …; numbers'; table's; library's; the tokens and the result; text; what waits; the others; _18; …]
         move ! (5 ∷ []) $ split ! $ move ! (1 ∷ []) $ peeks ! Ans.the-row (Is Ans.the-row) (shows 𝓤 H A Ans.the-row) r (w ∷ []) (λ is′.
         land ! (from ! (stop !)) (init ! (at 9 0) refl (EL.lawful Ans.the-type Ans′.the-laws 𝓤 H A W tt .typed r _ is′ .0)) $

@@ -4,7 +4,7 @@ use mathlib.Core.Path.{_≡_, refl}
 use borrow.Author.Tests.{not-true, not-false}
 use Rattle.netlist.specs.declared.RawStatement.{RawStatement}
 use Rattle.netlist.specs.Netlist.{Mark, input, output, opened, kindOf}
-use Rattle.netlist.proofs.Outcomes.{form-bad, formless, kind-mark, kind-gate, kind-unknown}
+use Rattle.netlist.proofs.Outcomes.{form-bad, formless, kind-mark, kind-gate, kind-range, range-told, kind-unknown}
 use borrow.Author.Needs.{needs}
 use Rattle.netlist.proofs.admit.Statement.{statement}
 use Rattle.netlist.proofs.admit.Tie as tie
@@ -61,14 +61,24 @@ returns-5 c cells w lib is ss so h =
     let found = kind-gate (given e) (formed e) w is (t .if5 .taken) in
     rw (found .1) (c .before .before .admit-gate .ensures cells (found .0) lib (found .2) ss so h)
 
+abbrev fifth : tie.After-slice-known6 → tie.Then6
+fifth c = c .before .before .before .before .before
+
 returns-6 : tie.Need-returns-6
 returns-6 c cells w lib is ss so h =
-    rw (kind-unknown (given (c .before .before .before .before)) w is marks (c .if5 .left)) (form-bad cells h)
+    let t = fifth c in
+    let e = t .before .before .before .before .before in
+    let found = kind-range (given e) (formed e) w is (t .if6 .taken) in
+    rw (found .1, ← range-told (given e) (found .0) (found .2)) (c .before .before .admit-range .ensures cells ss so h)
+
+returns-7 : tie.Need-returns-7
+returns-7 c cells w lib is ss so h =
+    rw (kind-unknown (given (c .before .before .before .before .before)) w is marks (c .before .if5 .left) (c .if6 .left)) (form-bad cells h)
   where
-    marks : (m : Mark) → given (c .before .before .before .before) .kind ≡ kindOf m → ⊥
-    marks input k = c .before .before .before .if2 .left k
-    marks output k = c .before .before .if3 .left k
-    marks opened k = c .before .if4 .left k
+    marks : (m : Mark) → given (c .before .before .before .before .before) .kind ≡ kindOf m → ⊥
+    marks input k = c .before .before .before .before .if2 .left k
+    marks output k = c .before .before .before .if3 .left k
+    marks opened k = c .before .before .if4 .left k
 
 pub admit-spec : {M : Type 1} → statement M
 admit-spec =
@@ -91,4 +101,9 @@ admit-spec =
     (λ c κs. search needs)
     (λ c. search needs)
     returns-5
-    returns-6)
+    (λ c. search needs)
+    (λ c. search needs)
+    (λ c κs. search needs)
+    (λ c. search needs)
+    returns-6
+    returns-7)

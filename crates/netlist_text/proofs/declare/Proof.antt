@@ -22,18 +22,18 @@ asked c e =
     ∙ e
 
 returns : tie.Need-returns
-returns c ss h =
+returns c cells ss so h =
     let left = c .before .before in
     let t = left .before .before in
     let a = begins (t .before) .args in
-    declares-refused (a .rules) (now (a .table)) ss h _ _ (asked (t .before) (t .if1 .taken)) (left .refusal .ensures .0)
+    declares-refused (a .rules) (now (a .table)) ss so h _ _ (asked (t .before) (t .if1 .taken)) (left .refusal .ensures .0)
     (left .refusal .ensures .1)
 
 returns-2 : tie.Need-returns-2
 unfolding verdictRead
-returns-2 c ss h =
+returns-2 c cells ss so h =
     let a = begins (c .before) .args in
-    declares-read (a .rules) (now (a .table)) ss h _ _ (asked (c .before) (c .if1 .left)) refl refl
+    declares-read (a .rules) (now (a .table)) ss so h _ _ (asked (c .before) (c .if1 .left)) refl refl
 
 pub declare-spec : {M : Type 1} → statement M
 declare-spec =

@@ -29,7 +29,7 @@ returns-2 c cells lib =
     let r = reads (accepted d) in
     let a = begins r .args in
     all-read (a .rules) cells (now (a .text)) (now (a .table)) (r .read-lines .result) _ (r .read-lines .ensures cells lib)
-    (search needs) (search needs) (d .declare .result) _ (d .declare .ensures)
+    (search needs) (search needs) (d .declare .result) _ (d .declare .ensures cells)
 
 pub read-all-spec : {M : Type 1} → statement M
 read-all-spec =

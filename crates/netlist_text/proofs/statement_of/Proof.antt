@@ -6,7 +6,6 @@ use Prim.Native.Nat.{ℕ}
 use Rattle.reading.specs.Choice.{pick}
 use Rattle.text.specs.Bytes.{bytes}
 use Rattle.text.specs.Lines.{part, nextAfter, sameBytes}
-use Rattle.netlist.specs.declared.Rules.{Rules}
 use Rattle.netlist.specs.Netlist.{input, output, opened, declaring, statementOf}
 use Rattle.netlist_text.proofs.Forms.{stands-none, same-is, all-fields}
 use borrow.Author.Needs.{needs}
@@ -30,11 +29,11 @@ no-output c = c .before .before
 abbrev no-gate : tie.After-same4 → tie.Else3
 no-gate c = c .before .before .before
 
+abbrev no-open : tie.After-same5 → tie.Else4
+no-open c = c .before .before .before
+
 abbrev first : tie.After-same4 → tie.After-after
 first c = cut (no-input (no-output (no-gate c .before) .before) .before)
-
-abbrev rules : tie.After-same4 → Rules
-rules c = begun (first c .before) .args .rules
 
 module _ (c : tie.After-after) where
   abbrev line : List ℕ
@@ -92,17 +91,14 @@ other-gate : (c : tie.Else3) → sameBytes (part 44 (line (cut (no-input (no-out
 unfolding bytes
 other-gate c = tested (cut (no-input (no-output (c .before) .before) .before)) (bytes "gate") (c .before .same3 .ensures) (c .if3 .left)
 
--- What was answered of the word `open` and of the rules.
-opening : (c : tie.After-same4) {b : Bool} → (c .before .before .declaring .result && c .same4 .result) ≡ b
-    → (declaring (rules c) && sameBytes (part 44 (line (first c)) 0) (bytes "open")) ≡ b
-unfolding bytes
-opening c e =
-    let word : sameBytes (part 44 (line (first c)) 0) (bytes "open") ≡ c .same4 .result =
-    tested (first c) (bytes "open") (c .same4 .ensures) refl
-    in
-    ap (λ (b : Bool). b && sameBytes (part 44 (line (first c)) 0) (bytes "open")) (sym (c .before .before .declaring .ensures))
-    ∙ ap (λ (b : Bool). c .before .before .declaring .result && b) word
-    ∙ e
+-- What was answered of a word and of the rules.
+module _ (f : tie.After-after) (word : List ℕ) {d t b : Bool} where
+  ruled : d ≡ declaring (begun (f .before) .args .rules) → t ≡ sameBytes (f .before .field .result .now) word → (d && t) ≡ b
+      → (declaring (begun (f .before) .args .rules) && sameBytes (part 44 (line f) 0) word) ≡ b
+  ruled rules said e =
+      ap (λ (x : Bool). x && sameBytes (part 44 (line f) 0) word) (sym rules)
+      ∙ ap (λ (x : Bool). d && x) (tested f word said refl)
+      ∙ e
 
 returns-4 : tie.Need-returns-4
 unfolding bytes statementOf pick
@@ -112,19 +108,51 @@ returns-4 c cells lib =
     let o = no-output (g .before) in
     let i = no-input (o .before) in
     let f = cut (i .before) in
-    rw (all-fields (line f), other-input i, other-output o, other-gate g, opening (t .before) (t .if4 .taken), ← behind f)
+    rw (all-fields (line f), other-input i, other-output o, other-gate g, ruled f (bytes "open") (t .before .before .before .declaring .ensures) (t .before .same4 .ensures) (t .if4 .taken), ← behind f)
     (c .mark-from3 .ensures opened refl)
+
+other-open : (c : tie.Else4) → (declaring (begun (first (c .before) .before) .args .rules) && sameBytes (part 44 (line (first (c .before))) 0) (bytes "open")) ≡ false
+unfolding bytes
+other-open c = ruled (first (c .before)) (bytes "open") (c .before .before .before .declaring .ensures) (c .before .same4 .ensures) (c .if4 .left)
 
 returns-5 : tie.Need-returns-5
 unfolding bytes statementOf pick
 returns-5 c cells lib =
     let t = c .before in
-    let g = no-gate (t .before) in
+    let p = no-open (t .before) in
+    let g = no-gate (p .before) in
+    let o = no-output (g .before) in
+    let i = no-input (o .before) in
+    let f = cut (i .before) in
+    rw (
+      all-fields (line f),
+      other-input i,
+      other-output o,
+      other-gate g,
+      other-open p,
+      ruled f (bytes "range") (t .before .before .before .declaring2 .ensures) (t .before .same5 .ensures) (t .if5 .taken),
+      ← behind f,
+    )
+    (c .range-from .ensures)
+
+returns-6 : tie.Need-returns-6
+unfolding bytes statementOf pick
+returns-6 c cells lib =
+    let t = c .before in
+    let p = no-open (t .before) in
+    let g = no-gate (p .before) in
     let o = no-output (g .before) in
     let i = no-input (o .before) in
     let f = cut (i .before) in
     stands-none _ _
-    (rw (all-fields (line f), other-input i, other-output o, other-gate g, opening (t .before) (t .if4 .left)))
+    (rw (
+      all-fields (line f),
+      other-input i,
+      other-output o,
+      other-gate g,
+      other-open p,
+      ruled f (bytes "range") (t .before .before .before .declaring2 .ensures) (t .before .same5 .ensures) (t .if5 .left),
+    ))
     (c .malformed .ensures)
 
 pub statement-of-spec : {M : Type 1} → statement M
@@ -151,4 +179,9 @@ statement-of-spec =
     (λ c κs. search needs)
     returns-4
     (λ c κs. search needs)
-    returns-5)
+    (λ c. search needs)
+    (λ c κs. search needs)
+    (λ c κs. search needs)
+    returns-5
+    (λ c κs. search needs)
+    returns-6)

@@ -44,9 +44,8 @@ use denote.Exit.{yes}
 use denote.Signature.{plain}
 use borrow.Rule.Slice.Reshare.{keptS}
 use Rattle.outcome.specs.Answer.{answerRead, lentOf}
-use Rattle.outcome.specs.Demands.{Promised}
 use Rattle.conclusion.specs.Finished.{Finished}
-use Rattle.records.specs.Outcome.{givenRecords, Prepared}
+use Rattle.records.specs.Outcome.{RecordsPromised, Prepared}
 use Rattle.records.specs.Walk.{declaredProgress, Walked}
 use Rattle.records.specs.declared.Record.{Record}
 use Rattle.read_pair.specs.declared.Progress.{Progress}
@@ -172,7 +171,7 @@ module _ {M : Type 1} (𝓤 : URA M) (H : Heap 𝓤) (A : Atoms 𝓤) (W : Given
   Report = MutSlice (named 5) κ₆ u8 .own x₆ (v₆ (length rep) ∷ [])
 
   exits : (r : Answer) (w : Val) (lib ts nm rp : List ℕ) → length lib ≡ length lib₀ → length ts ≡ length ts₀ → length nm ≡ length num → length rp ≡ length rep
-      → Promised (givenRecords (text .now) (recs .now)) (lentOf lib₀ ts₀ num rep) (lentOf lib ts nm rp) (answerRead r)
+      → RecordsPromised (text .now) (recs .now) (lentOf lib₀ ts₀ num rep) (lentOf lib ts nm rp) (answerRead r)
       → ent 𝓤 (⋆ 𝓤 H A ((‵ (flft κ₃ q₃) ⊛ ‵ (flft κ₄ q₄) ⊛ ‵ (flft κ₅ q₅) ⊛ ‵ (flft κ₆ q₆) ⊛ ‵ ftrue) ∷ ‵ (flft κ₁ q₁) ∷ ‵ (flft κ₂ q₂) ∷ ‵ Text ∷ ‵ Records ∷ ‵ (finally u32 γ₃ lib) ∷ ‵ (finally u32 γ₄ ts) ∷ ‵ (finally u32 γ₅ nm) ∷ ‵ (finally u8 γ₆ rp) ∷ ‵ (Ans.the-row .own r (w ∷ [])) ∷ [])) (Post w)
   exits r w lib ts nm rp e₃ e₄ e₅ e₆ said =
       qed W ((‵ (flft κ₃ q₃) ⊛ ‵ (flft κ₄ q₄) ⊛ ‵ (flft κ₅ q₅) ⊛ ‵ (flft κ₆ q₆) ⊛ ‵ ftrue) ∷ ‵ (flft κ₁ q₁) ∷ ‵ (flft κ₂ q₂) ∷ ‵ Text ∷ ‵ Records ∷ ‵ (finally u32 γ₃ lib) ∷ ‵ (finally u32 γ₄ ts) ∷ ‵ (finally u32 γ₅ nm) ∷ ‵ (finally u8 γ₆ rp) ∷ ‵ (Ans.the-row .own r (w ∷ [])) ∷ []) ∵

@@ -1,4 +1,5 @@
 -- `observe_anew`: the values are kept, and CO and SO run from their start. Assumes nothing.
+use mathlib.Core.Bool.{false}
 use mathlib.Core.Path.{refl}
 use Rattle.sweep.proofs.Calculating.{room, link-fits, half-fits, start-size}
 use Rattle.rerun.proofs.Running.{anew-size, anew-costs, observed-anew}
@@ -28,7 +29,7 @@ observe-anew-spec =
     (λ c κs.
     let s = c .before in
     let p = began (linked s) .pre in
-    (p .0 .room, start-size (p .0 .holds) (s .start .ensures)))
+    (p .0 .room, start-size (p .0 .holds) false (s .start .ensures)))
     (λ c κs.
     let k = c .before .before in
     let s = started k in

@@ -1,4 +1,6 @@
 -- `start_line` stores the six numbers of a line, one behind the other. Assumes nothing.
+use mathlib.Core.Path.{ap, _∙_}
+use Rattle.starting.specs.Start.{startNumber}
 use borrow.Author.Needs.{needs}
 use Rattle.starting.proofs.Starting.{line-laid}
 use Rattle.starting.proofs.start_line.Statement.{statement}
@@ -7,12 +9,16 @@ use Rattle.starting.proofs.start_line.Tie as tie
 abbrev first-laid : tie.After-first6 → tie.After-first
 first-laid c = c .before .before .before .before .before
 
+abbrev priced : tie.After-first → tie.After-line-price
+priced c = c .before
+
 returns : tie.Need-returns
 returns c =
     let f = first-laid c in
-    let a = f .before .before .before .before .args in
-    line-laid (a .netlist .now) (a .numbers .now) (a .line) (f .first .result) _ _ _ _ _
-    (f .first .ensures) (c .before .before .before .before .first2 .ensures) (c .before .before .before .first3 .ensures) (c .before .before .first4 .ensures) (c .before .first5 .ensures) (c .first6 .ensures)
+    let p = priced f in
+    let a = p .before .before .before .before .args in
+    line-laid (a .high) (a .netlist .now) (a .numbers .now) (a .line) (f .first .result) _ _ _ _ _
+    (f .first .ensures ∙ ap (startNumber _) (p .line-price .ensures)) (c .before .before .before .before .first2 .ensures ∙ ap (startNumber _) (p .line-price .ensures)) (c .before .before .before .first3 .ensures) (c .before .before .first4 .ensures) (c .before .first5 .ensures) (c .first6 .ensures)
 
 pub start-line-spec : {M : Type 1} → statement M
 start-line-spec =
@@ -25,6 +31,7 @@ start-line-spec =
     (λ c. search needs)
     (λ c. search needs)
     (λ c. search needs)
+    (λ c κs. search needs)
     (λ c. search needs)
     (λ c κs. search needs)
     (λ c. search needs)

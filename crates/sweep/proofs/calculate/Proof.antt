@@ -6,9 +6,9 @@ use borrow.Author.Needs.{needs}
 use Rattle.sizes.specs.Sizes as Size
 use Rattle.cell_library.specs.Cells.{Cell}
 use Rattle.netlist.specs.Netlist.{Statement}
-use Rattle.calculation.specs.Calculation.{Analysed, analysed}
-use Rattle.calculation.specs.Prices.{pricesOf}
-use Rattle.calculation.proofs.Laws.{numbers-length, own-figures}
+use Rattle.calculation.specs.Calculation.{Analysed, analysedAt}
+use Rattle.calculation.specs.Prices.{pricesAt}
+use Rattle.calculation.proofs.Laws.{numbers-length, end-figures}
 use Rattle.calculation.specs.Stored.{Holds, whole}
 use Rattle.sweep.proofs.Calculating.{room, link-fits, half-fits, next-fits, both-ran, start-size, start-costs, calculated}
 use Rattle.sweep.proofs.calculate.Statement.{statement}
@@ -38,13 +38,14 @@ whole-are : (o : tie.After-observe-lines) (cells : List Cell) (ss : List Stateme
     let a = began (linked s) .args in
     Holds (a .library .now) (a .netlist .now) cells ss
     → whole (record { cc = x .set-lines .result .combinational; sc = x .set-lines .result .sequential; co = o .observe-lines .result .combinational; so = o .observe-lines .result .sequential })
-    (o .observe-lines .last .1 .1 .1 .0) ≡ analysed cells ss
+    (o .observe-lines .last .1 .1 .1 .0) ≡ analysedAt (pricesAt (a .high) ss) cells ss
 whole-are o cells ss h =
     let x = set o in
     let s = started x in
+    let high = began (linked s) .args .high in
     let begun = s .start .ensures in
-    calculated h begun _
-    (both-ran h (linked s .link .ensures) (start-size h begun) (start-costs h begun) (x .set-lines .ensures cells ss h) (o .observe-lines .ensures cells ss h))
+    calculated h high begun _
+    (both-ran h (linked s .link .ensures) (start-size h high begun) (start-costs h high begun) (x .set-lines .ensures cells ss h) (o .observe-lines .ensures cells ss h))
 
 pub calculate-spec : {M : Type 1} → statement M
 calculate-spec =
@@ -54,19 +55,22 @@ calculate-spec =
     (λ c κs. (room (began (c .before) .pre .holds), search needs))
     (λ c κs.
     let s = c .before .before in
-    let h = began (linked s) .pre .holds in
-    half-fits h (linked s .link .ensures) (start-size h (s .start .ensures)) (start-costs h (s .start .ensures)))
+    let b = began (linked s) in
+    let h = b .pre .holds in
+    half-fits h (linked s .link .ensures) (start-size h (b .args .high) (s .start .ensures)) (start-costs h (b .args .high) (s .start .ensures)))
     (λ c κs.
     let x = c .before .before in
     let s = started x in
-    let p = began (linked s) .pre in
+    let b = began (linked s) in
+    let p = b .pre in
     let h = p .holds in
-    next-fits h (linked s .link .ensures) (start-size h (s .start .ensures)) (start-costs h (s .start .ensures)) (x .set-lines .ensures (p .cells) (p .statements) h))
+    next-fits h (linked s .link .ensures) (start-size h (b .args .high) (s .start .ensures)) (start-costs h (b .args .high) (s .start .ensures)) (x .set-lines .ensures (p .cells) (p .statements) h))
     (λ c κs.
     let o = c .before .before in
-    let p = began (linked (started (set o))) .pre in (
+    let b = began (linked (started (set o))) in
+    let p = b .pre in (
       ap (λ (a : Analysed). length (a .numbers)) (whole-are o (p .cells) (p .statements) (p .holds))
-          ∙ numbers-length (p .cells) (p .statements) (p .holds .sound) (pricesOf (p .statements)) (own-figures (p .holds .sound)),
+          ∙ numbers-length (p .cells) (p .statements) (p .holds .sound) (pricesAt (b .args .high) (p .statements)) (end-figures (p .holds .sound) (b .args .high)),
       p .room,
     ))
     (λ c. search needs)

@@ -53,7 +53,7 @@ loop-holds c =
     let a = s .args in
     let none : 2 * counted c .wide .result + 1 - (2 * counted c .wide .result + 1) ≡ 0 = omega arith in
     let b = begins (a .kind) (a .library .now) (a .netlist .now) _ _ (c .start .ensures) (s .pre .unmarked) in
-    (omega arith, omega arith, rw none (b .1), rw none (b .0), ap length (c .start .ensures) ∙ laid-length (a .netlist .now) Size.lines 1, ap length (s .pre .unmarked) ∙ length-replicate {A = ℕ} Size.marks 0)
+    (omega arith, omega arith, rw none (b .1), rw none (b .0), ap length (c .start .ensures) ∙ laid-length false (a .netlist .now) Size.lines 1, ap length (s .pre .unmarked) ∙ length-replicate {A = ℕ} Size.marks 0)
 
 one-sweep-requires : tie.Need-one-sweep-requires Inv-loop μ-loop
 one-sweep-requires c κs =

@@ -1,7 +1,7 @@
 //! The proved archive and the second implementation side by side, through the C entry: the figures
 //! of the scope paper, the largest sizes, every one-byte change of a small pair, random pairs,
 //! ladders, in which a sweep changes few of the numbers, plans, truth tables, and netlists of truth
-//! tables at every setting of their inputs.
+//! tables at every setting of their inputs, and netlists with ranges at prices within them.
 //!
 //! Every byte of the report buffer is compared, canaries stand before and past it and around the
 //! texts. The seed is fixed. The last line counts: 'N passed, M failed'.
@@ -9,13 +9,14 @@
 #[path = "../archive.rs"]
 mod archive;
 
+use second::between::{at_some_prices, between, parts};
 use second::cell::cell_into;
 use second::chip::Chip;
 use second::damage::{any_damage, babble, one_line, overlong, scramble};
 use second::figures::*;
 use second::generate::{
-    add_cell, add_cells, add_netlist, ladder, library_of, netlist_of, pair, Order, Pair, Shape,
-    Style, Wiring,
+    add_cell, add_cells, add_netlist, add_ranges, ladder, library_of, netlist_of, pair, Order,
+    Pair, Shape, Style, Wiring,
 };
 use second::random::Random;
 use second::{
@@ -32,6 +33,9 @@ const PLAN_PAIRS: usize = 300;
 const LADDERS: usize = 2_400;
 /// Random netlists of truth tables, tried at every setting of their inputs.
 const CHIPS: usize = 4_000;
+/// Random pairs with ranges, each tried at prices within them so many times.
+const RANGED: usize = 2_400;
+const PRICINGS: usize = 3;
 /// Every answer must come up at least so often among the random pairs.
 const AT_LEAST: u64 = 100;
 /// The buffer that the program itself lends.
@@ -42,7 +46,10 @@ const TOLD: u64 = 10;
 
 /// The answers that the C entry can give; 0 stands for acceptance. Number 1 needs a lent table, and
 /// 16 is unused.
-const ANSWERS: [usize; 17] = [0, 2, 3, 4, 5, 6, 7, 8, 9, 10, 11, 12, 13, 14, 15, 17, 20];
+const ANSWERS: [usize; 19] = [
+    0, 2, 3, 4, 5, 6, 7, 8, 9, 10, 11, 12, 13, 14, 15, 17, 20, 21, 22,
+];
+const HIGHEST: usize = 22;
 
 /// What the reports of accepted pairs must have shown: at least so often in random pairs, and in
 /// ladders.
@@ -94,7 +101,7 @@ struct Comparison {
     passed: u64,
     failed: u64,
     /// By refusal number, 0 for acceptance, as the archive answered.
-    answers: [u64; 21],
+    answers: [u64; HIGHEST + 1],
     shown: [u64; SHOWN.len()],
     /// Plans written out, and refused.
     plans: [u64; 2],
@@ -158,7 +165,7 @@ impl Comparison {
         self.answers[if answer < 1_000_000 {
             0
         } else {
-            (answer / 1_000_000).min(20) as usize
+            (answer / 1_000_000).min(HIGHEST as u64) as usize
         }] += 1;
         if answer < 1_000_000 && answer <= room as u64 {
             self.note(&got.inner()[..answer as usize]);
@@ -390,6 +397,12 @@ impl Comparison {
 
 fn figures(all: &mut Comparison) {
     all.figure("C1130", C1130, C1130_NET, C1130_REPORT);
+    all.figure(
+        "C1130 with a range",
+        C1130,
+        C1130_RANGE_NET,
+        C1130_RANGE_REPORT,
+    );
     all.figure("C1490", C1490, C1490_NET, C1490_REPORT);
     all.figure("latch", NAND2, LATCH_NET, LATCH_REPORT);
     all.figure("C1130 under Name3", C1130_DEEP, C1130_NET, C1130_REPORT);
@@ -619,6 +632,9 @@ fn random(all: &mut Comparison, rng: &mut Random) {
         _ => 1_000,
     };
     let mut made = pair(rng, gates);
+    if rng.once_in(4) {
+        add_ranges(rng, &mut made);
+    }
     let mut known = None;
     let label;
     match rng.below(20) {
@@ -805,6 +821,7 @@ fn most_line(net: &[u8]) -> u64 {
 fn plans(all: &mut Comparison, rng: &mut Random) {
     for (label, lib, net) in [
         ("C1130", C1130, C1130_NET),
+        ("C1130 with a range", C1130, C1130_RANGE_NET),
         ("C1490", C1490, C1490_NET),
         ("latch", NAND2, LATCH_NET),
         ("C1130 under Name3", C1130_DEEP, C1130_NET),
@@ -829,7 +846,10 @@ fn plans(all: &mut Comparison, rng: &mut Random) {
         all.check_plans("plan of a ladder", &lib, &net, most_line(&net));
         // Half as many of any cells, those of one wire among them.
         if turn % 2 == 0 {
-            let made = pair(&mut own, rng_gates(all.turn));
+            let mut made = pair(&mut own, rng_gates(all.turn));
+            if turn % 4 == 0 {
+                add_ranges(&mut own, &mut made);
+            }
             let (lib, net) = (made.lib.bytes(), made.net.bytes());
             all.check_plans("plan of a pair", &lib, &net, most_line(&net));
         }
@@ -886,12 +906,17 @@ fn chips(all: &mut Comparison, rng: &mut Random) {
     // Other cells, loops and open lines, and texts that are refused.
     for turn in 0..CHIPS {
         let chip = Chip::random(rng, turn % 2 == 0);
-        let made = pair(rng, 1 + turn % 12);
+        let mut made = pair(rng, 1 + turn % 12);
+        if turn % 8 == 0 {
+            add_ranges(rng, &mut made);
+        }
         let (lib, net) = (made.lib.bytes(), made.net.bytes());
         all.check_qualifies("any pair", &lib, &net);
         let (mut lib, mut net) = (chip.library(), chip.netlist());
-        match turn % 4 {
+        match turn % 5 {
             0 => net.extend(b"open,900\noutput,900\n"),
+            // Prices do not touch what never says.
+            4 => net.extend(b"range,1,2,999\n"),
             1 => scramble(rng, &mut lib),
             2 => scramble(rng, &mut net),
             _ => net.extend(b"gate,T0,900,900\n"),
@@ -919,6 +944,64 @@ fn chips(all: &mut Comparison, rng: &mut Random) {
     }
 }
 
+/// Netlists with ranges: both reports, and those at prices within the ranges, which the archive tells of ranges
+/// whose bounds are the same.
+fn ranges(all: &mut Comparison, rng: &mut Random) {
+    let (mut two, mut apart, mut nevers) = (0, 0, 0);
+    for turn in 0..RANGED {
+        let mut made = if turn % 3 == 0 {
+            ladder(rng, 1 + turn % 60)
+        } else {
+            pair(rng, 1 + turn % 60)
+        };
+        add_ranges(rng, &mut made);
+        let (lib, net) = (made.lib.bytes(), made.net.bytes());
+        let whole = reports(all, &lib, &net);
+        all.check_rooms("ranges", &lib, &net);
+        let Some([low, high]) = parts(&whole) else {
+            continue;
+        };
+        two += 1;
+        apart += u64::from(low != high);
+        nevers += u64::from(low.windows(5).any(|part| part == b"never"));
+        for _ in 0..PRICINGS {
+            let some = at_some_prices(rng, &made);
+            let whole = reports(all, &some.lib.bytes(), &some.net.bytes());
+            let problem = match parts(&whole) {
+                Some([first, second]) if first == second => between([low, first, high]),
+                _ => Some("the same prices do not give the same report twice".to_string()),
+            };
+            all.verdict("prices within the ranges", problem);
+        }
+    }
+    println!(
+        "{} netlists with ranges, each at {PRICINGS} pricings within them",
+        two
+    );
+    for (title, count) in [
+        ("two reports", two),
+        ("that differ", apart),
+        ("a number that is never", nevers),
+    ] {
+        println!("  {title:<34} {count:>6}");
+        let problem = (count < AT_LEAST).then(|| format!("came up {count} times only"));
+        all.verdict(title, problem);
+    }
+}
+
+/// What the archive reports of an accepted pair, after it was compared with the second implementation.
+fn reports(all: &mut Comparison, lib: &[u8], net: &[u8]) -> Vec<u8> {
+    all.check("ranges", lib, net, 2 * ROOM, None);
+    let mut buffer = vec![0; 2 * ROOM];
+    let answer = archive::scoap_report(lib, net, &mut buffer);
+    buffer.truncate(if answer < 1_000_000 {
+        answer as usize
+    } else {
+        0
+    });
+    buffer
+}
+
 /// A few gates, by turn.
 fn rng_gates(turn: usize) -> usize {
     1 + turn % 12
@@ -930,7 +1013,7 @@ fn main() -> ExitCode {
     let mut all = Comparison {
         passed: 0,
         failed: 0,
-        answers: [0; 21],
+        answers: [0; HIGHEST + 1],
         shown: [0; SHOWN.len()],
         plans: [0; 2],
         qualified: [0; 4],
@@ -946,7 +1029,7 @@ fn main() -> ExitCode {
     );
 
     // Only random pairs count for what must have come up.
-    all.answers = [0; 21];
+    all.answers = [0; HIGHEST + 1];
     all.shown = [0; SHOWN.len()];
     for _ in 0..PAIRS {
         random(&mut all, &mut rng);
@@ -990,6 +1073,7 @@ fn main() -> ExitCode {
         all.passed + all.failed - before
     );
     chips(&mut all, &mut Random::from(SEED));
+    ranges(&mut all, &mut Random::from(SEED));
     println!("{} passed, {} failed", all.passed, all.failed);
     if all.failed == 0 {
         ExitCode::SUCCESS
