@@ -5,7 +5,6 @@
 // array, and `is_tied`, which reads one. Crate `awake` wakes gates by them.
 use gates::cell_place;
 use netlist::gates::unchecked;
-use netlist::gates::unchecked::lines_of;
 use row_sums::kinds::wide;
 use wires::tied;
 ghost use mathlib.Core.Bool.{true, false};
@@ -79,7 +78,7 @@ fn note_tied(library: &[u32], netlist: &[u32], gates: usize, links: &mut [u16; s
     while gate < gates {
         let cell = cell_place(netlist, gate);
         let pins = wide(library[cell + sizes::PINS_AT]);
-        let lines = lines_of(netlist, gate);
+        let lines = unchecked::lines_of(netlist, gate);
         links[sizes::TIED_AT + gate] = told(tied(library, cell, &lines, pins));
         gate += 1;
     }
@@ -105,7 +104,7 @@ pub fn link(library: &[u32], netlist: &[u32], links: &mut [u16; sizes::LINKS])
     ensures { λ _.
         ⌜ Links (now (library .entry)) (now (netlist .entry)) (now (links .exit)) ⌝ }
 {
-    let gates = wide(netlist[0]);
+    let gates = unchecked::count(netlist);
     chain(netlist, gates, links);
     note_drivers(netlist, gates, links);
     note_tied(library, netlist, gates, links);

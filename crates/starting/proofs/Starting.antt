@@ -18,16 +18,15 @@ six-stores xs place a b c d e f = simp native.Mathlib.Numerals.towards-suc
 
 module _ (high : Bool) (netlist : List ℕ) where
   -- The six numbers of a line, as they are stored.
-  pub line-laid : (xs : List ℕ) (line a b c d e f : ℕ)
-      → let driver = getD netlist (driverPlace (1 + line)) 0 in
-      let output = getD netlist (outputPlace (1 + line)) 0 in
-      let at = line * Size.costs in
-      let price = linePrice high netlist (1 + line) in
-      a ≡ startNumber driver price → b ≡ startNumber driver price → c ≡ startNumber driver 0 → d ≡ startNumber driver 0
+  pub line-laid : (xs : List ℕ) (line a b c d e f : ℕ) {driver output price : ℕ}
+      → let at = line * Size.costs in
+      driver ≡ getD netlist (driverPlace (1 + line)) 0 → output ≡ getD netlist (outputPlace (1 + line)) 0 → price ≡ linePrice high netlist (1 + line)
+      → a ≡ startNumber driver price → b ≡ startNumber driver price → c ≡ startNumber driver 0 → d ≡ startNumber driver 0
       → e ≡ startNumber output 0 → f ≡ startNumber output 0
       → set (set (set (set (set (set xs at a) (at + 1) b) (at + 2) c) (at + 3) d) (at + 4) e) (at + 5) f ≡ sets xs at (lineStart high netlist (1 + line))
   unfolding lineStart
-  line-laid xs line a b c d e f ha hb hc hd he hf = rw (six-stores xs (line * Size.costs) a b c d e f, ha, hb, hc, hd, he, hf)
+  line-laid xs line a b c d e f hdriver houtput hprice ha hb hc hd he hf =
+      rw (six-stores xs (line * Size.costs) a b c d e f, ha, hb, hc, hd, he, hf, hdriver, houtput, hprice)
 
   lines-next : (count first : ℕ) → linesStart high netlist (suc count) first ≡ linesStart high netlist count first ++ lineStart high netlist (first + count)
   unfolding linesStart

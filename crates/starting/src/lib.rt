@@ -3,6 +3,8 @@
 //
 // For the crates above: `start`, which asks that table and numbers are long enough.
 use cost::NEVER;
+use netlist::lines::unchecked;
+use netlist::some_range;
 ghost use mathlib.Core.Bool.{not};
 ghost use mathlib.Core.Path.{_≡_};
 ghost use Prim.Native.Nat.{_+_, _*_, _≤_, _<_};
@@ -46,7 +48,7 @@ fn line_price(netlist: &[u32], line: usize, high: bool, ranged: bool) -> u32
     ensures { λ r. ⌜ r ≡ linePrice high (now (netlist .entry)) (1 + line) ⌝ }
 {
     if ranged {
-        price(netlist[sizes::RANGES_AT + (1 + line)], high)
+        price(unchecked::range_of(netlist, 1 + line), high)
     } else {
         1
     }
@@ -66,8 +68,8 @@ fn start_line(
         ⌜ now (numbers .exit) ≡ sets (now (numbers .entry)) (line * Size.costs)
         (lineStart high (now (netlist .entry)) (1 + line)) ⌝ }
 {
-    let driver = netlist[1 + line];
-    let output = netlist[sizes::OUTPUTS_AT + (1 + line)];
+    let driver = unchecked::driver_of(netlist, 1 + line);
+    let output = unchecked::output_of(netlist, 1 + line);
     let cc = line_price(netlist, line, high, ranged);
     let at = line * sizes::COSTS;
     numbers[at] = first(driver, cc);
@@ -83,7 +85,7 @@ pub fn start(netlist: &[u32], numbers: &mut [u32; sizes::NUMBERS], high: bool)
     requires { ⌜ (Size.netlist ≤ length (now netlist)) × (length (now numbers) ≡ Size.numbers) ⌝ }
     ensures { λ _. ⌜ now (numbers .exit) ≡ linesStart high (now (netlist .entry)) Size.lines 1 ⌝ }
 {
-    let ranged = netlist[sizes::RANGED_AT] != 0;
+    let ranged = some_range(netlist);
     let mut line = 0;
     while line < sizes::LINES {
         start_line(netlist, numbers, line, high, ranged);

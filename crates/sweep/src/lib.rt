@@ -22,9 +22,9 @@ use calculation::Counts;
 use gates::visits::OBSERVING;
 use gates::visits::SETTING;
 use links::link;
+use netlist::gates::unchecked;
 use row_sums::kinds::COMBINATIONAL;
 use row_sums::kinds::SEQUENTIAL;
-use row_sums::kinds::wide;
 use starting::start;
 use visits::either;
 use visits::visit_gate;
@@ -77,7 +77,7 @@ fn one_sweep(
         ⌜ Resting role kind (now (library .entry)) (now (netlist .entry)) (now (awake .exit))
         (now (numbers .exit)) ⌝ }
 {
-    let gates = wide(netlist[0]);
+    let gates = unchecked::count(netlist);
     let mut changed = false;
     let mut turn = next_awake(awake, 0, gates);
     while turn < gates {

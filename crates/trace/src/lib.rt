@@ -18,7 +18,7 @@ use gates::visits::visit_place;
 use links::is_tied;
 use links::link;
 use netlist::gates::place_of;
-use netlist::gates::unchecked::lines_of;
+use netlist::gates::unchecked;
 use row_sums::kinds::wide;
 use starting::LOW;
 use starting::start;
@@ -149,7 +149,7 @@ fn visit(
 {
     let cell = cell_place(netlist, gate);
     let pins = wide(library[cell + sizes::PINS_AT]);
-    let lines = lines_of(netlist, gate);
+    let lines = unchecked::lines_of(netlist, gate);
     let mut costs = [0u32; sizes::COLUMNS];
     column_costs(true, SETTING, kind, &lines, pins, numbers, &mut costs);
     let group = cell + sizes::GROUPS_AT + visit_group(SETTING, kind, value) * sizes::GROUP_WORDS;
@@ -197,7 +197,7 @@ fn one_sweep(
         (sweepVisits 0 kind (now (library .entry)) (now (netlist .entry))) clock
         (now (numbers .entry)) (now (marks .entry)) (now (numbers .exit)) (now (marks .exit)) r ⌝ }
 {
-    let turns = sizes::VALUES * wide(netlist[0]);
+    let turns = sizes::VALUES * unchecked::count(netlist);
     let mut changed = false;
     let mut turn = 0;
     while turn < turns {
@@ -228,7 +228,7 @@ pub fn trace(kind: usize, library: &[u32], netlist: &[u32], marks: &mut [u32; si
         → AllNoted kind (now (library .entry)) (now (netlist .entry)) (settingTrace k cells ss .marks)
         (now (marks .exit))) ⌝ }
 {
-    let gates = wide(netlist[0]);
+    let gates = unchecked::count(netlist);
     let mut links = [0u16; sizes::LINKS];
     link(library, netlist, &mut links);
     let mut numbers = [0u32; sizes::NUMBERS];

@@ -17,7 +17,7 @@ use gates::visits::visit_count;
 use gates::visits::visit_group;
 use gates::visits::visit_place;
 use links::is_tied;
-use netlist::gates::unchecked::lines_of;
+use netlist::gates::unchecked;
 use row_sums::kinds::wide;
 use row_sums::lesser_of;
 use row_sums::number_of;
@@ -177,10 +177,10 @@ pub fn visit_gate(
         ⌜ ChangesWoken role kind (now (library .entry)) (now (netlist .entry)) (now (awake .entry))
         (now (numbers .entry)) (now (awake .exit)) (now (numbers .exit)) ⌝ }
 {
-    let gates = wide(netlist[0]);
+    let gates = unchecked::count(netlist);
     let cell = cell_place(netlist, gate);
     let pins = wide(library[cell + sizes::PINS_AT]);
-    let lines = lines_of(netlist, gate);
+    let lines = unchecked::lines_of(netlist, gate);
     let count = visit_count(role, pins);
     let wired = wired_of(role, links, gate);
     let mut costs = [0u32; sizes::COLUMNS];

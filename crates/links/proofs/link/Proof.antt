@@ -1,17 +1,15 @@
 -- `link` makes the chains, the drivers and the tied gates, each in its part. Assumes nothing.
 use mathlib.Core.Path.{_∙_}
-use native.Mathlib.Omega.{arith}
-use borrow.Author.Needs.{needs}
 use Rattle.links.proofs.Lines.{chain-fits, drivers-fit, links-made}
 use Rattle.links.proofs.link.Statement.{statement}
 use Rattle.links.proofs.link.Tie as tie
 
 -- ---- places
 
-abbrev began : tie.After-wide → tie.Start
-began c = c .before .before .before .before
+abbrev began : tie.After-count → tie.Start
+began c = c .before .before .before
 
-abbrev counted : tie.After-chain → tie.After-wide
+abbrev counted : tie.After-chain → tie.After-count
 counted c = c .before .before
 
 abbrev chained : tie.After-note-drivers → tie.After-chain
@@ -24,19 +22,18 @@ pub link-spec : {M : Type 1} → statement M
 link-spec =
     tie.close
     (tie.spec
-    (λ c. let f = c .before .before .before .pre .tablesFit .some in omega arith)
-    (λ c κs. search needs)
-    (λ c κs. chain-fits (c .before .wide .ensures) (began (c .before) .pre))
+    (λ c κs. c .before .before .pre .tablesFit .some)
+    (λ c κs. chain-fits (c .before .count .ensures) (began (c .before) .pre))
     (λ c κs.
     let x = c .before in
-    drivers-fit (counted x .wide .ensures) (began (counted x) .pre) (x .chain .ensures .1))
+    drivers-fit (counted x .count .ensures) (began (counted x) .pre) (x .chain .ensures .1))
     (λ c κs.
     let n = c .before in
     let x = chained n in
     let w = counted x in
-    let f = drivers-fit (w .wide .ensures) (began w .pre) (x .chain .ensures .1) in
+    let f = drivers-fit (w .count .ensures) (began w .pre) (x .chain .ensures .1) in
     record {
-      count = w .wide .ensures;
+      count = w .count .ensures;
       few = f .linesStand .count;
       tablesFit = began w .pre .tablesFit;
       size = n .note-drivers .ensures .1 .size ∙ f .size;
@@ -44,4 +41,4 @@ link-spec =
     (λ c.
     let n = noted c in
     let x = chained n in
-    links-made (counted x .wide .ensures) (x .chain .ensures .0) (n .note-drivers .ensures .0) (n .note-drivers .ensures .1) (c .note-tied .ensures .0) (c .note-tied .ensures .1)))
+    links-made (counted x .count .ensures) (x .chain .ensures .0) (n .note-drivers .ensures .0) (n .note-drivers .ensures .1) (c .note-tied .ensures .0) (c .note-tied .ensures .1)))

@@ -1,7 +1,7 @@
 -- `line_price` asks for a line's range where there are ranges. Assumes nothing.
 use mathlib.Core.Bool.{Bool, true, false, not}
 use mathlib.Core.List.{List}
-use mathlib.Core.Path.{_≡_, sym, _∙_}
+use mathlib.Core.Path.{_≡_, sym, ap, _∙_}
 use Prim.Native.Nat.{ℕ, _+_}
 use lib.Dec.{eqb}
 use lib.ListN.{getD}
@@ -24,9 +24,10 @@ without-ranges high netlist l t = rw (not-false (eqb (getD netlist rangedPlace 0
 
 returns : tie.Need-returns
 returns c =
-    let b = c .before .before in
+    let r = c .before in
+    let b = r .before in
     let s = b .before .before in
-    with-ranges (s .args .high) (s .args .netlist .now) (1 + s .args .line) _ (sym (s .pre .2) ∙ b .if1 .taken) (c .price .ensures)
+    with-ranges (s .args .high) (s .args .netlist .now) (1 + s .args .line) _ (sym (s .pre .2) ∙ b .if1 .taken) (c .price .ensures ∙ ap (priceWord (s .args .high)) (r .range-of .ensures))
 
 returns-2 : tie.Need-returns-2
 returns-2 c =
@@ -38,9 +39,7 @@ line-price-spec =
     tie.close
     (tie.spec
     (λ c. search needs)
-    (λ c. search needs)
-    (λ c. search needs)
-    (λ c. search needs)
+    (λ c κs. search needs)
     (λ c κs. search needs)
     returns
     returns-2)

@@ -1,7 +1,8 @@
 -- `start` lays the numbers of one line more with each turn. Assumes nothing.
-use mathlib.Core.Path.{_≡_, refl}
+use mathlib.Core.Path.{_≡_}
 use Prim.Native.Nat.{_-_, _≤_}
 use native.Mathlib.Omega.{arith}
+use borrow.Author.Needs.{needs}
 use Rattle.sizes.specs.Sizes as Size
 use Rattle.starting.proofs.Starting.{Laid, laid-none, laid-next, laid-all}
 use Rattle.starting.proofs.start.Statement.{statement}
@@ -15,7 +16,7 @@ abbrev μ-loop : tie.MeasureT-loop
 
 -- ---- the places of the code that the answers speak of
 
-abbrev begun : tie.After-shared-slice-known2 Inv-loop μ-loop → tie.Start Inv-loop μ-loop
+abbrev begun : tie.After-some-range Inv-loop μ-loop → tie.Start Inv-loop μ-loop
 begun c = c .before .before
 
 loop-holds : tie.Need-loop-holds Inv-loop μ-loop
@@ -38,4 +39,4 @@ returns c =
 pub start-spec : {M : Type 1} → statement M
 start-spec =
     tie.close
-    (tie.spec Inv-loop μ-loop (λ c. omega arith) loop-holds (λ c κs. (omega arith, omega arith, refl)) (λ c. omega arith) (λ c. omega arith) loop-again returns)
+    (tie.spec Inv-loop μ-loop (λ c κs. search needs) loop-holds (λ c κs. (omega arith, omega arith, c .before .before .before .some-range .ensures)) (λ c. omega arith) (λ c. omega arith) loop-again returns)

@@ -1,6 +1,4 @@
 -- `start_line` stores the six numbers of a line, one behind the other. Assumes nothing.
-use mathlib.Core.Path.{ap, _∙_}
-use Rattle.starting.specs.Start.{startNumber}
 use borrow.Author.Needs.{needs}
 use Rattle.starting.proofs.Starting.{line-laid}
 use Rattle.starting.proofs.start_line.Statement.{statement}
@@ -16,21 +14,20 @@ returns : tie.Need-returns
 returns c =
     let f = first-laid c in
     let p = priced f in
-    let a = p .before .before .before .before .args in
-    line-laid (a .high) (a .netlist .now) (a .numbers .now) (a .line) (f .first .result) _ _ _ _ _
-    (f .first .ensures ∙ ap (startNumber _) (p .line-price .ensures)) (c .before .before .before .before .first2 .ensures ∙ ap (startNumber _) (p .line-price .ensures)) (c .before .before .before .first3 .ensures) (c .before .before .first4 .ensures) (c .before .first5 .ensures) (c .first6 .ensures)
+    let o = p .before in
+    let d = o .before in
+    let a = d .before .before .args in
+    line-laid (a .high) (a .netlist .now) (a .numbers .now) (a .line) (f .first .result) _ _ _ _ _ (d .driver-of .ensures) (o .output-of .ensures) (p .line-price .ensures)
+    (f .first .ensures) (c .before .before .before .before .first2 .ensures) (c .before .before .before .first3 .ensures) (c .before .before .first4 .ensures) (c .before .first5 .ensures) (c .first6 .ensures)
 
 pub start-line-spec : {M : Type 1} → statement M
 start-line-spec =
     tie.close
     (tie.spec
     (λ c. search needs)
+    (λ c κs. search needs)
     (λ c. search needs)
-    (λ c. search needs)
-    (λ c. search needs)
-    (λ c. search needs)
-    (λ c. search needs)
-    (λ c. search needs)
+    (λ c κs. search needs)
     (λ c κs. search needs)
     (λ c. search needs)
     (λ c κs. search needs)

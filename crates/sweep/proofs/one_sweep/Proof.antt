@@ -25,11 +25,11 @@ abbrev μ-loop : tie.MeasureT-loop
 
 -- ---- places
 
-abbrev counted : tie.After-next-awake Inv-loop μ-loop → tie.After-wide Inv-loop μ-loop
+abbrev counted : tie.After-next-awake Inv-loop μ-loop → tie.After-count Inv-loop μ-loop
 counted c = c .before .before
 
 abbrev began : tie.After-next-awake Inv-loop μ-loop → tie.Start Inv-loop μ-loop
-began c = counted c .before .before .before .before
+began c = counted c .before .before .before
 
 abbrev turned : tie.After-rest Inv-loop μ-loop → tie.After-gate-of-turn Inv-loop μ-loop
 turned c = c .before .before
@@ -46,10 +46,10 @@ gate-is : (c : tie.After-gate-of-turn Inv-loop μ-loop)
 gate-is c =
     let l = c .before .before in
     c .gate-of-turn .ensures
-    ∙ ap (λ (n : ℕ). gateOfTurn (began (l .before) .args .role) n (l .loop .turn)) (counted (l .before) .wide .ensures)
+    ∙ ap (λ (n : ℕ). gateOfTurn (began (l .before) .args .role) n (l .loop .turn)) (counted (l .before) .count .ensures)
 
 inside : (c : tie.In-loop Inv-loop μ-loop) → c .before .loop .turn < getD (began (c .before .before) .args .netlist .now) 0 0
-inside c = rw (counted (c .before .before) .wide .ensures) at (c .loop-test .taken)
+inside c = rw (counted (c .before .before) .count .ensures) at (c .loop-test .taken)
 
 visit-gate-requires : tie.Need-visit-gate-requires Inv-loop μ-loop
 visit-gate-requires c κs =
@@ -85,7 +85,7 @@ returns c =
     let l = c .before in
     let a = began (l .before) .args in
     let e : come (a .role) (a .kind) (a .library .now) (a .netlist .now) (l .loop .turn) ≡ getD (a .netlist .now) 0 0 =
-    omega (arith, counted (l .before) .wide .ensures) in
+    omega (arith, counted (l .before) .count .ensures) in
     (rw e at (l .loop .inv .0), l .loop .inv .1)
 
 pub one-sweep-spec : {M : Type 1} → statement M
@@ -94,12 +94,11 @@ one-sweep-spec =
     (tie.spec
     Inv-loop
     μ-loop
-    (λ c. let f = c .before .before .before .pre .linksFit .tablesFit .some in omega arith)
-    (λ c κs. search needs)
+    (λ c κs. c .before .before .pre .linksFit .tablesFit .some)
     (λ c κs.
     let w = c .before in
-    let p = w .before .before .before .before .pre in
-    (rw (w .wide .ensures) (p .linksFit .linked .chained .count), p .resting .size))
+    let p = w .before .before .before .pre in
+    (rw (w .count .ensures) (p .linksFit .linked .chained .count), p .resting .size))
     (unfold inTurn in
     (λ c.
     let s = began c in
@@ -118,7 +117,7 @@ one-sweep-spec =
     let r = rested v in
     let l = turned r .before .before in
     let p = began (l .before) .pre in
-    (rw (counted (l .before) .wide .ensures) (p .linksFit .linked .chained .count), v .visit-gate .ensures .1 .size ∙ r .rest .ensures .size ∙ l .loop .inv .1 .size))
+    (rw (counted (l .before) .count .ensures) (p .linksFit .linked .chained .count), v .visit-gate .ensures .1 .size ∙ r .rest .ensures .size ∙ l .loop .inv .1 .size))
     (λ c. omega (arith, c .next-awake2 .ensures .least))
     loop-again
     returns)

@@ -1,9 +1,8 @@
 -- `one_sweep` makes one visit more with each turn. Assumes nothing.
-use mathlib.Core.Path.{_≡_, refl, sym, ap, _∙_}
-use Prim.Native.Nat.{ℕ, _+_, _*_, _-_, _≤_, _<_}
+use mathlib.Core.Path.{_≡_, _∙_}
+use Prim.Native.Nat.{_*_, _-_, _≤_}
 use native.Mathlib.Omega.{arith}
 use lib.ListN.{length, getD}
-use borrow.Author.Needs.{needs}
 use Rattle.sizes.specs.Sizes as Size
 use Rattle.plans.specs.Idle.{inTurn}
 use Rattle.trace.specs.Runs.{Traced}
@@ -23,14 +22,14 @@ abbrev μ-loop : tie.MeasureT-loop
 
 -- ---- places
 
-abbrev began : tie.After-wide Inv-loop μ-loop → tie.Start Inv-loop μ-loop
-began c = c .before .before .before .before
+abbrev began : tie.After-count Inv-loop μ-loop → tie.Start Inv-loop μ-loop
+began c = c .before .before .before
 
 abbrev looping : tie.After-visit-arg2 Inv-loop μ-loop → tie.In-loop Inv-loop μ-loop
 looping c = c .before .before
 
-few : (c : tie.After-wide Inv-loop μ-loop) → c .wide .result ≤ Size.gates
-few c = omega (arith, c .wide .ensures, began c .pre .0 .linked .chained .count)
+few : (c : tie.After-count Inv-loop μ-loop) → c .count .result ≤ Size.gates
+few c = omega (arith, c .count .ensures, began c .pre .0 .linked .chained .count)
 
 visit-requires : tie.Need-visit-requires Inv-loop μ-loop
 visit-requires c κs =
@@ -39,7 +38,7 @@ visit-requires c κs =
     let s = began w in
     let f = s .pre .0 in (
       record { kindFits = f .kindFits; tablesFit = f .tablesFit; linked = f .linked; size = l .before .loop .inv .2; marksSize = l .before .loop .inv .3 },
-      omega (arith, w .wide .ensures),
+      omega (arith, w .count .ensures),
       omega arith,
       omega (arith, few w, s .pre .1),
     )
@@ -57,7 +56,7 @@ returns c =
     let w = c .before .before in
     let a = began w .args in
     let l = c .before .loop in
-    let e : l .turn ≡ 2 * getD (a .netlist .now) 0 0 = omega (arith, w .wide .ensures) in
+    let e : l .turn ≡ 2 * getD (a .netlist .now) 0 0 = omega (arith, w .count .ensures) in
     rw (e, all-turns (a .kind) (a .library .now) (a .netlist .now)) at (l .inv .1)
 
 pub one-sweep-spec : {M : Type 1} → statement M
@@ -66,8 +65,7 @@ one-sweep-spec =
     (tie.spec
     Inv-loop
     μ-loop
-    (λ c. let f = c .before .before .before .pre .0 .tablesFit .some in omega arith)
-    (λ c κs. search needs)
+    (λ c κs. c .before .before .pre .0 .tablesFit .some)
     (λ c. omega (arith, few c))
     (unfold inTurn in
     (λ c.

@@ -1,10 +1,9 @@
 -- `trace` sweeps until nothing changes: what is marked then is all that the definitions remember. Assumes nothing.
 use mathlib.Core.Bool.{Bool, true, false, not}
-use mathlib.Core.Path.{_≡_, refl, sym, ap, subst, _∙_}
-use Prim.Native.Nat.{ℕ, suc, _+_, _*_, _-_, _≤_, _<_}
+use mathlib.Core.Path.{_≡_, refl, ap, _∙_}
+use Prim.Native.Nat.{ℕ, suc, _+_, _*_, _-_, _≤_}
 use native.Mathlib.Omega.{arith}
 use lib.ListN.{length, getD, length-replicate}
-use borrow.Author.Needs.{needs}
 use Rattle.sizes.specs.Sizes as Size
 use Rattle.sweep.proofs.Calculating.{room, link-fits}
 use Rattle.starting.proofs.Starting.{laid-length}
@@ -30,11 +29,11 @@ abbrev μ-loop : tie.MeasureT-loop
 abbrev linked : tie.After-start Inv-loop μ-loop → tie.After-link Inv-loop μ-loop
 linked c = c .before .before
 
-abbrev counted : tie.After-start Inv-loop μ-loop → tie.After-wide Inv-loop μ-loop
+abbrev counted : tie.After-start Inv-loop μ-loop → tie.After-count Inv-loop μ-loop
 counted c = linked c .before .before
 
 abbrev began : tie.After-start Inv-loop μ-loop → tie.Start Inv-loop μ-loop
-began c = counted c .before .before .before .before
+began c = counted c .before .before .before
 
 abbrev started : tie.In-loop Inv-loop μ-loop → tie.After-start Inv-loop μ-loop
 started c = c .before .before
@@ -42,16 +41,16 @@ started c = c .before .before
 abbrev looping : tie.After-one-sweep Inv-loop μ-loop → tie.In-loop Inv-loop μ-loop
 looping c = c .before .before .before .before
 
-few : (c : tie.After-start Inv-loop μ-loop) → counted c .wide .result ≤ Size.gates
+few : (c : tie.After-start Inv-loop μ-loop) → counted c .count .result ≤ Size.gates
 few c =
     let s = began c in
-    omega (arith, counted c .wide .ensures, few-gates (s .args .kind) (s .args .library .now) (s .args .netlist .now) (s .pre .cells) (s .pre .statements) (s .pre .holds))
+    omega (arith, counted c .count .ensures, few-gates (s .args .kind) (s .args .library .now) (s .args .netlist .now) (s .pre .cells) (s .pre .statements) (s .pre .holds))
 
 loop-holds : tie.Need-loop-holds Inv-loop μ-loop
 loop-holds c =
     let s = began c in
     let a = s .args in
-    let none : 2 * counted c .wide .result + 1 - (2 * counted c .wide .result + 1) ≡ 0 = omega arith in
+    let none : 2 * counted c .count .result + 1 - (2 * counted c .count .result + 1) ≡ 0 = omega arith in
     let b = begins (a .kind) (a .library .now) (a .netlist .now) _ _ (c .start .ensures) (s .pre .unmarked) in
     (omega arith, omega arith, rw none (b .1), rw none (b .0), ap length (c .start .ensures) ∙ laid-length false (a .netlist .now) Size.lines 1, ap length (s .pre .unmarked) ∙ length-replicate {A = ℕ} Size.marks 0)
 
@@ -76,7 +75,7 @@ more : (c : tie.After-one-sweep Inv-loop μ-loop)
     → let l = looping c in
     let b = started l in
     let a = began b .args in
-    let n = 2 * counted b .wide .result + 1 - l .before .loop .left in
+    let n = 2 * counted b .count .result + 1 - l .before .loop .left in
     Stands (a .kind) (a .library .now) (a .netlist .now) (after (a .kind) (a .library .now) (a .netlist .now) (suc n)) (c .one-sweep .last .1 .1 .1 .1 .1 .0) (c .one-sweep .last .1 .1 .1 .1 .1 .1 .0)
     × (after (a .kind) (a .library .now) (a .netlist .now) (suc n) .time ≡ l .before .loop .clock + 2 * getD (a .netlist .now) 0 0)
 more c =
@@ -93,8 +92,8 @@ loop-again c =
     let b = started l in
     let i = l .before .loop .inv in
     let m = more o in
-    let n : 2 * counted b .wide .result + 1 - (l .before .loop .left - 1) ≡ suc (2 * counted b .wide .result + 1 - l .before .loop .left) = omega arith in
-    (omega arith, omega (arith, few b), rw n (m .1 ∙ omega (arith, counted b .wide .ensures)), rw n (m .0), o .one-sweep .ensures .long ∙ i .4, o .one-sweep .ensures .marksLong ∙ i .5)
+    let n : 2 * counted b .count .result + 1 - (l .before .loop .left - 1) ≡ suc (2 * counted b .count .result + 1 - l .before .loop .left) = omega arith in
+    (omega arith, omega (arith, few b), rw n (m .1 ∙ omega (arith, counted b .count .ensures)), rw n (m .0), o .one-sweep .ensures .long ∙ i .4, o .one-sweep .ensures .marksLong ∙ i .5)
 
 untrue : (b : Bool) → not b ≡ true → b ≡ false
 untrue true e = let z : _≡_ {A = ℕ} 0 1 = cc in absurd (omega arith)
@@ -107,15 +106,15 @@ returns c k cells ss e h =
     let b = started l in
     let a = began b .args in
     let i = l .before .loop .inv in
-    ends-early (a .kind) (a .library .now) (a .netlist .now) k cells ss e h (2 * counted b .wide .result + 1 - l .before .loop .left) (l .before .loop .left - 1)
-    (omega (arith, counted b .wide .ensures)) _ _ _ _ (o .one-sweep .ensures .long ∙ i .4) (o .one-sweep .ensures .still (untrue (o .one-sweep .result) (c .if1 .taken))) (i .3) (more o .0)
+    ends-early (a .kind) (a .library .now) (a .netlist .now) k cells ss e h (2 * counted b .count .result + 1 - l .before .loop .left) (l .before .loop .left - 1)
+    (omega (arith, counted b .count .ensures)) _ _ _ _ (o .one-sweep .ensures .long ∙ i .4) (o .one-sweep .ensures .still (untrue (o .one-sweep .result) (c .if1 .taken))) (i .3) (more o .0)
 
 returns-2 : tie.Need-returns-2 Inv-loop μ-loop
 returns-2 c k cells ss e h =
     let b = c .before .before in
     let a = began b .args in
     let l = c .before .loop in
-    let n : 2 * counted b .wide .result + 1 - l .left ≡ 2 * getD (a .netlist .now) 0 0 + 1 = omega (arith, counted b .wide .ensures) in
+    let n : 2 * counted b .count .result + 1 - l .left ≡ 2 * getD (a .netlist .now) 0 0 + 1 = omega (arith, counted b .count .ensures) in
     ends-all (a .kind) (a .library .now) (a .netlist .now) k cells ss e h _ _ (rw n at (l .inv .3))
 
 pub trace-spec : {M : Type 1} → statement M
@@ -124,10 +123,9 @@ trace-spec =
     (tie.spec
     Inv-loop
     μ-loop
-    (λ c. omega (arith, room (c .before .before .before .pre .holds)))
-    (λ c κs. search needs)
-    (λ c κs. link-fits (c .before .before .before .before .before .pre .holds) refl)
-    (λ c κs. (room (c .before .before .before .before .before .before .before .pre .holds), refl))
+    (λ c κs. omega (arith, room (c .before .before .pre .holds)))
+    (λ c κs. link-fits (c .before .before .before .before .pre .holds) refl)
+    (λ c κs. (room (c .before .before .before .before .before .before .pre .holds), refl))
     (λ c. omega (arith, few c))
     (λ c. omega (arith, few c))
     loop-holds

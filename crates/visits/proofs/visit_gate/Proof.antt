@@ -44,11 +44,11 @@ counted c = decided c .before
 abbrev celled : tie.After-visit-count Inv-loop μ-loop → tie.After-cell-place Inv-loop μ-loop
 celled c = c .before .before .before .before
 
-abbrev gatesRead : tie.After-visit-count Inv-loop μ-loop → tie.After-wide Inv-loop μ-loop
+abbrev gatesRead : tie.After-visit-count Inv-loop μ-loop → tie.After-count Inv-loop μ-loop
 gatesRead c = celled c .before
 
 abbrev began : tie.After-visit-count Inv-loop μ-loop → tie.Start Inv-loop μ-loop
-began c = gatesRead c .before .before .before .before
+began c = gatesRead c .before .before .before
 
 abbrev looping : tie.After-column-costs Inv-loop μ-loop → tie.In-loop Inv-loop μ-loop
 looping c = c .before .before .before .before
@@ -74,10 +74,10 @@ gate-fits c = began c .pre .linksFit .tablesFit .gates (began c .args .gate) (be
 cell-room : (c : tie.After-visit-count Inv-loop μ-loop) → celled c .cell-place .result + Size.cellWords < 2 ^ 64
 cell-room c = let f = gate-fits c in omega arith
 
-pins-are : (c : tie.After-visit-count Inv-loop μ-loop) → c .before .before .wide2 .result ≡ gatePins (began c .args .library .now) (began c .args .netlist .now) (began c .args .gate)
-pins-are c = rw (celled c .cell-place .ensures) at (c .before .before .wide2 .ensures)
+pins-are : (c : tie.After-visit-count Inv-loop μ-loop) → c .before .before .wide .result ≡ gatePins (began c .args .library .now) (began c .args .netlist .now) (began c .args .gate)
+pins-are c = rw (celled c .cell-place .ensures) at (c .before .before .wide .ensures)
 
-lines-fit : (c : tie.After-visit-count Inv-loop μ-loop) → LinesFit (c .before .lines-of .result) (c .before .before .wide2 .result)
+lines-fit : (c : tie.After-visit-count Inv-loop μ-loop) → LinesFit (c .before .lines-of .result) (c .before .before .wide .result)
 lines-fit c = rw (c .before .lines-of .ensures, pins-are c) (gate-fits c .lines)
 
 wired-are : (c : tie.In-loop Inv-loop μ-loop)
@@ -86,13 +86,13 @@ wired-are c =
     let s = began (counted c) in
     decided c .wired-of .ensures _ _ _ (s .pre .linksFit .linked .tied) (s .pre .inside)
 
-turn : (c : tie.In-loop Inv-loop μ-loop) → c .before .loop .i < visitCount (began (counted c) .args .role) (counted c .before .before .wide2 .result)
+turn : (c : tie.In-loop Inv-loop μ-loop) → c .before .loop .i < visitCount (began (counted c) .args .role) (counted c .before .before .wide .result)
 turn c = rw (counted c .visit-count .ensures) at (c .loop-test .taken)
 
 turn-low : (c : tie.In-loop Inv-loop μ-loop) → c .before .loop .i ≤ Size.pins
 turn-low c =
     let d = counted c in
-    visit-low (began d .args .role) (began d .args .kind) (d .before .lines-of .result) (d .before .before .wide2 .result) (c .before .loop .i) (began d .pre .linksFit .kindFits) (lines-fit d) (turn c)
+    visit-low (began d .args .role) (began d .args .kind) (d .before .lines-of .result) (d .before .before .wide .result) (c .before .loop .i) (began d .pre .linksFit .kindFits) (lines-fit d) (turn c)
 
 -- The number of the group that a turn visits, where the group stands, and its rows.
 group-few : (c : tie.After-visit-group Inv-loop μ-loop) → c .visit-group .result < Size.groups
@@ -100,7 +100,7 @@ group-few c =
     let l = looping (c .before) in
     let d = counted l in
     let a = began d .args in
-    rw (c .visit-group .ensures) (group-low (a .role) (a .kind) (d .before .lines-of .result) (d .before .before .wide2 .result) (l .before .loop .i) (began d .pre .linksFit .kindFits) (lines-fit d) (turn l))
+    rw (c .visit-group .ensures) (group-low (a .role) (a .kind) (d .before .lines-of .result) (d .before .before .wide .result) (l .before .loop .i) (began d .pre .linksFit .kindFits) (lines-fit d) (turn l))
 
 abbrev groupAt : tie.After-visit-group Inv-loop μ-loop → ℕ
 groupAt c = celled (counted (looping (c .before))) .cell-place .result + Size.groupsAt + c .visit-group .result * Size.groupWords
@@ -114,7 +114,7 @@ group-stands c =
 
 rows-fit : (c : tie.After-visit-group Inv-loop μ-loop)
     → let d = counted (looping (c .before)) in
-    GroupFits (began d .args .library .now) (groupAt c) (roleColumns (began d .args .role) (d .before .before .wide2 .result))
+    GroupFits (began d .args .library .now) (groupAt c) (roleColumns (began d .args .role) (d .before .before .wide .result))
 rows-fit c =
     let l = looping (c .before) in
     let d = counted l in
@@ -136,7 +136,7 @@ visit-requires c κs =
     let a = s .args in
     visit-fits (a .role) (s .pre .linksFit .kindFits) (lines-fit d) (rows-fit g) (numbers-length l) (g .before .column-costs .ensures)
     (rw (p .visit-place .ensures)
-    (place-inside (a .role) (a .kind) (d .before .lines-of .result) (d .before .before .wide2 .result) (l .before .loop .i) (s .pre .linksFit .kindFits) (lines-fit d) (turn l)))
+    (place-inside (a .role) (a .kind) (d .before .lines-of .result) (d .before .before .wide .result) (l .before .loop .i) (s .pre .linksFit .kindFits) (lines-fit d) (turn l)))
 
 -- The visit that was made.
 made : (v : tie.After-visit Inv-loop μ-loop)
@@ -151,7 +151,7 @@ made v =
     let s = began d in
     let a = s .args in
     let this =
-    visit-is (a .role) (a .kind) (a .library .now) (a .netlist .now) (a .gate) (l .before .loop .i) (groupAt g) (p .visit-place .result) (d .before .before .wide2 .result) (d .before .lines-of .result)
+    visit-is (a .role) (a .kind) (a .library .now) (a .netlist .now) (a .gate) (l .before .loop .i) (groupAt g) (p .visit-place .result) (d .before .before .wide .result) (d .before .lines-of .result)
     (decided l .wired-of .result) (wired-are l) (d .before .lines-of .ensures) (pins-are d) (group-stands g) (p .visit-place .ensures) in
     rw this at (v .visit .ensures
     (costs-of (a .role) (s .pre .linksFit .kindFits) (lines-fit d) (rows-fit g) (numbers-length l) (g .before .column-costs .ensures))
@@ -159,18 +159,18 @@ made v =
     (λ h. rw (← d .before .lines-of .ensures) at (s .pre .linksFit .needs .leads (a .gate) (l .before .loop .i) (s .pre .inside) (subst (λ (n : ℕ). l .before .loop .i < visitCount (a .role) n) (pins-are d) (turn l)) h))))
 
 -- The arrays, for the count of gates that was read.
-chained : (c : tie.After-visit-count Inv-loop μ-loop) → let a = began c .args in Chained (a .netlist .now) (gatesRead c .wide .result) (a .links .now)
+chained : (c : tie.After-visit-count Inv-loop μ-loop) → let a = began c .args in Chained (a .netlist .now) (gatesRead c .count .result) (a .links .now)
 chained c =
     let a = began c .args in
-    subst (λ (n : ℕ). Chained (a .netlist .now) n (a .links .now)) (sym (gatesRead c .wide .ensures)) (began c .pre .linksFit .linked .chained)
+    subst (λ (n : ℕ). Chained (a .netlist .now) n (a .links .now)) (sym (gatesRead c .count .ensures)) (began c .pre .linksFit .linked .chained)
 
-driven : (c : tie.After-visit-count Inv-loop μ-loop) → let a = began c .args in Driven (a .netlist .now) (gatesRead c .wide .result) (a .links .now)
+driven : (c : tie.After-visit-count Inv-loop μ-loop) → let a = began c .args in Driven (a .netlist .now) (gatesRead c .count .result) (a .links .now)
 driven c =
     let a = began c .args in
-    subst (λ (n : ℕ). Driven (a .netlist .now) n (a .links .now)) (sym (gatesRead c .wide .ensures)) (began c .pre .linksFit .linked .driven)
+    subst (λ (n : ℕ). Driven (a .netlist .now) n (a .links .now)) (sym (gatesRead c .count .ensures)) (began c .pre .linksFit .linked .driven)
 
-once : (c : tie.After-visit-count Inv-loop μ-loop) → DrivenOnce (began c .args .netlist .now) (gatesRead c .wide .result)
-once c = subst (DrivenOnce (began c .args .netlist .now)) (sym (gatesRead c .wide .ensures)) (began c .pre .linksFit .needs .once)
+once : (c : tie.After-visit-count Inv-loop μ-loop) → DrivenOnce (began c .args .netlist .now) (gatesRead c .count .result)
+once c = subst (DrivenOnce (began c .args .netlist .now)) (sym (gatesRead c .count .ensures)) (began c .pre .linksFit .needs .once)
 
 -- The line whose number the turn renews.
 line-is : (c : tie.After-visit-line Inv-loop μ-loop)
@@ -191,7 +191,7 @@ wake-needing-requires c κs =
     let s = began d in
     record {
       roleFits = s .pre .linksFit .roleFits;
-      inside = rw (x .visit-line .ensures) (line-inside (s .args .role) (d .before .lines-of .result) (d .before .before .wide2 .result) (l .before .loop .i) (lines-fit d) (turn l));
+      inside = rw (x .visit-line .ensures) (line-inside (s .args .role) (d .before .lines-of .result) (d .before .before .wide .result) (l .before .loop .i) (lines-fit d) (turn l));
       netlist = s .args .netlist .now;
       chained = chained d;
       driven = driven d;
@@ -216,7 +216,7 @@ loop-again c =
       changes-on (a .role) (a .kind) (a .library .now) (a .netlist .now) (s .pre .linksFit .needs) (a .gate) (l .before .loop .i) (s .pre .inside)
           (subst (λ (n : ℕ). l .before .loop .i < visitCount (a .role) n) (pins-are d) (turn l))
           (inv .2) (made v)
-          (woken-same (gatesRead d .wide .ensures) (line-is x) woken),
+          (woken-same (gatesRead d .count .ensures) (line-is x) woken),
       gather-next (a .role) (s .pre .linksFit .kindFits) (lines-fit d) (rows-fit g) (numbers-length l) (g .before .column-costs .ensures) (made v)
           (swept-length done ∙ s .pre .size),
     )
@@ -234,14 +234,13 @@ visit-gate-spec =
     (tie.spec
     Inv-loop
     μ-loop
-    (λ c. let f = c .before .before .before .pre .linksFit .tablesFit .some in omega arith)
-    (λ c κs. search needs)
-    (λ c κs. let s = c .before .before .before .before in let f = s .pre .linksFit .tablesFit .gates (s .args .gate) (s .pre .inside) in omega arith)
+    (λ c κs. c .before .before .pre .linksFit .tablesFit .some)
+    (λ c κs. let s = c .before .before .before in let f = s .pre .linksFit .tablesFit .gates (s .args .gate) (s .pre .inside) in omega arith)
+    (λ c. let s = c .before .before .before .before in let f = s .pre .linksFit .tablesFit .gates (s .args .gate) (s .pre .inside) in omega arith)
+    (λ c. let s = c .before .before .before .before in let f = s .pre .linksFit .tablesFit .gates (s .args .gate) (s .pre .inside) in omega arith)
     (λ c. let s = c .before .before .before .before .before in let f = s .pre .linksFit .tablesFit .gates (s .args .gate) (s .pre .inside) in omega arith)
-    (λ c. let s = c .before .before .before .before .before in let f = s .pre .linksFit .tablesFit .gates (s .args .gate) (s .pre .inside) in omega arith)
-    (λ c. let s = c .before .before .before .before .before .before in let f = s .pre .linksFit .tablesFit .gates (s .args .gate) (s .pre .inside) in omega arith)
     (λ c κs. search needs)
-    (λ c κs. let s = c .before .before .before .before .before .before .before in s .pre .linksFit .tablesFit .gates (s .args .gate) (s .pre .inside) .room)
+    (λ c κs. let s = c .before .before .before .before .before .before in s .pre .linksFit .tablesFit .gates (s .args .gate) (s .pre .inside) .room)
     (λ c κs. search needs)
     (λ c κs. let s = began c in omega (arith, s .pre .inside, s .pre .linksFit .linked .chained .count))
     (unfold inTurn in
@@ -258,7 +257,7 @@ visit-gate-spec =
     (λ c κs.
     let l = looping (grouped (placed (c .before)) .before) in
     let d = counted l in
-    visit-few (began d .args .role) (d .before .lines-of .result) (d .before .before .wide2 .result) (l .before .loop .i) (lines-fit d) (turn l))
+    visit-few (began d .args .role) (d .before .lines-of .result) (d .before .before .wide .result) (l .before .loop .i) (lines-fit d) (turn l))
     wake-needing-requires
     (λ c κs. search needs)
     (λ c. omega (arith, turn-low (turned c)))
