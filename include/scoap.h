@@ -186,8 +186,9 @@ enum scoap_never {
 };
 
 /*
- * Tells which of these holds of a netlist: answers one of enum scoap_never, or a refusal as scoap_report answers
- * it with a buffer of SCOAP_REPORT bytes, so that 17 cannot come. The texts are lent as to scoap_report.
+ * Tells which of these holds of a netlist: answers one of enum scoap_never, or a refusal of the texts as
+ * scoap_report answers it. It only reads, and calculates nothing, so that 17 does not come. The texts are lent as
+ * to scoap_report.
  */
 uint64_t scoap_qualifies(const uint8_t *lib, size_t lib_len, const uint8_t *net, size_t net_len);
 
