@@ -11,4 +11,6 @@ pub mod Between
 pub mod Observing
 pub mod Rows
 pub mod Outputs
+pub mod Padding
+pub mod Standing
 pub mod Laws

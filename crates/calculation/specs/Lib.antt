@@ -7,6 +7,10 @@ pub mod Plans
 pub mod Settled
 pub mod Acceptance
 pub mod Added
+pub mod Pads
+pub mod Growth
+pub mod Standing
+pub mod Advice
 pub mod Changes
 pub mod Between
 pub mod Stored

@@ -99,7 +99,7 @@ unfolding admitted form _>>=_
 none-refused line cells ss ws = refl
 
 -- A list that is admitted to its end has good forms only.
-good-forms : (line : ℕ) (cells : List Cell) (ss : List Statement) (ws : List (Option Statement)) (rs : List Statement)
+pub good-forms : (line : ℕ) (cells : List Cell) (ss : List Statement) (ws : List (Option Statement)) (rs : List Statement)
     → admitted line cells ss ws ≡ read rs → Each Good ws
 unfolding Each
 good-forms line cells ss [] rs e = tt
@@ -134,7 +134,7 @@ module _ (l : ℕ) (low : 1 ≤ l) (high : l ≤ Size.lines) where
       let n : none ≡ some l = sym (numeral-bad 10 20 (decimalBytes l) t) ∙ decimal-read l (omega arith) in
       let z : _≡_ {A = ℕ} 0 1 = cc in absurd (omega arith))
 
-  decimal-back : decimal (decimalBytes l) ≡ some l
+  pub decimal-back : decimal (decimalBytes l) ≡ some l
   unfolding decimal wellFormed
   decimal-back =
       let f = decimalBytes l in
@@ -159,27 +159,28 @@ module _ (l : ℕ) (low : 1 ≤ l) (high : l ≤ Size.lines) where
   line-unmarked : (m : ℕ) → m < 48 → Unmarked m (decimalBytes l)
   line-unmarked m h = digits-unmarked m h (decimalBytes l) (wellFormed-digits 10 20 (decimalBytes l) digits-good)
 
-  -- `open,L` by its fields, and what it says.
-  open-fields : fields (bytes "open," ++ decimalBytes l) ≡ bytes "open" ∷ (decimalBytes l ∷ [])
-  unfolding fields bytes Each
-  open-fields =
-      split-marked 44 (bytes "open") (decimalBytes l) (refl, (refl, (refl, (refl, tt))))
-      ∙ ap (λ (ps : List (List ℕ)). bytes "open" ∷ ps) (split-whole 44 (decimalBytes l) (line-unmarked 44 (omega arith)))
+  -- A line of a word and L, by its fields.
+  module _ (word : List ℕ) (apart : Unmarked 44 word) (plain : Unmarked 10 word) where
+    word-fields : fields (word ++ (44 ∷ decimalBytes l)) ≡ word ∷ (decimalBytes l ∷ [])
+    unfolding fields
+    word-fields =
+        split-marked 44 word (decimalBytes l) apart
+        ∙ ap (λ (ps : List (List ℕ)). word ∷ ps) (split-whole 44 (decimalBytes l) (line-unmarked 44 (omega arith)))
 
+    pub word-line : (t : List ℕ) → lines ((word ++ (44 ∷ (decimalBytes l ++ (10 ∷ [])))) ++ t) ≡ some (word ∷ (decimalBytes l ∷ [])) ∷ lines t
+    unfolding Each
+    word-line t =
+        let p = word ++ (44 ∷ decimalBytes l) in
+        let whole : (word ++ (44 ∷ (decimalBytes l ++ (10 ∷ [])))) ++ t ≡ p ++ (10 ∷ t) = simp append-assoc in
+        let all : Unmarked 10 p =
+        each-append (λ (b : ℕ). eqb b 10 ≡ false) word (44 ∷ decimalBytes l) plain (refl, line-unmarked 10 (omega arith))
+        in
+        ap lines whole ∙ line-first p t all ∙ ap (λ (fs : Fields). some fs ∷ lines t) word-fields
+
+  -- `open,L`, and what it says.
   open-line : (t : List ℕ) → lines (openLine l ++ t) ≡ some (bytes "open" ∷ (decimalBytes l ∷ [])) ∷ lines t
-  unfolding openLine Each
-  open-line t =
-      let p = bytes "open," ++ decimalBytes l in
-      let whole : (bytes "open," ++ (decimalBytes l ++ (10 ∷ []))) ++ t ≡ p ++ (10 ∷ t) =
-      append-assoc (bytes "open,") (decimalBytes l ++ (10 ∷ [])) t
-      ∙ ap (λ (f : List ℕ). bytes "open," ++ f) (append-assoc (decimalBytes l) (10 ∷ []) t)
-      ∙ sym (append-assoc (bytes "open,") (decimalBytes l) (10 ∷ t))
-      in
-      let word : Unmarked 10 (bytes "open,") = unfold bytes in (refl, (refl, (refl, (refl, (refl, tt))))) in
-      let plain : Unmarked 10 p =
-      each-append (λ (b : ℕ). eqb b 10 ≡ false) (bytes "open,") (decimalBytes l) word (line-unmarked 10 (omega arith))
-      in
-      ap lines whole ∙ line-first p t plain ∙ ap (λ (fs : Fields). some fs ∷ lines t) open-fields
+  unfolding openLine bytes Each
+  open-line t = word-line (bytes "open") (refl, (refl, (refl, (refl, tt)))) (refl, (refl, (refl, (refl, tt)))) t
 
   open-says : (cells : List Cell) → lineForm New cells (some (bytes "open" ∷ (decimalBytes l ∷ []))) ≡ some (mark opened l)
   unfolding lineForm statementOf lone markOf bytes sameBytes pick
@@ -200,7 +201,7 @@ opens-forms cells (l ∷ ls) h =
 
 -- ---- statements one after the other
 
-forms-append : (rules : Rules) (cells : List Cell) (ls ks : List (Option Fields))
+pub forms-append : (rules : Rules) (cells : List Cell) (ls ks : List (Option Fields))
     → lineForms rules cells (ls ++ ks) ≡ lineForms rules cells ls ++ lineForms rules cells ks
 unfolding lineForms
 forms-append rules cells [] ks = refl
@@ -210,7 +211,7 @@ ended-same : (line : ℕ) (cells : List Cell) (ss rs : List Statement) → admit
 unfolding admitted
 ended-same line cells ss rs e = cc
 
-admitted-append : (line : ℕ) (cells : List Cell) (ss : List Statement) (ws vs : List (Option Statement)) (rs : List Statement)
+pub admitted-append : (line : ℕ) (cells : List Cell) (ss : List Statement) (ws vs : List (Option Statement)) (rs : List Statement)
     → admitted line cells ss ws ≡ read rs → admitted line cells ss (ws ++ vs) ≡ admitted (line + length ws) cells rs vs
 admitted-append line cells ss [] vs rs e =
     let same : ss ≡ rs = ended-same line cells ss rs e in

@@ -65,7 +65,7 @@ member-right l xs ys e = rw (member-append l xs ys, e) (or-true (member l xs))
 pub member-cases : (l : ℕ) (xs ys : List ℕ) → member l (xs ++ ys) ≡ true → (member l xs ≡ true) ⊎ (member l ys ≡ true)
 member-cases l xs ys e = or-cases (member l xs) (member l ys) (sym (member-append l xs ys) ∙ e)
 
-flatMap-append : {A B : Type 0} (f : A → List B) (xs ys : List A) → flatMap f (xs ++ ys) ≡ flatMap f xs ++ flatMap f ys
+pub flatMap-append : {A B : Type 0} (f : A → List B) (xs ys : List A) → flatMap f (xs ++ ys) ≡ flatMap f xs ++ flatMap f ys
 unfolding flatMap
 flatMap-append f [] ys = refl
 flatMap-append f (x ∷ xs) ys = rw (flatMap-append f xs ys) (sym (append-assoc (f x) (flatMap f xs) (flatMap f ys)))

@@ -1,4 +1,5 @@
--- How many gates there can be: each drives a line of its own, and there are 1,000 lines.
+-- How many gates and outputs there can be: each gate drives a line of its own, no line is an output twice, and there are 1,000
+-- lines.
 -- Assumes nothing.
 use mathlib.Core.Bool.{false}
 use mathlib.Core.List.{List, [], _∷_, flatMap}
@@ -12,7 +13,7 @@ use Rattle.sizes.specs.Sizes as Size
 use Rattle.reading.specs.Choice.{pick}
 use Rattle.reading.specs.Each.{Each}
 use Rattle.reading.proofs.Laws.{by-test, or-left, or-right, each-append}
-use Rattle.netlist.specs.Netlist.{Statement, input, output, opened, mark, gate, priced, member, linesOf, linesClaimed, gatesIn, claimedLines, gatesOf}
+use Rattle.netlist.specs.Netlist.{Statement, input, output, opened, mark, gate, priced, member, linesOf, linesMarked, linesClaimed, gatesIn, markedLines, claimedLines, gatesOf}
 use Rattle.netlist.specs.Sound.{InRange, LinesInRange, Apart}
 
 -- ---- as many different numbers from 1 to n as n, at most
@@ -104,3 +105,23 @@ pub gates-few : (ss : List Statement) → Each LinesInRange ss → Apart (claime
 gates-few ss range apart =
     let lines : length (claimedLines ss) ≤ Size.lines = apart-few Size.lines (claimedLines ss) apart (unfold InRange in claimed-in-range ss range) in
     omega (arith, gates-claim ss)
+
+-- ---- the outputs of statements
+
+marked-good : (s : Statement) → LinesInRange s → Each InRange (linesMarked output s)
+unfolding LinesInRange linesOf linesMarked pick Each
+marked-good (mark input l) h = tt
+marked-good (mark output l) h = h
+marked-good (mark opened l) h = tt
+marked-good (gate g) h = tt
+marked-good (priced r) h = tt
+
+marked-in-range : (ss : List Statement) → Each LinesInRange ss → Each InRange (markedLines output ss)
+unfolding markedLines flatMap Each
+marked-in-range [] h = tt
+marked-in-range (s ∷ ss) h =
+    each-append InRange (linesMarked output s) (flatMap (linesMarked output) ss) (marked-good s (h .0)) (marked-in-range ss (h .1))
+
+-- Statements with lines in range, none an output twice, have at most 1,000 outputs.
+pub outputs-few : (ss : List Statement) → Each LinesInRange ss → Apart (markedLines output ss) → length (markedLines output ss) ≤ Size.lines
+outputs-few ss range apart = apart-few Size.lines (markedLines output ss) apart (unfold InRange in marked-in-range ss range)

@@ -8,6 +8,7 @@ pub mod HeldLines
 pub mod Laws
 pub mod Opening
 pub mod Outcomes
+pub mod Padding
 pub mod Places
 pub mod Sounding
 pub mod Storing

@@ -12,8 +12,8 @@ use Rattle.sizes.specs.Sizes as Size
 use Rattle.reading.specs.Choice.{pick}
 use Rattle.reading.specs.Each.{Each}
 use Rattle.reading.specs.Numbers as No
-use Rattle.reading.specs.Refusal.{read, weigh}
-use Rattle.reading.proofs.Laws.{by-test, clash, or-cases, then-read}
+use Rattle.reading.specs.Refusal.{read, _>>_, weigh}
+use Rattle.reading.proofs.Laws.{by-test, clash, or-cases, refused-read, then-read}
 use Rattle.cell_library.specs.Cells.{Cell}
 use Rattle.netlist.specs.declared.Rules.{Rules}
 use Rattle.netlist.specs.Netlist.{input, output, opened, Range, Statement, mark, gate, priced, declaring, member, linesOf}
@@ -89,7 +89,7 @@ pub needed-mentioned : (l : ℕ) (ss : List Statement) → member l (neededLines
 unfolding mentioned mentionedLines neededLines
 needed-mentioned l ss e = member-among l linesNeeded linesOf (needs-mentions l) ss e
 
-mention-undeclared : {cells : List Cell} (ss : List Statement) → Sound cells ss → (l : ℕ) → (mentioned l ss && not (claimed l ss)) ≡ undeclared ss l
+pub mention-undeclared : {cells : List Cell} (ss : List Statement) → Sound cells ss → (l : ℕ) → (mentioned l ss && not (claimed l ss)) ≡ undeclared ss l
 unfolding undeclared
 mention-undeclared ss so l =
     by-test (claimed l ss)
@@ -163,3 +163,12 @@ unfolding declared
 declared-read rules ss rs e =
     then-read (weigh 0 ((No.undeclared, declaring rules && someLine (undeclaredLines ss)) ∷ [])) (read ss) rs
     (λ u w r. let same : ss ≡ rs = cc in same) e
+
+-- Statements that leave the same lines undeclared as others that were read are read.
+pub declared-same : (rules : Rules) (ss ts : List Statement) → undeclaredLines ts ≡ undeclaredLines ss → declared rules ss ≡ read ss
+    → declared rules ts ≡ read ts
+unfolding declared weigh pick _>>_
+declared-same rules ss ts same e =
+    by-test (declaring rules && someLine (undeclaredLines ss))
+    (λ t. refused-read (rw t at e))
+    (λ t. rw (same, t))

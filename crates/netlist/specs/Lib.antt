@@ -4,4 +4,5 @@ pub mod Layout
 pub mod Lines
 pub mod Lowest
 pub mod Netlist
+pub mod Rereading
 pub mod Sound

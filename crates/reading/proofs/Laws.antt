@@ -63,6 +63,11 @@ unfolding Each
 each-append P [] ys e f = f
 each-append P (x ∷ xs) ys e f = (e .0, each-append P xs ys (e .1) f)
 
+pub each-right : {A : Type 0} (P : A → Type 0) (xs ys : List A) → Each P (xs ++ ys) → Each P ys
+unfolding Each
+each-right P [] ys e = e
+each-right P (x ∷ xs) ys e = each-right P xs ys (e .1)
+
 pub each-map : {A : Type 0} (P Q : A → Type 0) → ((x : A) → P x → Q x) → (xs : List A) → Each P xs → Each Q xs
 unfolding Each
 each-map P Q f [] e = tt

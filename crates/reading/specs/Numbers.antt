@@ -81,3 +81,11 @@ notInput = 21
 
 abbrev pub rangeBad : ℕ
 rangeBad = 22
+
+-- "23 for a line that the netlist doesn't mention or already an output; then 24 for a ticket whose count isn't the present one"
+-- (02, K11)
+abbrev pub unpaddable : ℕ
+unpaddable = 23
+
+abbrev pub ticketStale : ℕ
+ticketStale = 24

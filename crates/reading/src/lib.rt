@@ -65,3 +65,8 @@ pub const UNDECLARED: u32 = 20;
 pub const NOT_INPUT: u32 = 21;
 
 pub const RANGE_BAD: u32 = 22;
+
+// Of a pad: its line is not mentioned, or an output already; its ticket's count is not the present one.
+pub const UNPADDABLE: u32 = 23;
+
+pub const TICKET_STALE: u32 = 24;

@@ -152,6 +152,41 @@ netlist = gatesAt + gates * gateWords
 abbrev pub numbers : ℕ
 numbers = lines * costs
 
+-- ---- the standing table (02, K11)
+
+-- The count of pads, the counts of the four runs, the pads in the order of their commits, and a numbers table. A line is an
+-- output at most once, so that there are no more pads than lines.
+abbrev pub runs : ℕ
+runs = 4
+
+abbrev pub runsAt : ℕ
+runsAt = 1
+
+abbrev pub pads : ℕ
+pads = lines
+
+abbrev pub padsAt : ℕ
+padsAt = runsAt + runs
+
+abbrev pub standingNumbers : ℕ
+standingNumbers = padsAt + pads
+
+abbrev pub standing : ℕ
+standing = standingNumbers + numbers
+
+-- "the CO and SO of all lines": what asking answers.
+abbrev pub observed : ℕ
+observed = lines * kinds
+
+-- ---- the table of ranks (beside 02, K13)
+
+-- Of a line that may be padded: how many lines have CO never, how many over, the largest figure, the sum of the figures.
+abbrev pub rankWords : ℕ
+rankWords = 4
+
+abbrev pub ranks : ℕ
+ranks = lines * rankWords
+
 -- ---- the set of crate `awake`
 
 -- A bit for each gate, in words.

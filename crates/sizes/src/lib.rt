@@ -105,6 +105,31 @@ pub const NETLIST: usize = GATES_AT + GATES * GATE_WORDS;
 
 pub const NUMBERS: usize = LINES * COSTS;
 
+// ---- the standing table
+
+// The count of pads, the counts of the four runs, the pads in the order of their commits, and a numbers table.
+pub const RUNS: usize = 4;
+
+pub const RUNS_AT: usize = 1;
+
+pub const PADS: usize = LINES;
+
+pub const PADS_AT: usize = RUNS_AT + RUNS;
+
+pub const STANDING_NUMBERS: usize = PADS_AT + PADS;
+
+pub const STANDING: usize = STANDING_NUMBERS + NUMBERS;
+
+// What asking answers: for each line its CO and its SO.
+pub const OBSERVED: usize = LINES * KINDS;
+
+// ---- the table of ranks
+
+// Of a line that may be padded: how many lines have CO never, how many over, the largest figure, the sum of the figures.
+pub const RANK_WORDS: usize = 4;
+
+pub const RANKS: usize = LINES * RANK_WORDS;
+
 // ---- the set of crate `awake`
 
 // A bit for each gate, in words.
