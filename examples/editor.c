@@ -1,13 +1,15 @@
 /*
  * An example of a schematic editor's side: it lends two texts and a buffer to the analyser and shows
- * the report, or says in words where the texts stop.
+ * the report, or says in words where the texts stop. Then it places a pad on each line that it is given, after
+ * asking what the pad does.
  *
  *     gcc -std=c99 -Iinclude -o editor examples/editor.c target/staticlib/libscoap_c.a
- *     ./editor [LIBRARY NETLIST]
+ *     ./editor [LIBRARY NETLIST [LINE ..]]
  *
  * Without names it shows a bundled example. Exit status: 0 accepted, 1 refused, 2 no texts to lend.
  */
 #include <stdio.h>
+#include <stdlib.h>
 #include <string.h>
 
 #include "scoap.h"
@@ -35,6 +37,13 @@ static uint8_t lib[TEXT];
 static uint8_t net[TEXT];
 static uint8_t report[SCOAP_MOST_REPORTS];
 
+static size_t lib_length;
+static size_t net_length;
+
+/* The standing analysis, and what a pad would make of its CO and SO. */
+static uint32_t standing[SCOAP_STANDING];
+static uint32_t asked[SCOAP_OBSERVED];
+
 /* Reads a file up to TEXT bytes. Returns 0 where it can't be read. */
 static int read_text(const char *name, uint8_t *text, size_t *length)
 {
@@ -53,6 +62,8 @@ static int read_text(const char *name, uint8_t *text, size_t *length)
 static const char *reason(unsigned number)
 {
     switch (number) {
+    case SCOAP_TABLE_SHORT:
+        return "a lent table is too short";
     case SCOAP_TEXT_TOO_LONG:
         return "a text is longer than 65,535 bytes";
     case SCOAP_LIBRARY_FORM:
@@ -93,36 +104,20 @@ static const char *reason(unsigned number)
         return "the number is over or never";
     case SCOAP_PLAN_TOO_LONG:
         return "the plan's text is longer than its buffer";
+    case SCOAP_UNPADDABLE:
+        return "there is no such line, or it is an output already";
+    case SCOAP_TICKET_STALE:
+        return "another pad was placed since";
     default:
         return "unknown reason";
     }
 }
 
-int main(int argc, char **argv)
+/* Says where a call stops; returns 1. */
+static int refused(uint64_t answer)
 {
-    size_t lib_length;
-    size_t net_length;
-    uint64_t answer;
-
-    if (argc == 1) {
-        lib_length = strlen(example_lib);
-        net_length = strlen(example_net);
-        memcpy(lib, example_lib, lib_length);
-        memcpy(net, example_net, net_length);
-    } else if (argc != 3) {
-        fprintf(stderr, "usage: editor [LIBRARY NETLIST]\n");
-        return 2;
-    } else if (!read_text(argv[1], lib, &lib_length) || !read_text(argv[2], net, &net_length)) {
-        fprintf(stderr, "editor: can't read %s and %s\n", argv[1], argv[2]);
-        return 2;
-    }
-
-    answer = scoap_report(lib, lib_length, net, net_length, report, sizeof report);
-    if (answer < SCOAP_REFUSED) {
-        fwrite(report, 1, (size_t)answer, stdout);
-        return 0;
-    }
     unsigned number = scoap_number(answer);
+
     if ((number >= SCOAP_NETLIST_FORM && number <= SCOAP_OUTPUT_TWICE) ||
         (number >= SCOAP_NOT_INPUT && number <= SCOAP_RANGE)) {
         printf("netlist, line %u: ", scoap_line(answer));
@@ -131,4 +126,84 @@ int main(int argc, char **argv)
     }
     printf("%s (refusal %u)\n", reason(number), number);
     return 1;
+}
+
+static void show_cost(uint32_t cost)
+{
+    if (cost == SCOAP_NEVER) {
+        printf("never");
+    } else if (cost == SCOAP_OVER) {
+        printf("over");
+    } else {
+        printf("%lu", (unsigned long)cost);
+    }
+}
+
+/* Shows each CO and SO that the pad lowers. */
+static void show_gain(void)
+{
+    static const char *const names[] = {"co", "so"};
+
+    for (unsigned at = 0; at < SCOAP_OBSERVED; at++) {
+        uint32_t then = standing[SCOAP_STANDING_NUMBERS + 6 * (at / 2) + 4 + at % 2];
+
+        if (asked[at] != then) {
+            printf("line %u: %s ", at / 2 + 1, names[at % 2]);
+            show_cost(then);
+            printf(" becomes ");
+            show_cost(asked[at]);
+            printf("\n");
+        }
+    }
+}
+
+/* Asks for a pad, shows what it does, and places it. Returns the exit status. */
+static int place(uint64_t line)
+{
+    uint64_t count = scoap_ask(lib, lib_length, net, net_length, standing, SCOAP_STANDING, line,
+                               asked, SCOAP_OBSERVED);
+    uint64_t placed;
+
+    printf("pad on line %llu:\n", (unsigned long long)line);
+    if (count >= SCOAP_REFUSED) {
+        return refused(count);
+    }
+    show_gain();
+    /* A real editor would let its user decide here; the ticket says whether the answer still holds. */
+    placed = scoap_commit(lib, lib_length, net, net_length, standing, SCOAP_STANDING, line, count);
+    return placed < SCOAP_REFUSED ? 0 : refused(placed);
+}
+
+int main(int argc, char **argv)
+{
+    uint64_t answer;
+    int status = 0;
+
+    if (argc == 1) {
+        lib_length = strlen(example_lib);
+        net_length = strlen(example_net);
+        memcpy(lib, example_lib, lib_length);
+        memcpy(net, example_net, net_length);
+    } else if (argc == 2) {
+        fprintf(stderr, "usage: editor [LIBRARY NETLIST [LINE ..]]\n");
+        return 2;
+    } else if (!read_text(argv[1], lib, &lib_length) || !read_text(argv[2], net, &net_length)) {
+        fprintf(stderr, "editor: can't read %s and %s\n", argv[1], argv[2]);
+        return 2;
+    }
+
+    /* Without pads to place a report has to do. */
+    if (argc > 3) {
+        answer = scoap_stand(lib, lib_length, net, net_length, standing, SCOAP_STANDING, report, sizeof report);
+    } else {
+        answer = scoap_report(lib, lib_length, net, net_length, report, sizeof report);
+    }
+    if (answer >= SCOAP_REFUSED) {
+        return refused(answer);
+    }
+    fwrite(report, 1, (size_t)answer, stdout);
+    for (int word = 3; word < argc && status == 0; word++) {
+        status = place(strtoull(argv[word], NULL, 10));
+    }
+    return status;
 }

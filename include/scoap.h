@@ -1,8 +1,8 @@
 /*
  * Goldstein's six numbers for every line of a netlist, for callers in C and C++.
  *
- * Link target/staticlib/libscoap_c.a, which 'rt staticlib scoap_c' builds. The entry takes nothing from
- * the heap and less than SCOAP_STACK bytes of stack.
+ * Link target/staticlib/libscoap_c.a, which 'rt staticlib scoap_c' builds. No call takes anything from the heap,
+ * and each but scoap_plan takes less than SCOAP_STACK bytes of stack.
  */
 #ifndef SCOAP_H
 #define SCOAP_H
@@ -41,10 +41,11 @@ extern "C" {
 #define SCOAP_REFUSED 1000000u
 
 /*
- * Why a pair of texts is refused, in the words of README's table, to which tests/refusals holds them. The
- * number 1 needs a lent table and can't come from here; 16 is unused.
+ * Why a call is refused, in the words of README's table, to which tests/refusals holds them. 16 is unused.
  */
 enum scoap_refusal {
+    /* a lent table is shorter than its published size */
+    SCOAP_TABLE_SHORT = 1,
     /* a text has more than 65,535 bytes */
     SCOAP_TEXT_TOO_LONG = 2,
 
@@ -92,7 +93,13 @@ enum scoap_refusal {
     /* a range on a line that is not marked input above */
     SCOAP_NOT_INPUT = 21,
     /* a bound of a range is not 1 to 999, LOW is above HIGH, or the line has a range already */
-    SCOAP_RANGE = 22
+    SCOAP_RANGE = 22,
+
+    /* the netlist does not mention the line, or it is an output already; or the standing table holds such a pad,
+       or a count of pads above 1,000 */
+    SCOAP_UNPADDABLE = 23,
+    /* the ticket's count of pads is not the present one */
+    SCOAP_TICKET_STALE = 24
 };
 
 /*
@@ -191,6 +198,67 @@ enum scoap_never {
  * to scoap_report.
  */
 uint64_t scoap_qualifies(const uint8_t *lib, size_t lib_len, const uint8_t *net, size_t net_len);
+
+/* Numbers of a standing table, and the place of line 1's six costs in it. */
+#define SCOAP_STANDING 7005u
+#define SCOAP_STANDING_NUMBERS 1005u
+
+/* Numbers that scoap_ask answers with: CO and SO of line 1, of line 2, and so on up to line 1,000. */
+#define SCOAP_OBSERVED 2000u
+
+/* Costs are numbers up to 999,999,999; above that stand these two. */
+#define SCOAP_OVER 1000000000u
+#define SCOAP_NEVER 1000000001u
+
+/*
+ * A standing analysis: pads are asked for and placed one by one, and the numbers are always those of a new
+ * analysis with the pads placed so far as outputs. No pad raises a CO or an SO. The caller keeps the analysis, in
+ * a standing table of SCOAP_STANDING numbers, and lends the two texts again with each call:
+ *
+ *   place 0          the count of pads placed
+ *   places 1 to 4    the sweeps of CC, SC, CO and SO
+ *   places 5 to 1004 the pads in the order of their commits, 0 after the last
+ *   places 1005 on   six costs for each line 1 to 1,000: cc0, cc1, sc0, sc1, co, so
+ *
+ * The texts, tables and buffers are lent as to scoap_report: each pointer is valid for its length, none is null,
+ * and what is written overlaps nothing else. A table or an answer may be longer than its size; entries past it
+ * keep their values. With ranges all numbers of the table and of an answer are those at LOW.
+ *
+ * A refusal is answered as scoap_report answers it. 1 and 2 come first and touch nothing; 23, and after it 24,
+ * come after those of the texts and have line 0.
+ */
+
+/*
+ * Analyses a library and a netlist, writes the report as scoap_report does, and the standing table without a pad.
+ * Answers the report's length. A refusal other than 1 and 2 leaves the whole table and the report zero.
+ */
+uint64_t scoap_stand(const uint8_t *lib, size_t lib_len, const uint8_t *net, size_t net_len,
+                     uint32_t *standing, size_t standing_len, uint8_t *report, size_t report_len);
+
+/*
+ * Asks what a pad would do: writes CO and SO of all lines, as they were with the line marked output besides,
+ * into answer, SCOAP_OBSERVED numbers; a line that the netlist does not mention holds SCOAP_NEVER. Changes
+ * nothing else.
+ *
+ * Answers the count of pads placed so far, which is at most 1,000 and with the line makes up the ticket.
+ * Refused by 1, 2, what the texts are refused by, and 23; then nothing is touched.
+ */
+uint64_t scoap_ask(const uint8_t *lib, size_t lib_len, const uint8_t *net, size_t net_len,
+                   const uint32_t *standing, size_t standing_len, uint64_t line,
+                   uint32_t *answer, size_t answer_len);
+
+/*
+ * Places a pad by its ticket, the line and the count that scoap_ask answered, and makes exactly the numbers stand
+ * that it wrote. CC and SC and their sweeps stay; the sweeps of CO and SO are those of the new analysis.
+ *
+ * Answers the count of pads placed now. Refused as scoap_ask is, and by 24 where another pad was placed since;
+ * then nothing is touched.
+ *
+ * Of a table that no scoap_stand and scoap_commit over these texts left, these two calls take the count, the pads
+ * and the CC and SC as they are, any number above SCOAP_NEVER as never, and find CO and SO over them.
+ */
+uint64_t scoap_commit(const uint8_t *lib, size_t lib_len, const uint8_t *net, size_t net_len,
+                      uint32_t *standing, size_t standing_len, uint64_t line, uint64_t count);
 
 /* The two parts of a refusal. */
 static inline unsigned scoap_number(uint64_t answer)

@@ -1,5 +1,5 @@
 /*
- * The stack that the C entry needs: each case runs on a thread whose stack was painted before, and
+ * The stack that the C entries need: each case runs on a thread whose stack was painted before, and
  * the lowest byte that lost its paint is looked for afterwards. What the thread itself takes, a few
  * thousand bytes, counts as the entry's. Calls for memory from the heap are counted, too, by the
  * linker's --wrap. The last line counts: 'N passed, M failed'.
@@ -27,9 +27,13 @@ static size_t lib_length;
 static size_t net_length;
 static uint64_t answer;
 /* Which entry is called. The library's text is the line of a truth table for CELL. */
-static enum { REPORT, PLAN, CELL, BUILT_IN, QUALIFIES } entry;
+static enum { REPORT, PLAN, CELL, BUILT_IN, QUALIFIES, STAND, ASK, COMMIT } entry;
 /* The line whose plan is written out, at 1. */
 static unsigned plan;
+/* A standing analysis, what is asked of it, and the line of the pad. */
+static uint32_t standing[SCOAP_STANDING];
+static uint32_t asked[SCOAP_OBSERVED];
+static unsigned pad;
 
 static volatile int entered;
 static volatile unsigned taken;
@@ -82,6 +86,18 @@ static void *run(void *unused)
         break;
     case QUALIFIES:
         answer = scoap_qualifies((const uint8_t *)lib, lib_length, (const uint8_t *)net, net_length);
+        break;
+    case STAND:
+        answer = scoap_stand((const uint8_t *)lib, lib_length, (const uint8_t *)net, net_length,
+                             standing, SCOAP_STANDING, report, sizeof report);
+        break;
+    case ASK:
+        answer = scoap_ask((const uint8_t *)lib, lib_length, (const uint8_t *)net, net_length,
+                           standing, SCOAP_STANDING, pad, asked, SCOAP_OBSERVED);
+        break;
+    case COMMIT:
+        answer = scoap_commit((const uint8_t *)lib, lib_length, (const uint8_t *)net, net_length,
+                              standing, SCOAP_STANDING, pad, standing[0]);
         break;
     }
     entered = 0;
@@ -145,7 +161,7 @@ static void measure(const char *label, unsigned number)
     size_t own = used();
     unsigned is = answer < SCOAP_REFUSED ? 0 : scoap_number(answer);
 
-    printf("%-34s %8zu bytes of stack\n", label, own);
+    printf("%-38s %8zu bytes of stack\n", label, own);
     if (is != number) {
         printf("FAILED: %s: answer %llu, number %u was meant\n", label,
                (unsigned long long)answer, number);
@@ -160,6 +176,25 @@ static void measure(const char *label, unsigned number)
     } else {
         passed++;
     }
+}
+
+/* The texts just put together, held as a standing analysis: a pad is asked for and placed. */
+static void measure_pad(const char *label, unsigned line)
+{
+    char text[64];
+
+    pad = line;
+    snprintf(text, sizeof text, "%s, held", label);
+    entry = STAND;
+    measure(text, 0);
+    snprintf(text, sizeof text, "%s, a pad asked for", label);
+    entry = ASK;
+    measure(text, 0);
+    snprintf(text, sizeof text, "%s, placed", label);
+    entry = COMMIT;
+    measure(text, 0);
+    measure("the same once more", SCOAP_UNPADDABLE);
+    entry = REPORT;
 }
 
 static const char nand2[] = "Name,NAND2,2\nCC,13,21,M,5\nCO,203,211\nSC,12,20,M,4\nSO,202,210\nEnd\n";
@@ -211,6 +246,7 @@ int main(void)
     }
     add_net("output,1000\n");
     measure("1,999 sweeps", 0);
+    measure_pad("1,999 sweeps", 500);
     /* The same at both ends of a range. */
     add_net("range,1,1,999\n");
     measure("1,999 sweeps, twice", 0);
@@ -226,6 +262,7 @@ int main(void)
         add_net(text);
     }
     measure("full entries, full rows", 0);
+    measure_pad("full entries", 500);
 
     /* Texts as long as they may be: many lines, many fields, one field. */
     start();
@@ -240,6 +277,11 @@ int main(void)
     start();
     memset(net, ',', net_length = SCOAP_MOST_TEXT);
     measure("a netlist of commas", 10);
+    entry = ASK;
+    measure("an ask with a netlist of commas", 10);
+    entry = COMMIT;
+    measure("a commit with a netlist of commas", 10);
+    entry = REPORT;
     start();
     memset(net, '1', net_length = SCOAP_MOST_TEXT);
     measure("a netlist of one field", 10);
@@ -268,6 +310,11 @@ int main(void)
     start();
     memset(net, '\n', net_length = SCOAP_MOST_TEXT + 1);
     measure("a text too long", 2);
+    entry = ASK;
+    measure("an ask with a text too long", 2);
+    entry = COMMIT;
+    measure("a commit with a text too long", 2);
+    entry = REPORT;
 
     /* The deepest tree: the 1 comes from the own 0, and the 0 from the 1 before. */
     start();

@@ -2,3 +2,4 @@ pub mod Coding
 pub mod Cells
 pub mod Plans
 pub mod Qualifying
+pub mod Standing

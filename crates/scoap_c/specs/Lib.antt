@@ -3,3 +3,4 @@ pub mod Cell
 pub mod BuiltIn
 pub mod Plan
 pub mod Qualifies
+pub mod Standing

@@ -1,19 +1,24 @@
 // The calls for C, in one archive, `libscoap_c.a`, with one header, include/scoap.h. Each has tables of
 // its own, of which no place is used before the call, and answers by one number.
 //
-// Open to others: `scoap_report`, `scoap_plan`, `scoap_cell`, `scoap_built_in` and `scoap_qualifies`. They have no
-// condition on their input; specs/Coded.antt, specs/Plan.antt, specs/Cell.antt, specs/BuiltIn.antt and
-// specs/Qualifies.antt say what they promise.
+// Open to others: `scoap_report`, `scoap_plan`, `scoap_cell`, `scoap_built_in`, `scoap_qualifies`, `scoap_stand`,
+// `scoap_ask` and `scoap_commit`. They have no condition on their input; specs/Coded.antt, specs/Plan.antt,
+// specs/Cell.antt, specs/BuiltIn.antt, specs/Qualifies.antt and specs/Standing.antt say what they promise.
 use netlist::Rules;
 use outcome::Answer;
 use read_pair::Progress;
 use read_pair::read_texts;
+use standing::Pads;
 use writer::refusal_code;
+ghost use mathlib.Core.Path.{_≡_};
+ghost use Rattle.writer.specs.Buffer.{LineBelow, codeOf};
+ghost use Rattle.standing.specs.Calls.{padsRead};
 ghost use Rattle.scoap_c.specs.BuiltIn.{BuiltInCoded};
 ghost use Rattle.scoap_c.specs.Cell.{CellCoded};
 ghost use Rattle.scoap_c.specs.Coded.{Coded};
 ghost use Rattle.scoap_c.specs.Plan.{PlanCoded};
 ghost use Rattle.scoap_c.specs.Qualifies.{QualifiesCoded};
+ghost use Rattle.scoap_c.specs.Standing.{StandCoded, AskCoded, CommitCoded};
 
 // For C: tables of its own, and one number for the answer: the report's length when accepted, else
 // the refusal number times 1,000,000 plus the line.
@@ -115,4 +120,68 @@ pub extern "C" fn scoap_qualifies(lib: &[u8], net: &[u8]) -> u64
         Progress::Later(r) => refusal_code(r),
         Progress::Unrefused => qualifying::qualifies(&library, &netlist) as u64,
     }
+}
+
+// For C: an analysis that is to stand, its report and its standing table, on tables of its own, and one number for the
+// answer: the report's length, else the refusal number times 1,000,000 plus the line.
+#[no_mangle]
+pub extern "C" fn scoap_stand(
+    lib: &[u8],
+    net: &[u8],
+    standing: &mut [u32],
+    report: &mut [u8],
+) -> u64
+    ensures { λ r. ⌜ StandCoded (now (lib .entry)) (now (net .entry)) (now (standing .entry)) (now (report .entry))
+        (now (standing .exit)) (now (report .exit)) r ⌝ }
+{
+    let answer = standing::stand(lib, net, standing, report);
+    match answer {
+        Answer::Accepted(s) => s.length as u64,
+        Answer::Refused(r) => refusal_code(r),
+    }
+}
+
+// A count of pads, or the refusal, by one number.
+fn pads_code(pads: Pads) -> u64
+    requires { ⌜ LineBelow (padsRead pads) ⌝ }
+    ensures { λ n. ⌜ n ≡ codeOf (padsRead pads) ⌝ }
+{
+    match pads {
+        Pads::Count(n) => n as u64,
+        Pads::Refused(r) => refusal_code(r),
+    }
+}
+
+// For C: asks for a pad on a line: the number of pads placed so far, and in the answer the CO and SO of each line; else
+// the refusal number times 1,000,000 plus the line.
+#[no_mangle]
+pub extern "C" fn scoap_ask(
+    lib: &[u8],
+    net: &[u8],
+    standing: &[u32],
+    line: u64,
+    answer: &mut [u32],
+) -> u64
+    ensures { λ r. ⌜ AskCoded (now (lib .entry)) (now (net .entry)) (now (standing .entry)) line
+        (now (answer .entry)) (now (answer .exit)) r ⌝ }
+{
+    let asked = standing::ask(lib, net, standing, line as usize, answer);
+    pads_code(asked)
+}
+
+// For C: commits a ticket, a line and the number that its ask answered: the number of pads placed then, else the refusal
+// number times 1,000,000 plus the line.
+#[no_mangle]
+pub extern "C" fn scoap_commit(
+    lib: &[u8],
+    net: &[u8],
+    standing: &mut [u32],
+    line: u64,
+    count: u64,
+) -> u64
+    ensures { λ r. ⌜ CommitCoded (now (lib .entry)) (now (net .entry)) (now (standing .entry)) line count
+        (now (standing .exit)) r ⌝ }
+{
+    let committed = standing::commit(lib, net, standing, line as usize, count as usize);
+    pads_code(committed)
 }

@@ -4,9 +4,10 @@
 // For the crates above: `calculate`, over the library and the netlist table of accepted texts, which
 // answers the type `Counts` of crate `calculation` (calculation/specs/Stored.antt says what it asks and what
 // it leaves); and its halves, `set_lines` and `observe_lines`, each of which goes on from whatever numbers
-// stand there (specs/Halves.antt). Starting and running stay apart: crate `starting` lays the start, and
-// crate `links` makes what all sweeps need of the netlist. No inner function tests a bound, here or in
-// crate `visits`: what each asks of the tables (specs/Fits.antt) is shown once, for the halves.
+// stand there (specs/Halves.antt); `hand_over`, which lays found numbers into a lent table. Starting and
+// running stay apart: crate `starting` lays the start, and crate `links` makes what all sweeps need of the
+// netlist. No inner function tests a bound, here or in crate `visits`: what each asks of the tables
+// (specs/Fits.antt) is shown once, for the halves.
 //
 // A sweep goes from one awake gate to the next (crate `awake`), and makes the visits of each (crate
 // `visits`): a gate that is not awake is one whose visits change nothing, so that numbers and counts are
@@ -183,7 +184,7 @@ pub fn observe_lines(
 }
 
 // Lays numbers into the first of a lent table.
-fn hand_over(found: &[u32; sizes::NUMBERS], numbers: &mut [u32])
+pub fn hand_over(found: &[u32; sizes::NUMBERS], numbers: &mut [u32])
     requires { ⌜ (length (now found) ≡ Size.numbers) × (Size.numbers ≤ length (now numbers)) ⌝ }
     ensures { λ _.
         ⌜ now (numbers .exit) ≡ now (found .entry) ++ drop Size.numbers (now (numbers .entry)) ⌝ }

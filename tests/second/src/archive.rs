@@ -1,5 +1,6 @@
-//! The C entry of the proved archive; include/scoap.h describes it. Only programs that link the
-//! archive may call it.
+//! The C entries of the proved archive; include/scoap.h describes them. Only programs that link the
+//! archive may call them.
+#![allow(dead_code)] // each of these programs calls some
 
 mod c {
     extern "C" {
@@ -17,14 +18,12 @@ mod c {
             entry: *mut u8,
             entry_len: usize,
         ) -> u64;
-        #[allow(dead_code)]
         pub fn scoap_qualifies(
             lib: *const u8,
             lib_len: usize,
             net: *const u8,
             net_len: usize,
         ) -> u64;
-        #[allow(dead_code)]
         pub fn scoap_plan(
             lib: *const u8,
             lib_len: usize,
@@ -35,6 +34,37 @@ mod c {
             kind: u64,
             text: *mut u8,
             text_len: usize,
+        ) -> u64;
+        pub fn scoap_stand(
+            lib: *const u8,
+            lib_len: usize,
+            net: *const u8,
+            net_len: usize,
+            standing: *mut u32,
+            standing_len: usize,
+            report: *mut u8,
+            report_len: usize,
+        ) -> u64;
+        pub fn scoap_ask(
+            lib: *const u8,
+            lib_len: usize,
+            net: *const u8,
+            net_len: usize,
+            standing: *const u32,
+            standing_len: usize,
+            line: u64,
+            answer: *mut u32,
+            answer_len: usize,
+        ) -> u64;
+        pub fn scoap_commit(
+            lib: *const u8,
+            lib_len: usize,
+            net: *const u8,
+            net_len: usize,
+            standing: *mut u32,
+            standing_len: usize,
+            line: u64,
+            count: u64,
         ) -> u64;
     }
 }
@@ -53,13 +83,11 @@ pub fn scoap_report(lib: &[u8], net: &[u8], report: &mut [u8]) -> u64 {
     }
 }
 
-#[allow(dead_code)]
 pub fn scoap_cell(line: &[u8], entry: &mut [u8]) -> u64 {
     // Each slice is valid for its length, and the two do not overlap.
     unsafe { c::scoap_cell(line.as_ptr(), line.len(), entry.as_mut_ptr(), entry.len()) }
 }
 
-#[allow(dead_code)]
 pub fn scoap_plan(
     lib: &[u8],
     net: &[u8],
@@ -84,8 +112,56 @@ pub fn scoap_plan(
     }
 }
 
-#[allow(dead_code)]
 pub fn scoap_qualifies(lib: &[u8], net: &[u8]) -> u64 {
     // Each slice is valid for its length.
     unsafe { c::scoap_qualifies(lib.as_ptr(), lib.len(), net.as_ptr(), net.len()) }
+}
+
+pub fn scoap_stand(lib: &[u8], net: &[u8], standing: &mut [u32], report: &mut [u8]) -> u64 {
+    // Each slice is valid for its length, and no two overlap.
+    unsafe {
+        c::scoap_stand(
+            lib.as_ptr(),
+            lib.len(),
+            net.as_ptr(),
+            net.len(),
+            standing.as_mut_ptr(),
+            standing.len(),
+            report.as_mut_ptr(),
+            report.len(),
+        )
+    }
+}
+
+pub fn scoap_ask(lib: &[u8], net: &[u8], standing: &[u32], line: u64, answer: &mut [u32]) -> u64 {
+    // Each slice is valid for its length, and no two overlap.
+    unsafe {
+        c::scoap_ask(
+            lib.as_ptr(),
+            lib.len(),
+            net.as_ptr(),
+            net.len(),
+            standing.as_ptr(),
+            standing.len(),
+            line,
+            answer.as_mut_ptr(),
+            answer.len(),
+        )
+    }
+}
+
+pub fn scoap_commit(lib: &[u8], net: &[u8], standing: &mut [u32], line: u64, count: u64) -> u64 {
+    // Each slice is valid for its length, and no two overlap.
+    unsafe {
+        c::scoap_commit(
+            lib.as_ptr(),
+            lib.len(),
+            net.as_ptr(),
+            net.len(),
+            standing.as_mut_ptr(),
+            standing.len(),
+            line,
+            count,
+        )
+    }
 }

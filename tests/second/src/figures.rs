@@ -130,6 +130,9 @@ line,cc0,cc1,sc0,sc1,co,so
 sweeps,3,3,3,3
 ";
 
+/// CO and SO of the latch's four lines with a pad on line 4: each input is seen at its own gate.
+pub const LATCH_ASKED: [u32; 8] = [3, 0, 3, 0, 0, 0, 0, 0];
+
 /// A line that nothing drives and nothing reads but its output mark: no value is ever set.
 pub const UNDRIVEN_NET: &str = "output,1\nopen,1\n";
 pub const UNDRIVEN_REPORT: &str = "\

@@ -56,6 +56,24 @@ pub struct Pair {
     pub cells: Vec<CellForm>,
 }
 
+impl Pair {
+    /// The lines that the netlist mentions, each as often as it does.
+    pub fn mentioned(&self) -> Vec<u64> {
+        let number =
+            |field: &Vec<u8>| -> u64 { std::str::from_utf8(field).unwrap().parse().unwrap() };
+        let mut lines = Vec::new();
+        for line in &self.net.lines {
+            let numbers = if line[0] == b"gate" {
+                &line[2..]
+            } else {
+                &line[1..2]
+            };
+            lines.extend(numbers.iter().map(number));
+        }
+        lines
+    }
+}
+
 pub fn fields(line: &str) -> Fields {
     line.split(',')
         .map(|field| field.as_bytes().to_vec())

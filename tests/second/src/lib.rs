@@ -18,6 +18,7 @@ pub mod random;
 pub mod refusal;
 mod report;
 pub mod shapes;
+pub mod standing;
 mod sweep;
 mod text;
 
@@ -39,6 +40,23 @@ pub const MOST_BYTES: usize = 65_535;
 pub struct Refusal {
     pub number: u32,
     pub line: u32,
+}
+
+impl Refusal {
+    /// One that belongs to no line of a text.
+    fn whole(number: u32) -> Self {
+        Refusal { number, line: 0 }
+    }
+
+    /// In the form of the C entries.
+    pub fn code(self) -> u64 {
+        u64::from(self.number) * 1_000_000 + u64::from(self.line)
+    }
+
+    /// Whether it was found before anything was read; then nothing that was lent is touched.
+    fn at_entry(self) -> bool {
+        self.number <= TEXT_LONG
+    }
 }
 
 #[derive(Clone, Debug, PartialEq, Eq)]
@@ -64,19 +82,21 @@ pub fn analyse(lib: &[u8], net: &[u8], room: usize) -> Answer {
 
 fn both_read(lib: &[u8], net: &[u8]) -> Result<(library::Library, netlist::Netlist), Refusal> {
     if lib.len() > MOST_BYTES || net.len() > MOST_BYTES {
-        return Err(Refusal {
-            number: TEXT_LONG,
-            line: 0,
-        });
+        return Err(Refusal::whole(TEXT_LONG));
     }
     let library = library::read(lib)?;
     let netlist = netlist::read(net, &library, Rules::New)?;
     Ok((library, netlist))
 }
 
+/// The analysis at low prices.
+fn low(library: &library::Library, netlist: &netlist::Netlist) -> (sweep::Numbers, Counts) {
+    sweep::run(library, netlist, |line| netlist.price(line, 0))
+}
+
 fn accepted(lib: &[u8], net: &[u8], room: usize) -> Result<(Vec<u8>, Counts), Refusal> {
     let (library, netlist) = both_read(lib, net)?;
-    let (numbers, counts) = sweep::run(&library, &netlist, |line| netlist.price(line, 0));
+    let (numbers, counts) = low(&library, &netlist);
     let mut report = report::write(&netlist, &numbers, &counts);
     if netlist.ranged() {
         let (numbers, counts) = sweep::run(&library, &netlist, |line| netlist.price(line, 1));
@@ -84,10 +104,7 @@ fn accepted(lib: &[u8], net: &[u8], room: usize) -> Result<(Vec<u8>, Counts), Re
         report.extend(report::write(&netlist, &numbers, &counts));
     }
     if report.len() > room {
-        return Err(Refusal {
-            number: REPORT_LONG,
-            line: 0,
-        });
+        return Err(Refusal::whole(REPORT_LONG));
     }
     Ok((report, counts))
 }
@@ -100,12 +117,12 @@ pub fn report_into(lib: &[u8], net: &[u8], buffer: &mut [u8]) -> u64 {
             buffer[..report.len()].copy_from_slice(&report);
             report.len() as u64
         }
-        Err(Refusal { number, line }) => {
+        Err(refusal) => {
             // A refusal at entry touches nothing; every later one clears the whole buffer.
-            if number > TEXT_LONG {
+            if !refusal.at_entry() {
                 buffer.fill(0);
             }
-            u64::from(number) * 1_000_000 + u64::from(line)
+            refusal.code()
         }
     }
 }
@@ -114,7 +131,7 @@ pub fn report_into(lib: &[u8], net: &[u8], buffer: &mut [u8]) -> u64 {
 pub fn qualifies_code(lib: &[u8], net: &[u8]) -> u64 {
     match both_read(lib, net) {
         Ok((library, netlist)) => qualifies::qualifies(&library, &netlist),
-        Err(Refusal { number, line }) => u64::from(number) * 1_000_000 + u64::from(line),
+        Err(refusal) => refusal.code(),
     }
 }
 
@@ -127,12 +144,11 @@ pub fn plan_into(
     kind: u64,
     buffer: &mut [u8],
 ) -> u64 {
-    let at_line_0 = |number| Refusal { number, line: 0 };
     let written = both_read(lib, net).and_then(|(library, netlist)| {
         let text = plan::write(&library, &netlist, line, value, kind, buffer.len())
-            .ok_or(at_line_0(NO_FIGURE))?;
+            .ok_or(Refusal::whole(NO_FIGURE))?;
         if text.len() > buffer.len() {
-            return Err(at_line_0(PLAN_LONG));
+            return Err(Refusal::whole(PLAN_LONG));
         }
         Ok(text)
     });
@@ -141,11 +157,11 @@ pub fn plan_into(
             buffer[..text.len()].copy_from_slice(&text);
             text.len() as u64
         }
-        Err(Refusal { number, line }) => {
-            if number > TEXT_LONG {
+        Err(refusal) => {
+            if !refusal.at_entry() {
                 buffer.fill(0);
             }
-            u64::from(number) * 1_000_000 + u64::from(line)
+            refusal.code()
         }
     }
 }

@@ -5,7 +5,7 @@ use crate::cost::Cost;
 use crate::library::{Library, MOST_PINS};
 use crate::refusal::{
     CELL_UNKNOWN, DRIVEN_BEFORE, LINE_BAD, MARKED_BEFORE, NETLIST_FORM, NOT_INPUT, PINS_DIFFER,
-    RANGE_BAD, UNDECLARED,
+    RANGE_BAD, UNDECLARED, UNPADDABLE,
 };
 use crate::text::{self, Line, Lines};
 use crate::Refusal;
@@ -96,6 +96,19 @@ impl Netlist {
     /// high one, which is 1.
     pub fn price(&self, line: usize, end: usize) -> Cost {
         self.marks[line].range.map_or(1, |range| range[end])
+    }
+
+    /// Marks a line output that the netlist mentions and that is none yet, or answers the number that refuses it.
+    pub fn pad(&mut self, line: u64) -> Result<(), u32> {
+        let place = usize::try_from(line).unwrap_or(usize::MAX);
+        match self.marks.get_mut(place) {
+            // Nothing mentions place 0.
+            Some(marks) if marks.mentioned && !marks.output => {
+                marks.output = true;
+                Ok(())
+            }
+            _ => Err(UNPADDABLE),
+        }
     }
 
     /// Takes a line in, or answers the lowest number that holds of it.

@@ -1,6 +1,8 @@
 //! The refusal numbers. Their names are those of crates/reading, their words those of README's table:
 //! tests/refusals compares them.
 
+/// a lent table is shorter than its published size
+pub const TABLE_SHORT: u32 = 1;
 /// a text has more than 65,535 bytes
 pub const TEXT_LONG: u32 = 2;
 /// bad form: a wrong word, a missing or empty field, a bad number or name, an `M` or a `Z` out of
@@ -43,3 +45,8 @@ pub const UNDECLARED: u32 = 20;
 pub const NOT_INPUT: u32 = 21;
 /// a bound of a range is not 1 to 999, LOW is above HIGH, or the line has a range already
 pub const RANGE_BAD: u32 = 22;
+/// the netlist does not mention the line, or it is an output already; or the standing table holds such a pad, or
+/// a count of pads above 1,000
+pub const UNPADDABLE: u32 = 23;
+/// the ticket's count of pads is not the present one
+pub const TICKET_STALE: u32 = 24;

@@ -147,6 +147,10 @@ fn random_pair(seed: u64, gates: usize, wiring: Wiring) -> Pair {
     pair
 }
 
+fn c17() -> Case {
+    Case::of("C17", NAND2, C17_NET, vec![Gates(6), Sweeps([2; 4])])
+}
+
 /// The same statements, shuffled.
 fn any_order(mut pair: Pair) -> Pair {
     Random::from(SEED).shuffle(&mut pair.net.lines);
@@ -294,7 +298,7 @@ fn longest_report() -> Case {
 /// All of them, the heaviest last.
 pub fn all() -> Vec<Case> {
     vec![
-        Case::of("C17", NAND2, C17_NET, vec![Gates(6), Sweeps([2; 4])]),
+        c17(),
         forward(100),
         forward_any_order(100),
         forward(300),
@@ -314,5 +318,18 @@ pub fn all() -> Vec<Case> {
         longest_report(),
         slow(999),
         heaviest(),
+    ]
+}
+
+/// Those that pads are asked for and placed on.
+pub fn held() -> Vec<Case> {
+    vec![
+        c17(),
+        forward(950),
+        random(950),
+        random_any_order(950),
+        loops(950),
+        long_library_many_gates(),
+        slow(999),
     ]
 }

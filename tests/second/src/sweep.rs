@@ -35,13 +35,20 @@ pub fn run(
             numbers.cc[line] = [price(line); 2];
             numbers.sc[line] = [0, 0];
         }
-        if marks.output {
-            numbers.co[line] = 0;
-            numbers.so[line] = 0;
-        }
     }
     let cc = set(library, netlist, combinational, &mut numbers.cc);
     let sc = set(library, netlist, sequential, &mut numbers.sc);
+    let [co, so] = observe_both(library, netlist, &mut numbers);
+    (numbers, [cc, sc, co, so])
+}
+
+/// CO and SO from their start, over the costs of setting that the numbers hold, and their sweeps.
+pub fn observe_both(library: &Library, netlist: &Netlist, numbers: &mut Numbers) -> [u32; 2] {
+    for (line, marks) in netlist.marks.iter().enumerate() {
+        let start = if marks.output { 0 } else { NEVER };
+        numbers.co[line] = start;
+        numbers.so[line] = start;
+    }
     let co = observe(
         library,
         netlist,
@@ -50,7 +57,7 @@ pub fn run(
         &mut numbers.co,
     );
     let so = observe(library, netlist, sequential, &numbers.sc, &mut numbers.so);
-    (numbers, [cc, sc, co, so])
+    [co, so]
 }
 
 fn combinational(cell: &Cell) -> &Ways {

@@ -5,12 +5,15 @@
 //!
 //! Before a shape is timed, both sides must have given the same answer and the same bytes, and the
 //! shape must be what its label says; else the program fails.
+//!
+//! Last, what an ask for a pad costs: the archive's own scoap_ask and scoap_commit over its scoap_report.
 
 #[path = "../archive.rs"]
 mod archive;
 
 use second::report_into;
 use second::shapes::{self, Case, SEED};
+use second::standing::{ask_into, OBSERVED, STANDING};
 use std::hint::black_box;
 use std::process::ExitCode;
 use std::time::Duration;
@@ -54,11 +57,11 @@ fn call(entry: Entry, case: &Case, buffer: &mut [u8]) -> u64 {
     )
 }
 
-/// The time of `calls` calls.
-fn batch(entry: Entry, case: &Case, buffer: &mut [u8], calls: u32) -> Duration {
+/// The time of `calls` calls of a side.
+fn batch(run: &mut impl FnMut(usize) -> u64, side: usize, calls: u32) -> Duration {
     let start = now();
     for _ in 0..calls {
-        black_box(call(entry, case, buffer));
+        black_box(run(side));
     }
     now() - start
 }
@@ -109,7 +112,7 @@ fn measure(case: &Case) -> Result<Times, String> {
     let [archive, second] = if once.iter().any(|&time| time > LONG) {
         once.map(micros)
     } else {
-        rounds(&entries, case, &mut buffers[0]).map(median)
+        rounds(|side| call(entries[side], case, &mut buffers[0])).map(median)
     };
     Ok(Times {
         archive,
@@ -119,9 +122,9 @@ fn measure(case: &Case) -> Result<Times, String> {
 }
 
 /// Microseconds for one call of each side, round by round.
-fn rounds(entries: &[Entry; 2], case: &Case, buffer: &mut [u8]) -> [Vec<f64>; 2] {
+fn rounds(mut run: impl FnMut(usize) -> u64) -> [Vec<f64>; 2] {
     let mut calls = 1;
-    while batch(report_into, case, buffer, calls) < BATCH && calls < 1 << 20 {
+    while batch(&mut run, 1, calls) < BATCH && calls < 1 << 20 {
         calls *= 2;
     }
     let mut times = [Vec::new(), Vec::new()];
@@ -129,7 +132,7 @@ fn rounds(entries: &[Entry; 2], case: &Case, buffer: &mut [u8]) -> [Vec<f64>; 2]
         // Each side goes first in every other round.
         for turn in 0..2 {
             let side = (round + turn) % 2;
-            let time = batch(entries[side], case, buffer, calls);
+            let time = batch(&mut run, side, calls);
             times[side].push(time.as_secs_f64() * 1e6 / f64::from(calls));
         }
     }
@@ -222,6 +225,84 @@ fn growth() -> bool {
     sound
 }
 
+/// Some lines that an ask accepts, spread over the netlist.
+fn askable(case: &Case, table: &[u32], answer: &mut [u32]) -> Result<Vec<u64>, String> {
+    let mut other = vec![0; OBSERVED];
+    let mut lines = Vec::new();
+    for line in (1..=1_000).step_by(61) {
+        let said = archive::scoap_ask(&case.lib, &case.net, table, line, answer);
+        let wanted = ask_into(&case.lib, &case.net, table, line, &mut other);
+        if said != wanted || (said < 1_000_000 && answer != other) {
+            return Err(format!(
+                "ask {line}: the archive answers {said}, the second {wanted}"
+            ));
+        }
+        if said < 1_000_000 {
+            lines.push(line);
+        }
+    }
+    Ok(lines)
+}
+
+/// Medians in microseconds: of an ask and of a report timed beside it, of a commit and of one beside that.
+fn measure_pads(case: &Case) -> Result<[f64; 4], String> {
+    let mut report = vec![0; ROOM];
+    let mut table = vec![0; STANDING];
+    let mut answer = vec![0; OBSERVED];
+    archive::scoap_stand(&case.lib, &case.net, &mut table, &mut report);
+    let lines = askable(case, &table, &mut answer)?;
+    if lines.is_empty() {
+        return Err("no line can be asked for".to_string());
+    }
+    let mut turn = 0;
+    let mut next = || {
+        turn += 1;
+        lines[turn % lines.len()]
+    };
+    let asks = rounds(|side| match side {
+        0 => archive::scoap_ask(&case.lib, &case.net, &table, next(), &mut answer),
+        _ => call(archive::scoap_report, case, &mut report),
+    });
+    let fresh = table.clone();
+    let commits = rounds(|side| match side {
+        // Each is the first pad.
+        0 => {
+            table.copy_from_slice(&fresh);
+            archive::scoap_commit(&case.lib, &case.net, &mut table, next(), 0)
+        }
+        _ => call(archive::scoap_report, case, &mut report),
+    });
+    let [ask, beside_ask] = asks.map(median);
+    let [commit, beside_commit] = commits.map(median);
+    Ok([ask, beside_ask, commit, beside_commit])
+}
+
+/// What asking for a pad and placing it cost, each as a share of an analysis with its report.
+fn pads() -> bool {
+    println!("pads, by the archive alone: a call's time over that of scoap_report beside it");
+    println!(
+        "{:<27} {:>5} {:>11} {:>11} {:>7} {:>11} {:>7}",
+        "shape", "gates", "report", "ask", "ratio", "commit", "ratio"
+    );
+    let mut sound = true;
+    for case in shapes::held() {
+        match measure_pads(&case) {
+            Ok([ask, beside_ask, commit, beside_commit]) => println!(
+                "{:<27} {:>5} {beside_ask:>11.1} {ask:>11.1} {:>7.4} {commit:>11.1} {:>7.4}",
+                case.label,
+                case.gates(),
+                ask / beside_ask,
+                commit / beside_commit,
+            ),
+            Err(problem) => {
+                failed(&case, &problem);
+                sound = false;
+            }
+        }
+    }
+    sound
+}
+
 fn main() -> ExitCode {
     println!("archive: the proved program, libscoap_c.a, through its C entry");
     println!("second:  the second implementation, a plain program in Rust, tests/second");
@@ -235,7 +316,9 @@ fn main() -> ExitCode {
     let grown = growth();
     println!();
     let timed = table();
-    if grown && timed {
+    println!();
+    let asked = pads();
+    if grown && timed && asked {
         ExitCode::SUCCESS
     } else {
         ExitCode::FAILURE

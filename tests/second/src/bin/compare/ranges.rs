@@ -1,0 +1,67 @@
+//! Netlists with ranges at prices within them.
+
+use crate::archive;
+use crate::comparison::{Comparison, ROOM};
+use second::between::{at_some_prices, between, parts};
+use second::generate::{add_ranges, ladder, pair};
+use second::random::Random;
+
+/// Random pairs with ranges, each tried at prices within them so many times.
+const RANGED: usize = 2_400;
+const PRICINGS: usize = 3;
+
+/// Netlists with ranges: both reports, and those at prices within the ranges, which the archive tells of ranges
+/// whose bounds are the same.
+pub fn ranges(all: &mut Comparison, rng: &mut Random) {
+    let (mut two, mut apart, mut nevers) = (0, 0, 0);
+    for turn in 0..all.extent.count(RANGED) {
+        let mut made = if turn % 3 == 0 {
+            ladder(rng, 1 + turn % 60)
+        } else {
+            pair(rng, 1 + turn % 60)
+        };
+        add_ranges(rng, &mut made);
+        let (lib, net) = (made.lib.bytes(), made.net.bytes());
+        let whole = reports(all, &lib, &net);
+        all.check_rooms("ranges", &lib, &net);
+        let Some([low, high]) = parts(&whole) else {
+            continue;
+        };
+        two += 1;
+        apart += u64::from(low != high);
+        nevers += u64::from(low.windows(5).any(|part| part == b"never"));
+        for _ in 0..PRICINGS {
+            let some = at_some_prices(rng, &made);
+            let whole = reports(all, &some.lib.bytes(), &some.net.bytes());
+            let problem = match parts(&whole) {
+                Some([first, second]) if first == second => between([low, first, high]),
+                _ => Some("the same prices do not give the same report twice".to_string()),
+            };
+            all.verdict("prices within the ranges", problem);
+        }
+    }
+    println!(
+        "{} netlists with ranges, each at {PRICINGS} pricings within them",
+        two
+    );
+    for (title, count) in [
+        ("two reports", two),
+        ("that differ", apart),
+        ("a number that is never", nevers),
+    ] {
+        all.met(title, count);
+    }
+}
+
+/// What the archive reports of an accepted pair, after it was compared with the second implementation.
+fn reports(all: &mut Comparison, lib: &[u8], net: &[u8]) -> Vec<u8> {
+    all.check("ranges", lib, net, 2 * ROOM, None);
+    let mut buffer = vec![0; 2 * ROOM];
+    let answer = archive::scoap_report(lib, net, &mut buffer);
+    buffer.truncate(if answer < 1_000_000 {
+        answer as usize
+    } else {
+        0
+    });
+    buffer
+}
