@@ -1,10 +1,11 @@
 /*
  * An example of a schematic editor's side: it lends two texts and a buffer to the analyser and shows
  * the report, or says in words where the texts stop. Then it places a pad on each line that it is given, after
- * asking what the pad does.
+ * asking what the pad does. While a circuit is being drawn it shows what a few steps tell.
  *
  *     gcc -std=c99 -Iinclude -o editor examples/editor.c target/staticlib/libscoap_c.a
  *     ./editor [LIBRARY NETLIST [LINE ..]]
+ *     ./editor --best STEPS [LIBRARY NETLIST]
  *
  * Without names it shows a bundled example. Exit status: 0 accepted, 1 refused, 2 no texts to lend.
  */
@@ -43,6 +44,9 @@ static size_t net_length;
 /* The standing analysis, and what a pad would make of its CO and SO. */
 static uint32_t standing[SCOAP_STANDING];
 static uint32_t asked[SCOAP_OBSERVED];
+
+/* What a few steps tell. */
+static uint32_t best[SCOAP_BEST];
 
 /* Reads a file up to TEXT bytes. Returns 0 where it can't be read. */
 static int read_text(const char *name, uint8_t *text, size_t *length)
@@ -174,24 +178,74 @@ static int place(uint64_t line)
     return placed < SCOAP_REFUSED ? 0 : refused(placed);
 }
 
+/* What setting a line to a value costs: its number, or what it lies between. */
+static void show_value(const uint32_t *value)
+{
+    if (value[0] == 1) {
+        show_cost(value[1]);
+    } else {
+        show_cost(best[0]);
+        if (value[1] == SCOAP_NEVER) {
+            printf(" or more");
+        } else {
+            printf(" to ");
+            show_cost(value[1]);
+        }
+    }
+}
+
+/* Shows the lines of which some steps tell more than nothing. Returns the exit status. */
+static int show_best(uint64_t budget)
+{
+    uint64_t steps = scoap_best(lib, lib_length, net, net_length, budget, best, SCOAP_BEST);
+
+    if (steps >= SCOAP_REFUSED) {
+        return refused(steps);
+    }
+    printf("after %llu steps:\n", (unsigned long long)steps);
+    for (unsigned line = 1; line <= 1000; line++) {
+        const uint32_t *values = best + 4 * line - 3;
+
+        if (values[1] != SCOAP_NEVER || values[3] != SCOAP_NEVER) {
+            printf("line %u: 0 costs ", line);
+            show_value(values);
+            printf(", 1 costs ");
+            show_value(values + 2);
+            printf("\n");
+        }
+    }
+    return 0;
+}
+
 int main(int argc, char **argv)
 {
     uint64_t answer;
+    uint64_t budget = 0;
+    int drawing = argc > 2 && strcmp(argv[1], "--best") == 0;
     int status = 0;
 
+    if (drawing) {
+        budget = strtoull(argv[2], NULL, 10);
+        argc -= 2;
+        argv += 2;
+    }
     if (argc == 1) {
         lib_length = strlen(example_lib);
         net_length = strlen(example_net);
         memcpy(lib, example_lib, lib_length);
         memcpy(net, example_net, net_length);
     } else if (argc == 2) {
-        fprintf(stderr, "usage: editor [LIBRARY NETLIST [LINE ..]]\n");
+        fprintf(stderr, "usage: editor [LIBRARY NETLIST [LINE ..]]\n"
+                        "       editor --best STEPS [LIBRARY NETLIST]\n");
         return 2;
     } else if (!read_text(argv[1], lib, &lib_length) || !read_text(argv[2], net, &net_length)) {
         fprintf(stderr, "editor: can't read %s and %s\n", argv[1], argv[2]);
         return 2;
     }
 
+    if (drawing) {
+        return show_best(budget);
+    }
     /* Without pads to place a report has to do. */
     if (argc > 3) {
         answer = scoap_stand(lib, lib_length, net, net_length, standing, SCOAP_STANDING, report, sizeof report);

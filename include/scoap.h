@@ -199,16 +199,47 @@ enum scoap_never {
  */
 uint64_t scoap_qualifies(const uint8_t *lib, size_t lib_len, const uint8_t *net, size_t net_len);
 
+/* Costs are numbers up to 999,999,999; above that stand these two. */
+#define SCOAP_OVER 1000000000u
+#define SCOAP_NEVER 1000000001u
+
+/* Numbers of the table that scoap_best writes. */
+#define SCOAP_BEST 4001u
+
+/*
+ * The best numbers that a few steps give, for an editor that cannot wait for an analysis. Each step settles one
+ * value of one line, in combinational terms: the cheapest on offer, among equals that of the lowest line, 0 before
+ * 1. On offer are an input at its price (with ranges at LOW), and a gate's value by a row whose columns are all
+ * settled. It stops after budget steps, or when nothing is on offer. A line has two values, so that a budget of
+ * 2,000 or more is unlimited.
+ *
+ * lib, net    the texts, as for scoap_report
+ * best        the table, best_len numbers, SCOAP_BEST of them written:
+ *
+ *   place 0                       the cost settled last, 0 before any
+ *   places 4 l - 3 and 4 l - 2    line l at 0: 1 and its number where it is settled; else 0 and the present offer,
+ *                                 SCOAP_NEVER where there is none
+ *   places 4 l - 1 and 4 l        line l at 1, likewise
+ *
+ * A settled number is exactly the one that scoap_report has. Every other one lies between place 0 and its offer. A
+ * larger budget changes no settled value; an unlimited one leaves all numbers as scoap_report has them, with never
+ * for what is not settled.
+ *
+ * Answers the number of steps, which is that of settled values and at most 2,000; or a refusal as scoap_report
+ * answers it. No analysis is run and no report made, so that 17 does not come. The table afterwards:
+ *   accepted           as above; numbers past SCOAP_BEST keep their values
+ *   refusals 1 and 2   untouched; 1, which comes first, where best_len is below SCOAP_BEST
+ *   other refusal      all zero
+ */
+uint64_t scoap_best(const uint8_t *lib, size_t lib_len, const uint8_t *net, size_t net_len,
+                    uint64_t budget, uint32_t *best, size_t best_len);
+
 /* Numbers of a standing table, and the place of line 1's six costs in it. */
 #define SCOAP_STANDING 7005u
 #define SCOAP_STANDING_NUMBERS 1005u
 
 /* Numbers that scoap_ask answers with: CO and SO of line 1, of line 2, and so on up to line 1,000. */
 #define SCOAP_OBSERVED 2000u
-
-/* Costs are numbers up to 999,999,999; above that stand these two. */
-#define SCOAP_OVER 1000000000u
-#define SCOAP_NEVER 1000000001u
 
 /*
  * A standing analysis: pads are asked for and placed one by one, and the numbers are always those of a new

@@ -27,13 +27,14 @@ static size_t lib_length;
 static size_t net_length;
 static uint64_t answer;
 /* Which entry is called. The library's text is the line of a truth table for CELL. */
-static enum { REPORT, PLAN, CELL, BUILT_IN, QUALIFIES, STAND, ASK, COMMIT } entry;
+static enum { REPORT, PLAN, CELL, BUILT_IN, QUALIFIES, STAND, ASK, COMMIT, BEST } entry;
 /* The line whose plan is written out, at 1. */
 static unsigned plan;
 /* A standing analysis, what is asked of it, and the line of the pad. */
 static uint32_t standing[SCOAP_STANDING];
 static uint32_t asked[SCOAP_OBSERVED];
 static unsigned pad;
+static uint32_t best[SCOAP_BEST];
 
 static volatile int entered;
 static volatile unsigned taken;
@@ -98,6 +99,10 @@ static void *run(void *unused)
     case COMMIT:
         answer = scoap_commit((const uint8_t *)lib, lib_length, (const uint8_t *)net, net_length,
                               standing, SCOAP_STANDING, pad, standing[0]);
+        break;
+    case BEST:
+        answer = scoap_best((const uint8_t *)lib, lib_length, (const uint8_t *)net, net_length,
+                            UINT64_MAX, best, SCOAP_BEST);
         break;
     }
     entered = 0;
@@ -197,6 +202,17 @@ static void measure_pad(const char *label, unsigned line)
     entry = REPORT;
 }
 
+/* The same texts, and what steps without a limit tell of them. */
+static void measure_best(const char *label, unsigned number)
+{
+    char text[64];
+
+    snprintf(text, sizeof text, "%s, settled by steps", label);
+    entry = BEST;
+    measure(text, number);
+    entry = REPORT;
+}
+
 static const char nand2[] = "Name,NAND2,2\nCC,13,21,M,5\nCO,203,211\nSC,12,20,M,4\nSO,202,210\nEnd\n";
 /* The 0 comes from the own 1 and the 1 from the 0 before: 2G + 1 sweeps where listed backwards. */
 static const char slow[] = "Name,SLOW,2\nCC,3,21\nCO,203,211\nSC,2,20\nSO,202,210\nEnd\n";
@@ -236,6 +252,7 @@ int main(void)
         add_net(text);
     }
     measure("1,000 gates in loops", 0);
+    measure_best("1,000 gates in loops", 0);
 
     start();
     add_lib(slow);
@@ -247,6 +264,7 @@ int main(void)
     add_net("output,1000\n");
     measure("1,999 sweeps", 0);
     measure_pad("1,999 sweeps", 500);
+    measure_best("1,999 sweeps", 0);
     /* The same at both ends of a range. */
     add_net("range,1,1,999\n");
     measure("1,999 sweeps, twice", 0);
@@ -263,6 +281,7 @@ int main(void)
     }
     measure("full entries, full rows", 0);
     measure_pad("full entries", 500);
+    measure_best("full entries", 0);
 
     /* Texts as long as they may be: many lines, many fields, one field. */
     start();
@@ -281,7 +300,7 @@ int main(void)
     measure("an ask with a netlist of commas", 10);
     entry = COMMIT;
     measure("a commit with a netlist of commas", 10);
-    entry = REPORT;
+    measure_best("a netlist of commas", 10);
     start();
     memset(net, '1', net_length = SCOAP_MOST_TEXT);
     measure("a netlist of one field", 10);
@@ -314,7 +333,7 @@ int main(void)
     measure("an ask with a text too long", 2);
     entry = COMMIT;
     measure("a commit with a text too long", 2);
-    entry = REPORT;
+    measure_best("a text too long", 2);
 
     /* The deepest tree: the 1 comes from the own 0, and the 0 from the 1 before. */
     start();

@@ -28,19 +28,20 @@ use Rattle.netlist.specs.Netlist as NL
 use Rattle.netlist.proofs.Laws.{marked-mentioned, gate-mentioned}
 use Rattle.calculation.proofs.Accepting.{pin-count}
 use Rattle.calculation.proofs.Bounding.{apart, works, settled, all-inside, numbers-length, numbers-bounded}
-use Rattle.calculation.proofs.Planning.{system, start-first, generally, written}
+use Rattle.calculation.specs.Systems.{systemAt}
+use Rattle.calculation.proofs.Planning.{start-first, generally, written}
 
 module _ (cells : List Cell) (ss : List Statement) (sound : BothSound cells ss) (price : Pricing) (figures : Figures price ss) where
   -- The theorem of crate `plans` at this netlist.
-  pub generally-exact : (n : ℕ) → GeneralExact.Exact (system price cells ss) n (at (analysedAt price cells ss .numbers) n)
+  pub generally-exact : (n : ℕ) → GeneralExact.Exact (systemAt price cells ss) n (at (analysedAt price cells ss .numbers) n)
   generally-exact =
-      stages-exact (system price cells ss) (stages cells (gatesOf ss)) (startAt price ss) (analysedAt price cells ss .numbers) (inOrder (analysedAt price cells ss .counts)) refl
-      (all-inside cells ss sound price figures) (apart cells ss sound) (works cells ss sound price figures) (first-start (system price cells ss) (startAt price ss) (start-first price ss figures))
+      stages-exact (systemAt price cells ss) (stages cells (gatesOf ss)) (startAt price ss) (analysedAt price cells ss .numbers) (inOrder (analysedAt price cells ss .counts)) refl
+      (all-inside cells ss sound price figures) (apart cells ss sound) (works cells ss sound price figures) (first-start (systemAt price cells ss) (startAt price ss) (start-first price ss figures))
       (settled cells ss sound price figures)
 
   module _ (k : Kind) (p : Purpose) (placed : Placed p) where
     -- What is exact among the plans of crate `plans` is exact among document 01's.
-    pub exact-here : (x : ℕ) → GeneralExact.Exact (system price cells ss) (node k p) x → ExactAt price cells ss k p x
+    pub exact-here : (x : ℕ) → GeneralExact.Exact (systemAt price cells ss) (node k p) x → ExactAt price cells ss k p x
     exact-here x e =
         stands-carried (λ q. General.cost q) (λ d. costAt price d) (λ q. written cells ss sound price figures q k p placed refl)
         (λ d. generally cells ss sound price figures d) x e

@@ -8,6 +8,7 @@ pub mod Needing
 pub mod Planning
 pub mod Exactness
 pub mod Between
+pub mod Budgeting
 pub mod Observing
 pub mod Rows
 pub mod Outputs

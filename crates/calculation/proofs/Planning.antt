@@ -23,6 +23,7 @@ use Rattle.calculation.specs.Prices.{Pricing, Figures, inputCost}
 use Rattle.calculation.specs.Ways.{cellOf, asked, needs, Role, setting, observing, purposeOf, groupOf, asks, isWay, wayOf, waysOf, visit}
 use Rattle.calculation.specs.Acceptance.{BothSound}
 use Rattle.calculation.specs.Calculation.{startAt, stages}
+use Rattle.calculation.specs.Systems.{priceOf, priceAt, systemAt}
 use Rattle.calculation.specs.Plans.{Plan, Plan.input, Plan.row, Plan.output, Plan.through, Plans, Plans.done, Plans.also, costAt, costsAt}
 use Rattle.calculation.proofs.Placing.{Placed, node-injective, cost-figure, start-at, start-bounded}
 use Rattle.calculation.proofs.Visiting.{Has, Visiting, Offer, offer, offer-needs, usable-listed, asks-named, observing-is-way}
@@ -33,27 +34,15 @@ use Rattle.calculation.proofs.Bounding.{all-from, all-listed}
 
 -- ---- the system of a netlist
 
--- A number as a price: none where it is never.
-priceOf : Bool → ℕ → Option ℕ
-priceOf true x = none
-priceOf false x = some x
-
--- What stands in the table at the start.
-pub priceAt : Pricing → List Statement → ℕ → Option ℕ
-priceAt price ss n = priceOf (eqb (at (startAt price ss) n) never) (at (startAt price ss) n)
-
-abbrev pub system : Pricing → List Cell → List Statement → System
-system price cells ss = record { price = priceAt price ss; visits = allVisits (stages cells (gatesOf ss)) }
-
 -- A price where there is one.
-offered : Bool → ℕ → Option ℕ
-offered true c = some c
-offered false c = none
+priceWhere : Bool → ℕ → Option ℕ
+priceWhere true c = some c
+priceWhere false c = none
 
-offered-some : (b : Bool) (a c : ℕ) → offered b a ≡ some c → (b ≡ true) × (a ≡ c)
-unfolding offered
-offered-some true a c e = (refl, cc)
-offered-some false a c e = (cc, cc)
+where-some : (b : Bool) (a c : ℕ) → priceWhere b a ≡ some c → (b ≡ true) × (a ≡ c)
+unfolding priceWhere
+where-some true a c e = (refl, cc)
+where-some false a c e = (cc, cc)
 
 module _ (price : Pricing) (ss : List Statement) (figures : Figures price ss) where
   pub start-first : (n : ℕ) → at (startAt price ss) n ≡ first (priceAt price ss n)
@@ -68,34 +57,34 @@ module _ (price : Pricing) (ss : List Statement) (figures : Figures price ss) wh
           omega arith
 
   -- What a mark prices: an input's values, an output observed.
-  price-marked : (n : ℕ) (b : Bool) (c : ℕ) → (b ≡ true → c ≤ most) → at (startAt price ss) n ≡ pick b c never → priceAt price ss n ≡ offered b c
-  unfolding priceAt priceOf offered pick
+  price-marked : (n : ℕ) (b : Bool) (c : ℕ) → (b ≡ true → c ≤ most) → at (startAt price ss) n ≡ pick b c never → priceAt price ss n ≡ priceWhere b c
+  unfolding priceAt priceOf priceWhere pick
   price-marked n true c h e = rw (e, ne-eqb c never (λ q. omega (arith, h refl)))
   price-marked n false c h e = rw e
 
-  price-set : (k : Kind) (l v : ℕ) → Placed (set l v) → priceAt price ss (node k (set l v)) ≡ offered (isInput l ss) (inputCost price k l)
+  price-set : (k : Kind) (l v : ℕ) → Placed (set l v) → priceAt price ss (node k (set l v)) ≡ priceWhere (isInput l ss) (inputCost price k l)
   price-set k l v h = price-marked (node k (set l v)) (isInput l ss) (inputCost price k l) (cost-figure price ss figures k l) (start-at price ss k (set l v) h)
 
-  price-observe : (k : Kind) (l : ℕ) → Placed (observe l) → priceAt price ss (node k (observe l)) ≡ offered (isOutput l ss) 0
+  price-observe : (k : Kind) (l : ℕ) → Placed (observe l) → priceAt price ss (node k (observe l)) ≡ priceWhere (isOutput l ss) 0
   price-observe k l h = price-marked (node k (observe l)) (isOutput l ss) 0 (λ e. omega arith) (start-at price ss k (observe l) h)
 
 -- ---- from document 01's plans
 
 -- A plan of crate `plans` for the purpose, at a cost.
 abbrev Generally : Pricing → List Cell → List Statement → Kind → Purpose → ℕ → Type 0
-Generally price cells ss k p c = (q : General.Plan (system price cells ss) (node k p)) × (General.cost q ≡ c)
+Generally price cells ss k p c = (q : General.Plan (systemAt price cells ss) (node k p)) × (General.cost q ≡ c)
 
 abbrev GenerallyAll : Pricing → List Cell → List Statement → Kind → Gate → List Column → ℕ → Type 0
-GenerallyAll price cells ss k g cs c = (q : General.Plans (system price cells ss) (needs k g cs)) × (General.costs q ≡ c)
+GenerallyAll price cells ss k g cs c = (q : General.Plans (systemAt price cells ss) (needs k g cs)) × (General.costs q ≡ c)
 
 module _ (cells : List Cell) (ss : List Statement) (sound : BothSound cells ss) (price : Pricing) (figures : Figures price ss) where
   from-input : (k : Kind) (l v : ℕ) → v ≤ 1 → isInput l ss ≡ true → Generally price cells ss k (set l v) (inputCost price k l)
-  unfolding offered General.cost
-  from-input k l v h e = (General.priced (inputCost price k l) (price-set price ss figures k l v (marked-in-range cells ss (sound .netlist) NL.input l e, h) ∙ ap (λ (b : Bool). offered b (inputCost price k l)) e), refl)
+  unfolding priceWhere General.cost
+  from-input k l v h e = (General.priced (inputCost price k l) (price-set price ss figures k l v (marked-in-range cells ss (sound .netlist) NL.input l e, h) ∙ ap (λ (b : Bool). priceWhere b (inputCost price k l)) e), refl)
 
   from-output : (k : Kind) (l : ℕ) → isOutput l ss ≡ true → Generally price cells ss k (observe l) 0
-  unfolding offered General.cost
-  from-output k l e = (General.priced 0 (price-observe price ss figures k l (marked-in-range cells ss (sound .netlist) NL.output l e) ∙ ap (λ (b : Bool). offered b 0) e), refl)
+  unfolding priceWhere General.cost
+  from-output k l e = (General.priced 0 (price-observe price ss figures k l (marked-in-range cells ss (sound .netlist) NL.output l e) ∙ ap (λ (b : Bool). priceWhere b 0) e), refl)
 
   -- A row of a role's group, with plans for all that it asks for.
   from-role : (k : Kind) (g : Gate) → List·Memᴰ g (gatesOf ss) → (role : Role) → Has (cellOf cells g) role
@@ -151,10 +140,10 @@ module _ (cells : List Cell) (ss : List Statement) (sound : BothSound cells ss) 
   to-priced : (k : Kind) (p : Purpose) → Placed p → (c : ℕ) → priceAt price ss (node k p) ≡ some c → Written price cells ss k p c
   unfolding costAt
   to-priced k (set l v) h c e =
-      let t : (isInput l ss ≡ true) × (inputCost price k l ≡ c) = offered-some (isInput l ss) (inputCost price k l) c (sym (price-set price ss figures k l v h) ∙ e) in
+      let t : (isInput l ss ≡ true) × (inputCost price k l ≡ c) = where-some (isInput l ss) (inputCost price k l) c (sym (price-set price ss figures k l v h) ∙ e) in
       (input (h .1) (t .0), t .1)
   to-priced k (observe l) h c e =
-      let t : (isOutput l ss ≡ true) × (0 ≡ c) = offered-some (isOutput l ss) 0 c (sym (price-observe price ss figures k l h) ∙ e) in
+      let t : (isOutput l ss ≡ true) × (0 ≡ c) = where-some (isOutput l ss) 0 c (sym (price-observe price ss figures k l h) ∙ e) in
       (output (t .0), t .1)
 
   -- The plans for what a way needs, whatever gate and columns it comes from.
@@ -198,11 +187,11 @@ module _ (cells : List Cell) (ss : List Statement) (sound : BothSound cells ss) 
   mutual
     unfolding needs costsAt General.cost
 
-    pub written : {n : ℕ} (q : General.Plan (system price cells ss) n) (k : Kind) (p : Purpose) → Placed p → n ≡ node k p → Written price cells ss k p (General.cost q)
+    pub written : {n : ℕ} (q : General.Plan (systemAt price cells ss) n) (k : Kind) (p : Purpose) → Placed p → n ≡ node k p → Written price cells ss k p (General.cost q)
     written (General.priced c e) k p h i = to-priced k p h c (rw i at e)
     written (General.chosen {n = n} w o qs) k p h i = to-chosen k p n h i w o (General.costs qs) (λ j g cs a f. written-all qs j g cs a f)
 
-    pub written-all : {ns : List ℕ} (qs : General.Plans (system price cells ss) ns) (k : Kind) (g : Gate) (cs : List Column) → AllPlaced g cs → ns ≡ needs k g cs → WrittenAll price cells ss k g cs (General.costs qs)
+    pub written-all : {ns : List ℕ} (qs : General.Plans (systemAt price cells ss) ns) (k : Kind) (g : Gate) (cs : List Column) → AllPlaced g cs → ns ≡ needs k g cs → WrittenAll price cells ss k g cs (General.costs qs)
     written-all General.done k g [] a e = (done, refl)
     written-all General.done k g (c ∷ cs) a e = absurd (nil≢cons e)
     written-all (General.also q qs) k g [] a e = absurd (cons≢nil e)

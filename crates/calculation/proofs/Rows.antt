@@ -29,7 +29,8 @@ use Rattle.calculation.proofs.Placing.{node-injective, start-length}
 use Rattle.calculation.proofs.Visiting.{Sets, Has, sets-has, Visiting, visiting-node, setting-from, usable-from, usable-listed}
 use Rattle.calculation.proofs.Accepting.{purpose-placed}
 use Rattle.calculation.proofs.Bounding.{all-from, all-listed, apart, works, works-from, settled, all-inside, sets-never, numbers-length, numbers-bounded}
-use Rattle.calculation.proofs.Planning.{priceAt, system, start-first}
+use Rattle.calculation.specs.Systems.{priceAt, systemAt}
+use Rattle.calculation.proofs.Planning.{start-first}
 use Rattle.calculation.proofs.Exactness.{generally-exact}
 
 -- ---- a cell
@@ -72,11 +73,11 @@ module _ (cells more : List Cell) (ss : List Statement) (old : BothSound cells s
   visit-ways k g m role w i = grown-ways (cellOf cells g) (cellOf more g) (added g m) k g role w i
 
   -- Whatever could be done can be done still.
-  pub ways-added : WaysAdded (system price cells ss) (system price more ss)
+  pub ways-added : WaysAdded (systemAt price cells ss) (systemAt price more ss)
   unfolding visit
   ways-added = record { prices = λ n. refl; ways = λ n w o. there n w o (all-from cells gs (o .visit) (o .listed)) }
     where
-      there : (n : ℕ) (w : Way) (o : Offers (system price cells ss .visits) n w) → (k : Kind) × Visiting Has k cells gs (o .visit) → Offers (system price more ss .visits) n w
+      there : (n : ℕ) (w : Way) (o : Offers (systemAt price cells ss .visits) n w) → (k : Kind) × Visiting Has k cells gs (o .visit) → Offers (systemAt price more ss .visits) n w
       there n w o (k, t) =
           record {
             visit = visit k more (t .gate) (t .role);
@@ -88,7 +89,7 @@ module _ (cells more : List Cell) (ss : List Statement) (old : BothSound cells s
           }
 
   -- Each way to a value of a gate's output is a row of that gate.
-  setting-ways : (k : Kind) (v : Visit) → List·Memᴰ v (settingVisits k more gs) → (w : Way) → Offers (system price cells ss .visits) (v .node) w → List·Memᴰ w (v .ways)
+  setting-ways : (k : Kind) (v : Visit) → List·Memᴰ v (settingVisits k more gs) → (w : Way) → Offers (systemAt price cells ss .visits) (v .node) w → List·Memᴰ w (v .ways)
   unfolding purposeOf
   setting-ways k v m w o = there (setting-from k more gs v m) (all-from cells gs (o .visit) (o .listed))
     where
@@ -120,15 +121,15 @@ module _ (cells more : List Cell) (ss : List Statement) (old : BothSound cells s
   works-on : AllWork (stages more gs) standing
   works-on =
       works-from more ss new standing (numbers-length cells ss old price figures) (numbers-bounded cells ss old price figures)
-      (λ k. standing-above (system price cells ss) (settingVisits k more gs) standing (generally-exact cells ss old price figures) (unpriced k) (setting-ways k))
+      (λ k. standing-above (systemAt price cells ss) (settingVisits k more gs) standing (generally-exact cells ss old price figures) (unpriced k) (setting-ways k))
 
   -- The runs come to the numbers of a new analysis.
   pub goes-on : (a : Analysed) → Stages (stages more gs) standing (inOrder (a .counts)) (a .numbers) → a .numbers ≡ analysedAt price more ss .numbers
   goes-on a run =
-      continued (system price cells ss) (system price more ss) (stages more gs) standing (startAt price ss) (a .numbers) (analysedAt price more ss .numbers)
+      continued (systemAt price cells ss) (systemAt price more ss) (stages more gs) standing (startAt price ss) (a .numbers) (analysedAt price more ss .numbers)
       (inOrder (a .counts)) (inOrder (analysedAt price more ss .counts)) ways-added (generally-exact cells ss old price figures) refl (apart more ss new)
       (numbers-length cells ss old price figures ∙ sym (start-length price ss)) (all-inside more ss new price figures) works-on (works more ss new price figures)
-      (first-start (system price more ss) (startAt price ss) (start-first price ss figures)) run (settled more ss new price figures)
+      (first-start (systemAt price more ss) (startAt price ss) (start-first price ss figures)) run (settled more ss new price figures)
 
   -- The runs from the numbers that stand settle, within document 01's bounds.
   within-on : AllWithin (stages more gs) standing

@@ -2,6 +2,7 @@ pub mod Nodes
 pub mod Prices
 pub mod Ways
 pub mod Calculation
+pub mod Systems
 pub mod Runs
 pub mod Plans
 pub mod Settled
@@ -13,4 +14,5 @@ pub mod Standing
 pub mod Advice
 pub mod Changes
 pub mod Between
+pub mod Budget
 pub mod Stored

@@ -1,5 +1,5 @@
--- The theorems that specs/Statements.antt, specs/Stages.antt and specs/Idle.antt state, and the laws of tables and sweeps that
--- other crates cite.
+-- The theorems that specs/Statements.antt, specs/Stages.antt, specs/Idle.antt and specs/Budget.antt state, and the laws of
+-- tables and sweeps that other crates cite.
 -- Assumes nothing.
 use mathlib.Core.List.{List}
 use mathlib.Core.Path.{refl}
@@ -44,6 +44,8 @@ pub use Rattle.plans.proofs.Comparing.{stands-least, stands-carried, ex
 pub use Rattle.plans.proofs.Table.{at-ext}
 pub use Rattle.plans.proofs.Standing.{exact-table, standing-start, priced-start, standing-above, continued, settled-stays, lower-start, between-settles, pad-settles, pad-idle, lowered-stages, lowered-under}
 pub use Rattle.plans.proofs.Alike.{lower-reads, renew-reads, rests-alike, alike-settles}
+-- ---- numbers within a budget (K12), as specs/Budget.antt states it; `way-fixed`, what an offer is, for a reader
+pub use Rattle.plans.proofs.Budgeting.{way-fixed, fixed-exact, other-between, budget-stops, steps-counted, more-budget, budget-ends, budget-same, idle-same, among-most, first-cheapest, step-first, step-none, bid-open, bid-kept, offered-one, offered-none}
 -- ---- what request K3 rests on
 pub use Rattle.plans.proofs.Tracing.{first-least, traced-numbers, traces-agree, unmarked-stood, settled-row}
 

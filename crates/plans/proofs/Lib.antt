@@ -9,6 +9,7 @@ mod Without
 mod Bounds
 mod Staging
 mod Comparing
+mod Budgeting
 mod Tracing
 mod Standing
 mod Alike

@@ -20,6 +20,7 @@ use Rattle.plans.specs.System.{
 use Rattle.plans.specs.Sweep.{at, renew, lower, Run, run, sweep-open, Inside, Bounded, Visited}
 use Rattle.plans.specs.Exact.{Exact, Start, first}
 use Rattle.plans.specs.Trace.{traceSweeps, untraced, trace-open}
+use Rattle.plans.specs.Budget.{offer, budgeted, budget-open}
 use Rattle.plans.specs.Statements.{SettlesWithin}
 use Rattle.plans.proofs.Exactness.{attained-bound}
 use Rattle.plans.proofs.Laws.{first-start, visited-bound, run-exact}
@@ -158,3 +159,21 @@ marks-twice : traceSweeps lower twice 3 (untraced (1 ∷ never ∷ never ∷ [])
     }
 unfolding sweep-open trace-open
 marks-twice = refl
+
+-- ---- within a budget: the loop again. Node 0 is an input, 1 comes from it twice or from 2, 2 from 1.
+
+budget-none : budgeted loop (0 ∷ 1 ∷ 2 ∷ []) 3 0 ≡ record { numbers = never ∷ never ∷ never ∷ []; steps = 0; last = 0 }
+unfolding sweep-open budget-open inputs
+budget-none = refl
+
+budget-two : budgeted loop (0 ∷ 1 ∷ 2 ∷ []) 3 2 ≡ record { numbers = 1 ∷ 3 ∷ never ∷ []; steps = 2; last = 3 }
+unfolding sweep-open budget-open inputs
+budget-two = refl
+
+budget-offer : offer loop (budgeted loop (0 ∷ 1 ∷ 2 ∷ []) 3 2 .numbers) 2 ≡ 4
+unfolding sweep-open budget-open inputs
+budget-offer = refl
+
+budget-all : budgeted loop (0 ∷ 1 ∷ 2 ∷ []) 3 9 ≡ record { numbers = 1 ∷ 3 ∷ 4 ∷ []; steps = 3; last = 4 }
+unfolding sweep-open budget-open inputs
+budget-all = refl

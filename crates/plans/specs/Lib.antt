@@ -2,6 +2,7 @@ pub mod System
 pub mod Sweep
 pub mod Idle
 pub mod Exact
+pub mod Budget
 pub mod Trace
 pub mod Statements
 pub mod Stages

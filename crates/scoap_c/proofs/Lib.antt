@@ -3,3 +3,4 @@ pub mod Cells
 pub mod Plans
 pub mod Qualifying
 pub mod Standing
+pub mod Best

@@ -4,3 +4,4 @@ pub mod BuiltIn
 pub mod Plan
 pub mod Qualifies
 pub mod Standing
+pub mod Best

@@ -2,8 +2,9 @@
 // its own, of which no place is used before the call, and answers by one number.
 //
 // Open to others: `scoap_report`, `scoap_plan`, `scoap_cell`, `scoap_built_in`, `scoap_qualifies`, `scoap_stand`,
-// `scoap_ask` and `scoap_commit`. They have no condition on their input; specs/Coded.antt, specs/Plan.antt,
-// specs/Cell.antt, specs/BuiltIn.antt, specs/Qualifies.antt and specs/Standing.antt say what they promise.
+// `scoap_ask`, `scoap_commit` and `scoap_best`. They have no condition on their input; specs/Coded.antt, specs/Plan.antt,
+// specs/Cell.antt, specs/BuiltIn.antt, specs/Qualifies.antt, specs/Standing.antt and specs/Best.antt say what they promise.
+use best::Steps;
 use netlist::Rules;
 use outcome::Answer;
 use read_pair::Progress;
@@ -13,6 +14,7 @@ use writer::refusal_code;
 ghost use mathlib.Core.Path.{_≡_};
 ghost use Rattle.writer.specs.Buffer.{LineBelow, codeOf};
 ghost use Rattle.standing.specs.Calls.{padsRead};
+ghost use Rattle.scoap_c.specs.Best.{BestCoded};
 ghost use Rattle.scoap_c.specs.BuiltIn.{BuiltInCoded};
 ghost use Rattle.scoap_c.specs.Cell.{CellCoded};
 ghost use Rattle.scoap_c.specs.Coded.{Coded};
@@ -184,4 +186,18 @@ pub extern "C" fn scoap_commit(
 {
     let committed = standing::commit(lib, net, standing, line as usize, count as usize);
     pads_code(committed)
+}
+
+// For C: the best numbers within a budget of steps, in a buffer of `sizes::BEST` numbers, on tables of its own, and one
+// number for the answer: how many steps were made, else the refusal number times 1,000,000 plus the line. Nothing is
+// swept, and nothing reported.
+#[no_mangle]
+pub extern "C" fn scoap_best(lib: &[u8], net: &[u8], budget: u64, best: &mut [u32]) -> u64
+    ensures { λ r. ⌜ BestCoded (now (lib .entry)) (now (net .entry)) budget (now (best .entry)) (now (best .exit)) r ⌝ }
+{
+    let steps = best::best_within(lib, net, budget as usize, best);
+    match steps {
+        Steps::Made(n) => n as u64,
+        Steps::Refused(r) => refusal_code(r),
+    }
 }

@@ -1,6 +1,6 @@
 -- Where each thing stands in the lent tables, docs/TABLES.md. Cells, groups, rows and gates count from 0, lines from 1.
 -- Assumes nothing.
-use Prim.Native.Nat.{ℕ, _+_, _*_, _-_}
+use Prim.Native.Nat.{ℕ, _+_, _*_, _-_, _/_, _%_}
 use Rattle.sizes.specs.Sizes as Size
 
 -- ---- the library table
@@ -57,3 +57,16 @@ observingPlace kind l = linePlace l + Size.observedAt + kind
 -- The first number of a line at a value.
 abbrev pub markPlace : ℕ → ℕ → ℕ
 markPlace l v = (l * Size.values + v) * Size.markWords
+
+-- ---- best numbers within a budget
+
+-- The leaf of a line at a value, and where the number of a leaf's value stands in the numbers table.
+abbrev pub leafOf : ℕ → ℕ → ℕ
+leafOf l v = (l - 1) * Size.values + v
+
+abbrev pub leafPlace : ℕ → ℕ
+leafPlace i = i / Size.values * Size.costs + i % Size.values
+
+-- Whether the value of a leaf is fixed; its number or its offer stands behind it.
+abbrev pub flagPlace : ℕ → ℕ
+flagPlace i = Size.flagsAt + i * Size.flagWords

@@ -231,3 +231,23 @@ markWords = 4
 
 abbrev pub marks : ℕ
 marks = linePlaces * values * markWords
+
+-- ---- best numbers within a budget
+
+-- The queue of crate `queue`: a leaf for each line and value, and as many places before the leaves, of which the first is for
+-- none.
+abbrev pub leaves : ℕ
+leaves = lines * values
+
+abbrev pub queue : ℕ
+queue = 2 * leaves
+
+-- What is handed out: the cost of the last step; then for each leaf whether its value is fixed, and its number or its offer.
+abbrev pub flagsAt : ℕ
+flagsAt = 1
+
+abbrev pub flagWords : ℕ
+flagWords = 2
+
+abbrev pub best : ℕ
+best = flagsAt + leaves * flagWords

@@ -163,3 +163,19 @@ pub const LINKS: usize = TIED_AT + GATES;
 pub const MARK_WORDS: usize = 4;
 
 pub const MARKS: usize = LINE_PLACES * VALUES * MARK_WORDS;
+
+// ---- best numbers within a budget
+
+// The queue of crate `queue`: a leaf for each line and value, and as many places before the leaves, of
+// which the first is for none.
+pub const LEAVES: usize = LINES * VALUES;
+
+pub const QUEUE: usize = 2 * LEAVES;
+
+// What is handed out: the cost of the last step; then for each leaf whether its value is fixed, and its
+// number or its offer.
+pub const FLAGS_AT: usize = 1;
+
+pub const FLAG_WORDS: usize = 2;
+
+pub const BEST: usize = FLAGS_AT + LEAVES * FLAG_WORDS;

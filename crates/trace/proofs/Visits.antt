@@ -3,7 +3,7 @@
 use mathlib.Core.Bool.{Bool, true, false}
 use mathlib.Core.List.{List, [], _∷_}
 use mathlib.Core.Option.{Option, some}
-use mathlib.Core.Path.{_≡_, refl, sym, ap, subst, _∙_}
+use mathlib.Core.Path.{_≡_, refl, sym, ap, _∙_}
 use Prim.Native.Nat.{ℕ, suc, _+_, _*_, _^_, _≤_, _<_}
 use native.Mathlib.Omega.{arith}
 use lib.ListN.{length, getD, set, length-set}
@@ -16,11 +16,9 @@ use Rattle.plans.specs.Sweep.{at, least, lower}
 use Rattle.plans.specs.Trace.{firstPlace, Trace, traceVisit, traceSweep}
 use Rattle.plans.proofs.Laws.{at-getD}
 use Rattle.netlist.specs.Gates.{gateCell, gateLines}
-use Rattle.gates.specs.Tables.{readRow, gatePins, byRole, roleColumns, visitGroup, visitPlace, gateTied, visitWired, groupVisit, gateVisit}
+use Rattle.gates.specs.Tables.{readRow, gatePins, byRole, roleColumns, visitGroup, visitPlace, gateTied, groupVisit}
 use Rattle.gates.specs.Fits.{LinesFit, Gathered, GatherFits, GroupFits, GateFits, SumFits}
-use Rattle.gates.proofs.Gathering.{group-same, group-wider, read-narrow}
-use Rattle.visits.proofs.Visits.{visit-is}
-use Rattle.visits.proofs.Turning.{gather-first, rows-same}
+use Rattle.visits.proofs.Groups as Group
 use Rattle.trace.specs.declared.Least.{Least}
 use Rattle.trace.specs.Marks.{rowPlace, wayRow, gateRow, lastPin, writtenRow, askingRow, Stands}
 use Rattle.trace.specs.Runs.{LeastOf, Fits, turnVisit, Traced}
@@ -34,24 +32,22 @@ module _ (kind : ℕ) (library netlist links numbers marks : List ℕ) (fits : F
   gate-fits = fits .tablesFit .gates g inside
 
   pub lines-fit : LinesFit lines pins
-  lines-fit = rw (lines-are, pins-are) (gate-fits .lines)
+  lines-fit = Group.lines-fit kind (fits .kindFits) library netlist g e gate-fits value lines pins group lines-are pins-are group-is
 
   few-columns : roleColumns 0 pins ≤ Size.columns
-  unfolding byRole pick
-  few-columns = omega (arith, lines-fit .count)
+  few-columns = Group.few-columns kind (fits .kindFits) library netlist g e gate-fits value lines pins group lines-are pins-are group-is
 
   rows-fit : GroupFits library group (roleColumns 0 pins)
-  unfolding byRole pick
-  rows-fit = rows-same 0 group-is pins-are (gate-fits .groups 0 kind e (omega arith) (fits .kindFits) (omega arith))
+  rows-fit = Group.rows-fit kind (fits .kindFits) library netlist g e gate-fits value lines pins group lines-are pins-are group-is
 
   pub rows-room : group + 1 + Size.rowWords * getD library group 0 ≤ length library
   rows-room = rows-fit .room
 
   pub sum-fits : (costs : List ℕ) → length costs ≡ Size.columns → SumFits kind library group costs
-  sum-fits costs size = record { kindFits = fits .kindFits; groupFits = group-wider few-columns rows-fit; size = size }
+  sum-fits = Group.sum-fits kind (fits .kindFits) library netlist g e gate-fits value lines pins group lines-are pins-are group-is
 
   pub gather-fits : (costs : List ℕ) → length costs ≡ Size.columns → GatherFits true 0 kind lines pins numbers costs
-  gather-fits costs size = gather-first 0 (fits .kindFits) lines-fit (fits .size) size
+  gather-fits costs size = Group.gather-fits kind (fits .kindFits) library netlist g e gate-fits value lines pins group lines-are pins-are group-is numbers costs (fits .size) size
 
   pub place-inside : (place : ℕ) → place ≡ visitPlace 0 kind lines e → place < Size.numbers
   unfolding byRole pick
@@ -59,26 +55,20 @@ module _ (kind : ℕ) (library netlist links numbers marks : List ℕ) (fits : F
 
   module _ (place : ℕ) (place-is : place ≡ visitPlace 0 kind lines e) (wired : Bool) (tied : wired ≡ gateTied library netlist g) where
     abbrev here : Visit
-    here = groupVisit (wired) kind lines pins library group place
+    here = groupVisit wired kind lines pins library group place
 
     abbrev read : ℕ → Option ℕ
-    read = readRow (wired) lines pins
+    read = readRow wired lines pins
 
     narrow : (c x : ℕ) → c < 2 ^ roleColumns 0 pins → read c ≡ some x → x < 2 ^ roleColumns 0 pins
-    unfolding byRole pick
-    narrow = read-narrow (wired) lines pins (2 * pins) (omega arith)
-
-    wired-is : wired ≡ visitWired 0 library netlist g
-    unfolding byRole pick
-    wired-is = tied
+    narrow = Group.narrow kind (fits .kindFits) library netlist g e gate-fits value lines pins group lines-are pins-are group-is place place-is wired tied
 
     same-visit : here ≡ turnVisit kind library netlist g e
-    same-visit = visit-is 0 kind library netlist g e group place pins lines (wired) wired-is lines-are pins-are group-is place-is
+    same-visit = Group.same-visit kind (fits .kindFits) library netlist g e gate-fits value lines pins group lines-are pins-are group-is place place-is wired tied
 
     module _ (costs : List ℕ) (gathered : Gathered (roleColumns 0 pins) kind lines pins numbers costs) (said : Least) (leastOf : LeastOf read library group costs said) where
       least-is : said .number ≡ least numbers (here .ways)
-      unfolding groupVisit
-      least-is = leastOf .number ∙ group-same gathered read narrow library group few-columns rows-fit
+      least-is = leastOf .number ∙ Group.columns-least kind (fits .kindFits) library netlist g e gate-fits value lines pins group lines-are pins-are group-is place place-is wired tied numbers costs gathered
 
       row-is : said .row ≡ gateRow kind library netlist g e (firstPlace numbers (here .ways))
       unfolding groupVisit byRole pick

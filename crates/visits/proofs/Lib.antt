@@ -1,3 +1,4 @@
 pub mod Visits
 pub mod Waking
 pub mod Turning
+pub mod Groups

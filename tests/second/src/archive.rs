@@ -66,6 +66,15 @@ mod c {
             line: u64,
             count: u64,
         ) -> u64;
+        pub fn scoap_best(
+            lib: *const u8,
+            lib_len: usize,
+            net: *const u8,
+            net_len: usize,
+            budget: u64,
+            best: *mut u32,
+            best_len: usize,
+        ) -> u64;
     }
 }
 
@@ -162,6 +171,21 @@ pub fn scoap_commit(lib: &[u8], net: &[u8], standing: &mut [u32], line: u64, cou
             standing.len(),
             line,
             count,
+        )
+    }
+}
+
+pub fn scoap_best(lib: &[u8], net: &[u8], budget: u64, best: &mut [u32]) -> u64 {
+    // Each slice is valid for its length, and no two overlap.
+    unsafe {
+        c::scoap_best(
+            lib.as_ptr(),
+            lib.len(),
+            net.as_ptr(),
+            net.len(),
+            budget,
+            best.as_mut_ptr(),
+            best.len(),
         )
     }
 }

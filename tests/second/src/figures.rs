@@ -1,6 +1,7 @@
 //! The scope paper's figures to hold, and netlists that grow with a size: texts for the unit tests,
 //! the comparison and the benchmark.
 
+use crate::cost::NEVER;
 use crate::library::{MOST_PINS, MOST_ROWS};
 use std::fmt::Write;
 
@@ -132,6 +133,10 @@ sweeps,3,3,3,3
 
 /// CO and SO of the latch's four lines with a pad on line 4: each input is seen at its own gate.
 pub const LATCH_ASKED: [u32; 8] = [3, 0, 3, 0, 0, 0, 0, 0];
+
+/// What five steps come to on the latch: the last cost, then flag and number for 0 and for 1 of each line. Line 4
+/// is on offer, line 3 at 0 is not.
+pub const LATCH_BEST: [u32; 17] = [2, 1, 1, 1, 1, 1, 1, 1, 1, 0, NEVER, 1, 2, 0, 4, 0, 2];
 
 /// A line that nothing drives and nothing reads but its output mark: no value is ever set.
 pub const UNDRIVEN_NET: &str = "output,1\nopen,1\n";

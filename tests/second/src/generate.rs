@@ -604,6 +604,26 @@ pub fn ladder(rng: &mut Random, gates: usize) -> Pair {
     pair
 }
 
+/// A pair that is accepted: gates one after another, each asking for the 1 of the line before as often as both its
+/// pins do, so that costs double from gate to gate.
+pub fn doubled(rng: &mut Random, gates: usize) -> Pair {
+    let mut pair = Pair::default();
+    // The row that names both values of a pin keeps its pins from being one wire.
+    let entry = "Name,TWICE,2\nCC,21,M,7,13\nCO,203,211\nSC,20,12\nSO,202,210\nEnd";
+    pair.lib.lines = entry.lines().map(fields).collect();
+    pair.cells.push(CellForm {
+        name: b"TWICE".to_vec(),
+        pins: 2,
+        deep: false,
+    });
+    let net = &mut pair.net.lines;
+    net.push(fields("input,1"));
+    net.extend((1..=gates).map(|line| fields(&format!("gate,TWICE,{},{line},{line}", line + 1))));
+    net.push(fields(&format!("output,{}", gates + 1)));
+    rng.shuffle(net);
+    pair
+}
+
 /// A library of just so many bytes, which is accepted: full groups, cut down row by row.
 pub fn library_of(rng: &mut Random, bytes: usize) -> Pair {
     let mut pair = Pair::default();

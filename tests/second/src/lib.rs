@@ -4,6 +4,7 @@
 //! held against. Texts go in; a report or a refusal comes out.
 
 pub mod between;
+pub mod budget;
 pub mod cell;
 pub mod chip;
 mod cost;
@@ -80,6 +81,16 @@ pub fn analyse(lib: &[u8], net: &[u8], room: usize) -> Answer {
     }
 }
 
+/// A call's answer in the form of the C entries: a refusal after the entry clears what was lent.
+fn answered<T: Clone + Default>(answer: Result<u64, Refusal>, lent: &mut [T]) -> u64 {
+    answer.unwrap_or_else(|refusal| {
+        if !refusal.at_entry() {
+            lent.fill(T::default());
+        }
+        refusal.code()
+    })
+}
+
 fn both_read(lib: &[u8], net: &[u8]) -> Result<(library::Library, netlist::Netlist), Refusal> {
     if lib.len() > MOST_BYTES || net.len() > MOST_BYTES {
         return Err(Refusal::whole(TEXT_LONG));
@@ -112,19 +123,11 @@ fn accepted(lib: &[u8], net: &[u8], room: usize) -> Result<(Vec<u8>, Counts), Re
 /// The same with the effect on a lent buffer, in the form of the C entry: the report's length, or
 /// the refusal's number times 1,000,000 plus its line.
 pub fn report_into(lib: &[u8], net: &[u8], buffer: &mut [u8]) -> u64 {
-    match accepted(lib, net, buffer.len()) {
-        Ok((report, _)) => {
-            buffer[..report.len()].copy_from_slice(&report);
-            report.len() as u64
-        }
-        Err(refusal) => {
-            // A refusal at entry touches nothing; every later one clears the whole buffer.
-            if !refusal.at_entry() {
-                buffer.fill(0);
-            }
-            refusal.code()
-        }
-    }
+    let answer = accepted(lib, net, buffer.len()).map(|(report, _)| {
+        buffer[..report.len()].copy_from_slice(&report);
+        report.len() as u64
+    });
+    answered(answer, buffer)
 }
 
 /// What K8 says of a netlist, in the form of the C entry.
@@ -144,24 +147,14 @@ pub fn plan_into(
     kind: u64,
     buffer: &mut [u8],
 ) -> u64 {
-    let written = both_read(lib, net).and_then(|(library, netlist)| {
+    let answer = both_read(lib, net).and_then(|(library, netlist)| {
         let text = plan::write(&library, &netlist, line, value, kind, buffer.len())
             .ok_or(Refusal::whole(NO_FIGURE))?;
         if text.len() > buffer.len() {
             return Err(Refusal::whole(PLAN_LONG));
         }
-        Ok(text)
+        buffer[..text.len()].copy_from_slice(&text);
+        Ok(text.len() as u64)
     });
-    match written {
-        Ok(text) => {
-            buffer[..text.len()].copy_from_slice(&text);
-            text.len() as u64
-        }
-        Err(refusal) => {
-            if !refusal.at_entry() {
-                buffer.fill(0);
-            }
-            refusal.code()
-        }
-    }
+    answered(answer, buffer)
 }

@@ -321,6 +321,17 @@ pub fn all() -> Vec<Case> {
     ]
 }
 
+/// Those whose values are settled step by step, the heaviest last.
+pub fn stepped() -> Vec<Case> {
+    vec![
+        c17(),
+        random(950),
+        inverters_backwards(999),
+        slow(999),
+        heaviest(),
+    ]
+}
+
 /// Those that pads are asked for and placed on.
 pub fn held() -> Vec<Case> {
     vec![

@@ -119,7 +119,7 @@ impl Opened {
     }
 }
 
-fn long_enough(length: usize, size: usize) -> Result<(), Refusal> {
+pub(crate) fn long_enough(length: usize, size: usize) -> Result<(), Refusal> {
     if length < size {
         return Err(Refusal::whole(TABLE_SHORT));
     }

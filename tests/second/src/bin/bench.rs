@@ -6,11 +6,13 @@
 //! Before a shape is timed, both sides must have given the same answer and the same bytes, and the
 //! shape must be what its label says; else the program fails.
 //!
-//! Last, what an ask for a pad costs: the archive's own scoap_ask and scoap_commit over its scoap_report.
+//! Last, by the archive alone: what an ask for a pad and its commit cost over scoap_report, and what steps within a
+//! budget cost.
 
 #[path = "../archive.rs"]
 mod archive;
 
+use second::budget::{best_into, BEST};
 use second::report_into;
 use second::shapes::{self, Case, SEED};
 use second::standing::{ask_into, OBSERVED, STANDING};
@@ -124,6 +126,10 @@ fn measure(case: &Case) -> Result<Times, String> {
 /// Microseconds for one call of each side, round by round.
 fn rounds(mut run: impl FnMut(usize) -> u64) -> [Vec<f64>; 2] {
     let mut calls = 1;
+    let once = batch(&mut run, 1, calls);
+    if once > LONG {
+        return [batch(&mut run, 0, calls), once].map(|time| vec![time.as_secs_f64() * 1e6]);
+    }
     while batch(&mut run, 1, calls) < BATCH && calls < 1 << 20 {
         calls *= 2;
     }
@@ -303,6 +309,71 @@ fn pads() -> bool {
     sound
 }
 
+/// The budgets that are timed: reading alone, some steps, and all that can be settled.
+const NONE: u64 = 0;
+const SOME: u64 = 100;
+const UNLIMITED: u64 = u64::MAX;
+
+/// Medians in microseconds: of some steps and of none beside them, of all steps and of a report beside them.
+fn measure_budgets(case: &Case) -> Result<[f64; 4], String> {
+    let mut best = vec![0; BEST];
+    let mut other = vec![0; BEST];
+    for budget in [NONE, SOME, UNLIMITED] {
+        let said = archive::scoap_best(&case.lib, &case.net, budget, &mut best);
+        let wanted = best_into(&case.lib, &case.net, budget, &mut other);
+        if said != wanted || best != other {
+            return Err(format!(
+                "budget {budget}: the archive answers {said}, the second {wanted}, or other numbers"
+            ));
+        }
+    }
+    let mut report = vec![0; ROOM];
+    let mut within = |budget: u64| {
+        archive::scoap_best(
+            black_box(&case.lib),
+            black_box(&case.net),
+            budget,
+            black_box(&mut best),
+        )
+    };
+    let few = rounds(|side| within([SOME, NONE][side]));
+    let all = rounds(|side| match side {
+        0 => within(UNLIMITED),
+        _ => call(archive::scoap_report, case, &mut report),
+    });
+    let [some, none] = few.map(median);
+    let [unlimited, report] = all.map(median);
+    Ok([some, none, unlimited, report])
+}
+
+/// What steps within a budget cost.
+fn budgets() -> bool {
+    println!(
+        "steps, by the archive alone: {SOME} over none, which is reading; all over scoap_report"
+    );
+    println!(
+        "{:<27} {:>5} {:>11} {:>11} {:>7} {:>11} {:>11} {:>7}",
+        "shape", "gates", "none", "some", "ratio", "report", "all", "ratio"
+    );
+    let mut sound = true;
+    for case in shapes::stepped() {
+        match measure_budgets(&case) {
+            Ok([some, none, unlimited, report]) => println!(
+                "{:<27} {:>5} {none:>11.1} {some:>11.1} {:>7.4} {report:>11.1} {unlimited:>11.1} {:>7.4}",
+                case.label,
+                case.gates(),
+                some / none,
+                unlimited / report,
+            ),
+            Err(problem) => {
+                failed(&case, &problem);
+                sound = false;
+            }
+        }
+    }
+    sound
+}
+
 fn main() -> ExitCode {
     println!("archive: the proved program, libscoap_c.a, through its C entry");
     println!("second:  the second implementation, a plain program in Rust, tests/second");
@@ -318,7 +389,9 @@ fn main() -> ExitCode {
     let timed = table();
     println!();
     let asked = pads();
-    if grown && timed && asked {
+    println!();
+    let stepped = budgets();
+    if grown && timed && asked && stepped {
         ExitCode::SUCCESS
     } else {
         ExitCode::FAILURE

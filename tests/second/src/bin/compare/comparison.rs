@@ -47,7 +47,7 @@ pub struct Comparison {
 
 pub fn answer_of(answer: u64) -> String {
     if answer < 1_000_000 {
-        format!("accepted, {answer} bytes")
+        format!("accepted, {answer}")
     } else {
         format!(
             "refused, {}, line {}",
@@ -83,7 +83,7 @@ impl Comparison {
     }
 
     /// Tells how often something came up that must have: `least` times in a whole run.
-    fn met_at_least(&mut self, least: u64, title: &str, count: u64) {
+    pub fn met_at_least(&mut self, least: u64, title: &str, count: u64) {
         println!("  {title:<34} {count:>6}");
         let few = self.extent.whole() && count < least;
         self.verdict(title, few.then(|| format!("came up {count} times only")));

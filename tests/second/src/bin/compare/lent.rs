@@ -35,3 +35,18 @@ impl<T: From<u8> + Copy> Lent<T> {
 pub fn canary(at: usize, salt: u8) -> u8 {
     (at as u8).wrapping_mul(29).wrapping_add(salt) | 1
 }
+
+/// The first place at which two slices with their canaries differ, from the slice's own first.
+pub fn differ<T: From<u8> + Copy + PartialEq + std::fmt::Debug>(
+    title: &str,
+    got: &Lent<T>,
+    wanted: &Lent<T>,
+) -> Option<String> {
+    let at = (0..got.all.len()).find(|&at| got.all[at] != wanted.all[at])?;
+    let place = at as i64 - got.start as i64;
+    let length = got.inner().len();
+    Some(format!(
+        "{title} of {length} at {place}: {:?} instead of {:?}",
+        got.all[at], wanted.all[at]
+    ))
+}

@@ -1,8 +1,8 @@
 //! The proved archive and the second implementation side by side, through the C entries: the figures
 //! of the scope paper, the largest sizes, every one-byte change of a small pair, random pairs,
 //! ladders, in which a sweep changes few of the numbers, plans, truth tables, netlists of truth
-//! tables at every setting of their inputs, netlists with ranges at prices within them, and lists of
-//! asks and commits.
+//! tables at every setting of their inputs, netlists with ranges at prices within them, lists of
+//! asks and commits, and netlists at budgets.
 //!
 //! Every entry of every lent slice is compared, canaries stand before and past it and around the
 //! texts. The last line counts: 'N passed, M failed'.
@@ -11,11 +11,13 @@
 
 #[path = "../../archive.rs"]
 mod archive;
+mod budgets;
 mod chips;
 mod comparison;
 mod extent;
 mod fixed;
 mod lent;
+mod numbered;
 mod pads;
 mod pairs;
 mod plans;
@@ -52,7 +54,7 @@ fn main() -> ExitCode {
     tables::tables(&mut all);
     println!("{} truth tables and damaged lines", all.verdicts() - before);
     // The rest is the same however many pairs there were before it.
-    for part in [chips::chips, ranges::ranges, pads::pads] {
+    for part in [chips::chips, ranges::ranges, pads::pads, budgets::budgets] {
         let mut own = all.extent.random();
         part(&mut all, &mut own);
     }

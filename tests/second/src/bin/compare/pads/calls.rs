@@ -1,7 +1,7 @@
 //! The three calls of a standing analysis on both sides, and the memory that is lent to them.
 
 use crate::archive;
-use crate::lent::{canary, Lent};
+use crate::lent::{canary, differ, Lent};
 use second::standing::{ask_into, commit_into, stand_into};
 
 /// Answers from here on are refusals.
@@ -15,21 +15,6 @@ pub struct Memory {
     standing: Lent<u32>,
     answer: Lent<u32>,
     report: Lent<u8>,
-}
-
-/// The first place at which two slices with their canaries differ, from the slice's own first.
-fn differ<T: From<u8> + Copy + PartialEq + std::fmt::Debug>(
-    title: &str,
-    got: &Lent<T>,
-    wanted: &Lent<T>,
-) -> Option<String> {
-    let at = (0..got.all.len()).find(|&at| got.all[at] != wanted.all[at])?;
-    let place = at as i64 - got.start as i64;
-    let length = got.inner().len();
-    Some(format!(
-        "{title} of {length} at {place}: {:?} instead of {:?}",
-        got.all[at], wanted.all[at]
-    ))
 }
 
 impl Memory {
