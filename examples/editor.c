@@ -1,11 +1,13 @@
 /*
  * An example of a schematic editor's side: it lends two texts and a buffer to the analyser and shows
  * the report, or says in words where the texts stop. Then it places a pad on each line that it is given, after
- * asking what the pad does. While a circuit is being drawn it shows what a few steps tell.
+ * asking what the pad does. While a circuit is being drawn it shows what a few steps tell; and it says where a pad
+ * does most, with the lines that must get none.
  *
  *     gcc -std=c99 -Iinclude -o editor examples/editor.c target/staticlib/libscoap_c.a
  *     ./editor [LIBRARY NETLIST [LINE ..]]
  *     ./editor --best STEPS [LIBRARY NETLIST]
+ *     ./editor --advise [LIBRARY NETLIST [LINE ..]]
  *
  * Without names it shows a bundled example. Exit status: 0 accepted, 1 refused, 2 no texts to lend.
  */
@@ -47,6 +49,11 @@ static uint32_t asked[SCOAP_OBSERVED];
 
 /* What a few steps tell. */
 static uint32_t best[SCOAP_BEST];
+
+/* Lines that must get no pad, and what a pad on each of the others would leave. */
+static uint32_t forbidden[1000];
+static size_t forbidden_count;
+static uint32_t ranks[SCOAP_RANKS];
 
 /* Reads a file up to TEXT bytes. Returns 0 where it can't be read. */
 static int read_text(const char *name, uint8_t *text, size_t *length)
@@ -217,18 +224,61 @@ static int show_best(uint64_t budget)
     return 0;
 }
 
+/* Shows what a pad on each allowed line would leave, and which of them does most. Returns the exit status. */
+static int show_advice(void)
+{
+    uint32_t largest;
+    uint64_t allowed = scoap_rank(lib, lib_length, net, net_length, forbidden, forbidden_count, ranks, SCOAP_RANKS);
+    uint64_t line = scoap_advise(lib, lib_length, net, net_length, forbidden, forbidden_count, &largest, 1);
+
+    /* Both are refused alike. */
+    if (line >= SCOAP_REFUSED) {
+        return refused(line);
+    }
+    for (unsigned each = 1; each <= 1000; each++) {
+        const uint32_t *rank = ranks + 4 * (each - 1);
+
+        if (rank[0] != SCOAP_NEVER) {
+            printf("line %u: never %lu, over %lu, largest co ", each, (unsigned long)rank[0], (unsigned long)rank[1]);
+            show_cost(rank[2]);
+            printf(", sum ");
+            show_cost(rank[3]);
+            printf("\n");
+        }
+    }
+    if (line == 0) {
+        printf("no line is allowed a pad\n");
+    } else {
+        printf("best pad of %llu: line %llu, with co up to ", (unsigned long long)allowed, (unsigned long long)line);
+        show_cost(largest);
+        printf("\n");
+    }
+    return 0;
+}
+
+/* Takes up to 1,000 lines from the command line; what is no line's number counts for nothing. */
+static void forbid(int count, char **words)
+{
+    for (int word = 0; word < count && forbidden_count < 1000; word++) {
+        uint64_t line = strtoull(words[word], NULL, 10);
+
+        forbidden[forbidden_count++] = line <= 1000 ? (uint32_t)line : 0;
+    }
+}
+
 int main(int argc, char **argv)
 {
     uint64_t answer;
     uint64_t budget = 0;
     int drawing = argc > 2 && strcmp(argv[1], "--best") == 0;
+    int advising = argc > 1 && strcmp(argv[1], "--advise") == 0;
     int status = 0;
 
     if (drawing) {
         budget = strtoull(argv[2], NULL, 10);
-        argc -= 2;
-        argv += 2;
     }
+    argc -= 2 * drawing + advising;
+    argv += 2 * drawing + advising;
     if (argc == 1) {
         lib_length = strlen(example_lib);
         net_length = strlen(example_net);
@@ -236,7 +286,8 @@ int main(int argc, char **argv)
         memcpy(net, example_net, net_length);
     } else if (argc == 2) {
         fprintf(stderr, "usage: editor [LIBRARY NETLIST [LINE ..]]\n"
-                        "       editor --best STEPS [LIBRARY NETLIST]\n");
+                        "       editor --best STEPS [LIBRARY NETLIST]\n"
+                        "       editor --advise [LIBRARY NETLIST [LINE ..]]\n");
         return 2;
     } else if (!read_text(argv[1], lib, &lib_length) || !read_text(argv[2], net, &net_length)) {
         fprintf(stderr, "editor: can't read %s and %s\n", argv[1], argv[2]);
@@ -245,6 +296,10 @@ int main(int argc, char **argv)
 
     if (drawing) {
         return show_best(budget);
+    }
+    if (advising) {
+        forbid(argc - 3, argv + 3);
+        return show_advice();
     }
     /* Without pads to place a report has to do. */
     if (argc > 3) {

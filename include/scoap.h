@@ -234,6 +234,50 @@ uint64_t scoap_qualifies(const uint8_t *lib, size_t lib_len, const uint8_t *net,
 uint64_t scoap_best(const uint8_t *lib, size_t lib_len, const uint8_t *net, size_t net_len,
                     uint64_t budget, uint32_t *best, size_t best_len);
 
+/* Numbers that scoap_rank writes, four for each line. */
+#define SCOAP_RANKS 4000u
+
+/*
+ * A pad adviser, a second library above the first: on which line a pad does most, where some lines must get none. A
+ * line is allowed that the netlist mentions, that is not forbidden and no output already. A pad is tried on each of
+ * them alone. It takes a netlist, and sees no pads that scoap_commit placed.
+ *
+ * lib, net    the texts, as for scoap_report; with ranges all inputs are at LOW
+ * forbidden   the lines that must get no pad, forbidden_len numbers in any order; it is not changed. One that names
+ *             no line of the netlist counts for nothing, and one that stands there twice is forbidden once
+ * answer      answer_len numbers, of which the first is written
+ *
+ * Answers the line whose pad leaves the lowest largest CO, and puts that CO into answer[0]; among equals it is the
+ * lowest line. Every other allowed line, padded alone, leaves a largest CO at least as high, as a new analysis with
+ * that line marked output has it. Largest is over all lines of the netlist, the padded one included; SCOAP_OVER and
+ * SCOAP_NEVER are above all figures. Where lines are left that nothing can see, every line leaves SCOAP_NEVER, and the
+ * lowest is answered; scoap_rank tells more. Where no line is allowed it answers 0, and the answer is untouched.
+ *
+ * Otherwise it answers a refusal of the texts as scoap_report does; 17 does not come. The numbers afterwards:
+ *   accepted           as above; those past the first keep their values
+ *   refusals 1 and 2   untouched; 1, which comes first, where answer_len is 0
+ *   other refusal      all zero
+ */
+uint64_t scoap_advise(const uint8_t *lib, size_t lib_len, const uint8_t *net, size_t net_len,
+                      const uint32_t *forbidden, size_t forbidden_len,
+                      uint32_t *answer, size_t answer_len);
+
+/*
+ * What the same trials leave, so that a caller can rank pads. For each line l from 1 to 1,000 stand in ranks, from
+ * place 4 (l - 1) on, with a pad on l alone:
+ *   the count of lines whose CO is never
+ *   the count of lines whose CO is over
+ *   the largest CO that is a figure
+ *   the sum of the CO that are figures, SCOAP_OVER where it is above 999,999,999
+ * Of a line that is not allowed all four are SCOAP_NEVER.
+ *
+ * Answers the count of allowed lines, which may be 0, or a refusal as scoap_advise does: 1 where ranks_len is below
+ * SCOAP_RANKS. Numbers past SCOAP_RANKS keep their values.
+ */
+uint64_t scoap_rank(const uint8_t *lib, size_t lib_len, const uint8_t *net, size_t net_len,
+                    const uint32_t *forbidden, size_t forbidden_len,
+                    uint32_t *ranks, size_t ranks_len);
+
 /* Numbers of a standing table, and the place of line 1's six costs in it. */
 #define SCOAP_STANDING 7005u
 #define SCOAP_STANDING_NUMBERS 1005u

@@ -27,7 +27,7 @@ static size_t lib_length;
 static size_t net_length;
 static uint64_t answer;
 /* Which entry is called. The library's text is the line of a truth table for CELL. */
-static enum { REPORT, PLAN, CELL, BUILT_IN, QUALIFIES, STAND, ASK, COMMIT, BEST } entry;
+static enum { REPORT, PLAN, CELL, BUILT_IN, QUALIFIES, STAND, ASK, COMMIT, BEST, ADVISE, RANK } entry;
 /* The line whose plan is written out, at 1. */
 static unsigned plan;
 /* A standing analysis, what is asked of it, and the line of the pad. */
@@ -35,6 +35,9 @@ static uint32_t standing[SCOAP_STANDING];
 static uint32_t asked[SCOAP_OBSERVED];
 static unsigned pad;
 static uint32_t best[SCOAP_BEST];
+/* All lines but one, and what a pad on it leaves. */
+static uint32_t forbidden[999];
+static uint32_t ranks[SCOAP_RANKS];
 
 static volatile int entered;
 static volatile unsigned taken;
@@ -103,6 +106,14 @@ static void *run(void *unused)
     case BEST:
         answer = scoap_best((const uint8_t *)lib, lib_length, (const uint8_t *)net, net_length,
                             UINT64_MAX, best, SCOAP_BEST);
+        break;
+    case ADVISE:
+        answer = scoap_advise((const uint8_t *)lib, lib_length, (const uint8_t *)net, net_length,
+                              forbidden, 999, ranks, 1);
+        break;
+    case RANK:
+        answer = scoap_rank((const uint8_t *)lib, lib_length, (const uint8_t *)net, net_length,
+                            forbidden, 999, ranks, SCOAP_RANKS);
         break;
     }
     entered = 0;
@@ -213,6 +224,27 @@ static void measure_best(const char *label, unsigned number)
     entry = REPORT;
 }
 
+/* The same texts, and a pad tried on one line. */
+static void measure_advice(const char *label, unsigned line, unsigned number)
+{
+    char text[64];
+
+    for (unsigned at = 0; at < 999; at++) {
+        forbidden[at] = at + 1 < line ? at + 1 : at + 2;
+    }
+    snprintf(text, sizeof text, "%s, advice", label);
+    entry = ADVISE;
+    measure(text, number);
+    if (number == 0 && answer != line) {
+        printf("FAILED: line %u is allowed alone, %llu is named\n", line, (unsigned long long)answer);
+        failed++;
+    }
+    snprintf(text, sizeof text, "%s, ranks", label);
+    entry = RANK;
+    measure(text, number);
+    entry = REPORT;
+}
+
 static const char nand2[] = "Name,NAND2,2\nCC,13,21,M,5\nCO,203,211\nSC,12,20,M,4\nSO,202,210\nEnd\n";
 /* The 0 comes from the own 1 and the 1 from the 0 before: 2G + 1 sweeps where listed backwards. */
 static const char slow[] = "Name,SLOW,2\nCC,3,21\nCO,203,211\nSC,2,20\nSO,202,210\nEnd\n";
@@ -265,6 +297,7 @@ int main(void)
     measure("1,999 sweeps", 0);
     measure_pad("1,999 sweeps", 500);
     measure_best("1,999 sweeps", 0);
+    measure_advice("1,999 sweeps", 500, 0);
     /* The same at both ends of a range. */
     add_net("range,1,1,999\n");
     measure("1,999 sweeps, twice", 0);
@@ -282,6 +315,7 @@ int main(void)
     measure("full entries, full rows", 0);
     measure_pad("full entries", 500);
     measure_best("full entries", 0);
+    measure_advice("full entries", 500, 0);
 
     /* Texts as long as they may be: many lines, many fields, one field. */
     start();
@@ -301,6 +335,7 @@ int main(void)
     entry = COMMIT;
     measure("a commit with a netlist of commas", 10);
     measure_best("a netlist of commas", 10);
+    measure_advice("a netlist of commas", 500, 10);
     start();
     memset(net, '1', net_length = SCOAP_MOST_TEXT);
     measure("a netlist of one field", 10);
@@ -334,6 +369,7 @@ int main(void)
     entry = COMMIT;
     measure("a commit with a text too long", 2);
     measure_best("a text too long", 2);
+    measure_advice("a text too long", 500, 2);
 
     /* The deepest tree: the 1 comes from the own 0, and the 0 from the 1 before. */
     start();

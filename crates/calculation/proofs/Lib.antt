@@ -13,5 +13,7 @@ pub mod Observing
 pub mod Rows
 pub mod Outputs
 pub mod Padding
+pub mod Trying
+pub mod Advising
 pub mod Standing
 pub mod Laws

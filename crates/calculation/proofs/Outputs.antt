@@ -5,11 +5,11 @@ use mathlib.Core.Bool.{Bool, true, false}
 use mathlib.Core.List.{List, [], _∷_}
 use mathlib.Core.Path.{_≡_, refl, sym, _∙_, ap, subst}
 use Prim.Native.Nat.{ℕ, zero, suc, _+_, _%_, _≤_, _<_}
-use native.Mathlib.Decide.{decLt}
+use native.Mathlib.Decide.{ℕ-discrete, decLt}
 use native.Mathlib.Nat.{le-refl, le-of-eq}
 use native.Mathlib.Omega.{arith}
 use borrow.Author.Tests.{lt-ltb, le-ltb}
-use lib.ListN.{length}
+use lib.ListN.{length, set, length-set}
 use Rattle.sizes.specs.Sizes as Size
 use Rattle.reading.specs.Choice.{pick}
 use Rattle.reading.proofs.Laws.{by-test}
@@ -18,7 +18,7 @@ use Rattle.plans.specs.System.{Visit}
 use Rattle.plans.specs.Sweep.{at, renew, lower, Settles, Run, Visited}
 use Rattle.plans.specs.Stages.{runStage, AllWithin}
 use Rattle.plans.specs.Standing.{Alike, Looks, Under}
-use Rattle.plans.proofs.Laws.{at-ext, lower-stores, renew-stores, settles-length, settles-other, settles-once, renew-reads, alike-settles, lower-start}
+use Rattle.plans.proofs.Laws.{at-ext, at-set-same, at-set-other, lower-stores, renew-stores, settles-length, settles-other, settles-once, renew-reads, lower-reads, alike-settles, lower-start, pad-settles}
 use Rattle.cell_library.specs.Cells.{Cell}
 use Rattle.netlist.specs.Netlist.{Gate, Statement, gatesOf, isInput, isOutput}
 use Rattle.calculation.specs.Nodes.{Kind, combinational, sequential}
@@ -29,7 +29,7 @@ use Rattle.calculation.specs.Calculation.{startLine, startLines, startAt
 use Rattle.calculation.specs.Runs.{mixed, ofSetting, relaid, runsFrom, lastRuns, observedAnew}
 use Rattle.calculation.specs.Added.{OutputsAdded}
 use Rattle.calculation.proofs.Placing.{kind-small, start-length}
-use Rattle.calculation.proofs.Bounding.{within, numbers-length, setting-visited, setting-needed, observing-visited}
+use Rattle.calculation.proofs.Bounding.{within, numbers-length, setting-visited, setting-needed, observing-visited, observing-needed}
 
 -- ---- two tables mixed
 
@@ -53,6 +53,10 @@ mixed-at p i (x ∷ xs) (y ∷ ys) e (suc n) =
 
 abbrev Setting : ℕ → Type 0
 Setting n = n % Size.costs < Size.observedAt
+
+-- All but SO: where CO looks.
+abbrev pub Seen : ℕ → Type 0
+Seen n = n % Size.costs < Size.observedAt + 1
 
 -- The starts of netlists with the same inputs, at the same prices.
 lines-alike : (price : Pricing) (ss ts : List Statement) → ((k : ℕ) → isInput k ts ≡ isInput k ss) → (n first i : ℕ) → Setting i → at (startLines price ss n first) i ≡ at (startLines price ts n first) i
@@ -90,6 +94,21 @@ module _ (cells : List Cell) (ss : List Statement) (sound : BothSound cells ss) 
 
   observing-apart : (k : Kind) (n : ℕ) → Visited (observingVisits k cells (gatesOf ss)) n → Setting n → ⊥
   observing-apart k n v p = omega (arith, observing-visited cells ss sound k n v)
+
+  pub co-looks : Looks Seen (observingVisits combinational cells (gatesOf ss))
+  co-looks =
+      record {
+        visits = λ v m. omega (arith, observing-visited cells ss sound combinational (v .node) (record { visit = v; listed = m; same = refl }));
+        needs = λ v m n d.
+            omega (
+              arith,
+              observing-needed cells ss sound combinational n
+                  (record { node = v .node; way = d .way; offers = record { visit = v; listed = m; same = refl; among = d .listed }; among = d .among }),
+            );
+      }
+
+  pub so-apart : (n : ℕ) → Visited (observingVisits sequential cells (gatesOf ss)) n → Seen n → ⊥
+  so-apart n v p = omega (arith, observing-visited cells ss sound sequential n v)
 
 -- ---- CO and SO again
 
@@ -213,6 +232,80 @@ module _
             place n (yes p) = le-of-eq (sym (same-sc .1 .same n p))
             place n (no p) = rw (others-stand xs a n p, others-stand ys b n p) (low n)
 
+    -- ---- one output more on trial: CO alone, from the numbers that stand with just its own lowered. Document 02, K13
+
+    module _
+        (node : ℕ)
+        (observed : node % Size.costs ≡ Size.observedAt)
+        (inside : node < length xs)
+        (near : (n : ℕ) → Seen n → (n ≡ node → ⊥) → at ys n ≡ at xs n)
+        (priced : at ys node ≡ 0)
+        (sees : Looks Seen (observingVisits combinational cells gs))
+        (apart : (n : ℕ) → Visited (observingVisits sequential cells gs) n → Seen n → ⊥)
+      where
+        abbrev before : List ℕ
+        before = runSC xs .numbers
+
+        abbrev old : List ℕ
+        old = runCO xs .numbers
+
+        abbrev standing : List ℕ
+        standing = runSO xs .numbers
+
+        before-length : length before ≡ length xs
+        before-length = settles-length renew renew-stores (settles-sc xs a) ∙ settles-length renew renew-stores (settles-cc xs a)
+
+        old-length : length old ≡ length xs
+        old-length = settles-length lower lower-stores (settles-co xs a) ∙ before-length
+
+        standing-length : length standing ≡ length xs
+        standing-length = settles-length lower lower-stores (settles-so xs a) ∙ old-length
+
+        stays : (zs : List ℕ) (w : AllWithin (stages cells gs) zs) (n : ℕ) → Seen n → at (runSO zs .numbers) n ≡ at (runCO zs .numbers) n
+        stays zs w n p = settles-other lower lower-stores (settles-so zs w) n (λ v. apart n v p)
+
+        at-pad : Setting node → ⊥
+        at-pad p = omega (arith, observed)
+
+        starts-alike : Alike Seen (runSC ys .numbers) (set before node 0)
+        starts-alike =
+            record {
+              long = sym (length-set before node 0 ∙ same-sc .1 .long);
+              same = λ n p. place n p (ℕ-discrete n node) (decLt (n % Size.costs) Size.observedAt);
+            }
+          where
+            place : (n : ℕ) → Seen n → Dec (n ≡ node) → Dec (n % Size.costs < Size.observedAt) → at (runSC ys .numbers) n ≡ at (set before node 0) n
+            place n p (yes e) d =
+                rw (e, at-set-same before node 0 (rw before-length inside)) (others-stand ys b node at-pad ∙ priced)
+            place n p (no e) (yes q) = sym (same-sc .1 .same n q) ∙ sym (at-set-other before node 0 n e)
+            place n p (no e) (no q) = others-stand ys b n q ∙ near n p e ∙ sym (others-stand xs a n q) ∙ sym (at-set-other before node 0 n e)
+
+        trials-alike : Alike Seen (set standing node 0) (set old node 0)
+        trials-alike =
+            record {
+              long = length-set standing node 0 ∙ standing-length ∙ sym (length-set old node 0 ∙ old-length);
+              same = λ n p. place n p (ℕ-discrete n node);
+            }
+          where
+            place : (n : ℕ) → Seen n → Dec (n ≡ node) → at (set standing node 0) n ≡ at (set old node 0) n
+            place n p (yes e) =
+                rw (e, at-set-same standing node 0 (rw standing-length inside), at-set-same old node 0 (rw old-length inside))
+            place n p (no e) = at-set-other standing node 0 n e ∙ stays xs a n p ∙ sym (at-set-other old node 0 n e)
+
+        -- The trial comes to the CO of the new analysis, in however few sweeps.
+        pub tried : (k : ℕ) (zs : List ℕ) → Settles lower (observingVisits combinational cells gs) (set standing node 0) k zs → (n : ℕ) → Seen n → at zs n ≡ at (runsFrom cells gs ys .numbers) n
+        unfolding runsFrom
+        tried k zs s n p =
+            let new = alike-settles lower lower-stores lower-reads Seen (observingVisits combinational cells gs) (runSC ys .numbers) (set before node 0) (runCO ys .numbers) (runCO ys .count) sees starts-alike (settles-co ys b) in
+            let try = alike-settles lower lower-stores lower-reads Seen (observingVisits combinational cells gs) (set standing node 0) (set old node 0) zs k sees trials-alike s in
+            let e : try .0 ≡ new .0 =
+            pad-settles (observingVisits combinational cells gs) before old (new .0) (try .0) node 0 (runCO xs .count) (runCO ys .count) k (omega arith)
+            (settles-co xs a) (new .1) (try .1) in
+            try .2 .same n p
+            ∙ ap (λ (ws : List ℕ). at ws n) e
+            ∙ sym (new .2 .same n p)
+            ∙ sym (stays ys b n p)
+
 -- ---- at a netlist
 
 pub analysed-runs : (price : Pricing) (cells : List Cell) (ss : List Statement) → analysedAt price cells ss ≡ runsFrom cells (gatesOf ss) (startAt price ss)
@@ -267,3 +360,16 @@ module _ (cells : List Cell) (ss ts : List Statement) (old : BothSound cells ss)
       (falls cells (gatesOf ss) (startAt price ss) (startAt price ts) within-old within-new (setting-looks cells ss old) (observing-apart cells ss old)
       (start-alike price ss ts (added .inputs))
       (λ m. unfold startAt in lines-below price ss ts (added .inputs) (added .outputs) Size.lines 1 m) .below n)
+
+  -- One output more, at a place that was never: CO run from the numbers that stand with 0 there comes to the CO of the new
+  -- analysis, in however few sweeps.
+  module _ (place : ℕ) (observed : place % Size.costs ≡ Size.observedAt) (inside : place < Size.numbers)
+      (near : (n : ℕ) → Seen n → (n ≡ place → ⊥) → at (startAt price ts) n ≡ at (startAt price ss) n) (priced : at (startAt price ts) place ≡ 0) where
+    pub output-tried : (k : ℕ) (zs : List ℕ) → Settles lower (observingVisits combinational cells (gatesOf ss)) (set (analysedAt price cells ss .numbers) place 0) k zs
+        → (n : ℕ) → Seen n → at zs n ≡ at (analysedAt price cells ts .numbers) n
+    unfolding runsFrom
+    output-tried k zs s n p =
+        tried cells (gatesOf ss) (startAt price ss) (startAt price ts) within-old within-new (setting-looks cells ss old) (observing-apart cells ss old)
+        (start-alike price ss ts (added .inputs)) place observed (rw (start-length price ss) inside) near priced (co-looks cells ss old) (so-apart cells ss old)
+        k zs (subst (λ (a : Analysed). Settles lower (observingVisits combinational cells (gatesOf ss)) (set (a .numbers) place 0) k zs) (analysed-runs price cells ss) s) n p
+        ∙ ap (λ (a : Analysed). at (a .numbers) n) new-runs

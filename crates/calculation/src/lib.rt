@@ -5,7 +5,7 @@
 // Settled and Plans are to be read against document 01. The laws that others cite are in
 // proofs/Laws.antt.
 //
-// Open to others: the type `Counts`.
+// Open to others: the types `Counts` and `Advice`.
 
 // How many sweeps each of the four runs took.
 pub struct Counts {
@@ -13,4 +13,11 @@ pub struct Counts {
     pub sc: u32,
     pub co: u32,
     pub so: u32,
+}
+
+// What the pad adviser says: that no line may be padded, or a line, and the largest CO that a pad on it
+// leaves. specs/Advice.antt has what it says of which netlist.
+pub enum Advice {
+    NoneAllowed,
+    Pad(u32, u32),
 }

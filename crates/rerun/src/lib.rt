@@ -1,14 +1,21 @@
-// The runs of an analysis again, from numbers that stand, whatever those are. Document 02, K11 and K14.
+// The runs of an analysis again, from numbers that stand. Document 02, K11, K13 and K14.
 //
-// For the crates above, each with what it asks and leaves (specs/Standing.antt): `observe_anew`, CO and SO
-// from their start over the CC and SC that stand, and `go_on`, all four runs from what stands.
+// For the crates above, each with what it asks and leaves: whatever the numbers are (specs/Standing.antt),
+// `observe_anew`, CO and SO from their start over the CC and SC that stand, and `go_on`, all four runs from
+// what stands; and from numbers at which CO rests (specs/Trying.antt), `try_pad`, CO with one pad more.
+use awake::wake_driver;
 use calculation::Counts;
 use cost::NEVER;
+use gates::visits::OBSERVING;
 use links::link;
+use netlist::gates::unchecked;
+use row_sums::kinds::COMBINATIONAL;
+use row_sums::kinds::wide;
 use starting::LOW;
 use starting::start;
 use sweep::Sweeps;
 use sweep::observe_lines;
+use sweep::run;
 use sweep::set_lines;
 ghost use mathlib.Core.List.{List};
 ghost use mathlib.Core.Path.{_≡_};
@@ -20,6 +27,7 @@ ghost use Rattle.cell_library.specs.Cells.{Cell};
 ghost use Rattle.netlist.specs.Netlist.{Statement};
 ghost use Rattle.calculation.specs.Stored.{Holds, Ready};
 ghost use Rattle.rerun.specs.Standing.{asCost, isBelow, Kept, ObservedAnew, GoneOn};
+ghost use Rattle.rerun.specs.Trying.{TryFits, PadTried};
 
 // A number as a cost: none is above never.
 fn cost_of(x: u32) -> u32
@@ -100,4 +108,35 @@ pub fn go_on(
         co: observed.combinational,
         so: observed.sequential,
     }
+}
+
+// CO with one pad more, from numbers at which it rests: the pad's CO becomes 0, and just the gate that
+// drives its line is awake.
+pub fn try_pad(
+    library: &[u32],
+    netlist: &[u32],
+    links: &[u16; sizes::LINKS],
+    numbers: &mut [u32; sizes::NUMBERS],
+    line: u32,
+) -> u32
+    requires { ⌜ TryFits (now library) (now netlist) (now links) (now numbers) line ⌝ }
+    ensures { λ r.
+        ⌜ ((cells : List Cell) (ss : List Statement) → Holds (now (library .entry))
+        (now (netlist .entry)) cells ss → PadTried cells ss line (now (numbers .entry)) r
+        (now (numbers .exit))) ⌝ }
+{
+    let gates = unchecked::count(netlist);
+    let l = wide(line);
+    numbers[(l - 1) * sizes::COSTS + sizes::OBSERVED_AT] = 0;
+    let mut awake = [0u64; sizes::AWAKE_WORDS];
+    wake_driver(&mut awake, links, gates, l);
+    run(
+        OBSERVING,
+        COMBINATIONAL,
+        library,
+        netlist,
+        links,
+        numbers,
+        &mut awake,
+    )
 }

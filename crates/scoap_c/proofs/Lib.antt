@@ -4,3 +4,4 @@ pub mod Plans
 pub mod Qualifying
 pub mod Standing
 pub mod Best
+pub mod Advising

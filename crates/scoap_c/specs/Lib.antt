@@ -5,3 +5,4 @@ pub mod Plan
 pub mod Qualifies
 pub mod Standing
 pub mod Best
+pub mod Advice

@@ -2,9 +2,13 @@
 // its own, of which no place is used before the call, and answers by one number.
 //
 // Open to others: `scoap_report`, `scoap_plan`, `scoap_cell`, `scoap_built_in`, `scoap_qualifies`, `scoap_stand`,
-// `scoap_ask`, `scoap_commit` and `scoap_best`. They have no condition on their input; specs/Coded.antt, specs/Plan.antt,
-// specs/Cell.antt, specs/BuiltIn.antt, specs/Qualifies.antt, specs/Standing.antt and specs/Best.antt say what they promise.
+// `scoap_ask`, `scoap_commit`, `scoap_best`, `scoap_advise` and `scoap_rank`. They have no condition on their input;
+// specs/Coded.antt, specs/Plan.antt, specs/Cell.antt, specs/BuiltIn.antt, specs/Qualifies.antt, specs/Standing.antt,
+// specs/Best.antt and specs/Advice.antt say what they promise.
+use adviser::Advised;
+use adviser::Ranked;
 use best::Steps;
+use calculation::Advice;
 use netlist::Rules;
 use outcome::Answer;
 use read_pair::Progress;
@@ -13,7 +17,9 @@ use standing::Pads;
 use writer::refusal_code;
 ghost use mathlib.Core.Path.{_≡_};
 ghost use Rattle.writer.specs.Buffer.{LineBelow, codeOf};
+ghost use Rattle.adviser.specs.Calls.{advisedRead, rankedRead};
 ghost use Rattle.standing.specs.Calls.{padsRead};
+ghost use Rattle.scoap_c.specs.Advice.{adviceLine, lineRead, AdviceCoded, RankCoded};
 ghost use Rattle.scoap_c.specs.Best.{BestCoded};
 ghost use Rattle.scoap_c.specs.BuiltIn.{BuiltInCoded};
 ghost use Rattle.scoap_c.specs.Cell.{CellCoded};
@@ -200,4 +206,58 @@ pub extern "C" fn scoap_best(lib: &[u8], net: &[u8], budget: u64, best: &mut [u3
         Steps::Made(n) => n as u64,
         Steps::Refused(r) => refusal_code(r),
     }
+}
+
+// The line that an advice names, 0 where none is allowed.
+fn line_number(found: Advice) -> u64
+    ensures { λ n. ⌜ n ≡ adviceLine found ⌝ }
+{
+    match found {
+        Advice::NoneAllowed => 0,
+        Advice::Pad(l, _) => l as u64,
+    }
+}
+
+// An advice, or a refusal, by one number.
+fn advised_code(advised: Advised) -> u64
+    requires { ⌜ LineBelow (lineRead (advisedRead advised)) ⌝ }
+    ensures { λ n. ⌜ n ≡ codeOf (lineRead (advisedRead advised)) ⌝ }
+{
+    match advised {
+        Advised::Found(found) => line_number(found),
+        Advised::Refused(r) => refusal_code(r),
+    }
+}
+
+// How many lines are allowed, or a refusal, by one number.
+fn ranked_code(ranked: Ranked) -> u64
+    requires { ⌜ LineBelow (rankedRead ranked) ⌝ }
+    ensures { λ n. ⌜ n ≡ codeOf (rankedRead ranked) ⌝ }
+{
+    match ranked {
+        Ranked::Lines(n) => n as u64,
+        Ranked::Refused(r) => refusal_code(r),
+    }
+}
+
+// For C: names the line that, padded alone, leaves the lowest largest CO, which goes into the answer's first entry; 0
+// where no line is allowed; else the refusal number times 1,000,000 plus the line.
+#[no_mangle]
+pub extern "C" fn scoap_advise(lib: &[u8], net: &[u8], forbidden: &[u32], answer: &mut [u32]) -> u64
+    ensures { λ r. ⌜ AdviceCoded (now (lib .entry)) (now (net .entry)) (now (forbidden .entry))
+        (now (answer .entry)) (now (answer .exit)) r ⌝ }
+{
+    let advised = adviser::advise(lib, net, forbidden, answer);
+    advised_code(advised)
+}
+
+// For C: lays four numbers for each line into the table of ranks, of what a pad on it leaves: how many lines are allowed,
+// else the refusal number times 1,000,000 plus the line.
+#[no_mangle]
+pub extern "C" fn scoap_rank(lib: &[u8], net: &[u8], forbidden: &[u32], ranks: &mut [u32]) -> u64
+    ensures { λ r. ⌜ RankCoded (now (lib .entry)) (now (net .entry)) (now (forbidden .entry))
+        (now (ranks .entry)) (now (ranks .exit)) r ⌝ }
+{
+    let ranked = adviser::rank(lib, net, forbidden, ranks);
+    ranked_code(ranked)
 }

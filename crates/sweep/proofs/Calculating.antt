@@ -66,7 +66,7 @@ module _ {library netlist : List ℕ} {cells : List Cell} {ss : List Statement} 
   sets : (k : Kind) → sweepVisits 0 (kindNumber k) library netlist ≡ settingVisits k cells (gatesOf ss)
   sets k = rw (h .cellsStand, h .statementsStand) (setting-sweep cells ss (h .sound) (h .behind) (h .past) k)
 
-  observes : (k : Kind) → sweepVisits 1 (kindNumber k) library netlist ≡ observingVisits k cells (gatesOf ss)
+  pub observes : (k : Kind) → sweepVisits 1 (kindNumber k) library netlist ≡ observingVisits k cells (gatesOf ss)
   observes k = rw (h .cellsStand, h .statementsStand) (observing-sweep cells ss (h .sound) (h .behind) (h .past) k)
 
   pub stands : LinesStand netlist (getD netlist 0 0)

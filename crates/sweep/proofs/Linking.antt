@@ -77,6 +77,18 @@ module _ (cells : List Cell) (ss : List Statement) (sound : BothSound cells ss) 
       once-at (gatesOf ss) (driven-once cells ss (sound .netlist)) g h (inside g a) (inside h b)
       (sym (own-line g a) ∙ e ∙ own-line h b)
 
+  -- A gate that needs a line observed drives it.
+  pub drives-line : (k : Kind) (g : ℕ) (a : g < getD netlist 0 0) (l : ℕ) → InRange l → (v : Visit) → List·Memᴰ v (gateVisits 1 (kindNumber k) library netlist g)
+      → Needs v (node k (observe l)) → gateLine netlist g 0 ≡ l
+  unfolding byRole pick W.gateVisits
+  drives-line k g a l range v m d =
+      let t : (role : Role) × List·Memᴰ role (pinRoles (cellOf cells (gate g) .pins) 1) × (visit k cells (gate g) role ≡ v) =
+      Memᴰ·of-map (visit k cells (gate g)) (pinRoles (cellOf cells (gate g) .pins) 1) (rw (pins-are cells ss sound behind past k g (inside g a)) at m) in
+      let f = pins-from (cellOf cells (gate g) .pins) 1 (t .0) (t .1) in
+      let q : visit k cells (gate g) (observing (f .0)) ≡ v = ap (visit k cells (gate g)) (sym (f .3)) ∙ t .2 in
+      own-line g a
+      ∙ observing-drives k cells ss sound (gate g) (listed g a) (f .0) l range (subst (λ (u : Visit). Needs u (node k (observe l))) (sym q) d)
+
   -- ---- who needs the number that a visit renews
 
   module _ (k : Kind) (g h i : ℕ) (a : g < getD netlist 0 0) (b : h < getD netlist 0 0) where
@@ -108,16 +120,8 @@ module _ (cells : List Cell) (ss : List Statement) (sound : BothSound cells ss) 
     drives : i < gatePins library netlist h → (v : Visit) → List·Memᴰ v (gateVisits 1 (kindNumber k) library netlist g)
         → Needs v (visitPlace 1 (kindNumber k) (gateLines netlist h) i)
         → NeedsLine 1 netlist g (visitLine 1 (gateLines netlist h) i)
-    unfolding byRole pick W.gateVisits pinLine
-    drives c v m d =
-        let t : (role : Role) × List·Memᴰ role (pinRoles (cellOf cells (gate g) .pins) 1) × (visit k cells (gate g) role ≡ v) =
-        Memᴰ·of-map (visit k cells (gate g)) (pinRoles (cellOf cells (gate g) .pins) 1) (rw (pins-are cells ss sound behind past k g (inside g a)) at m) in
-        let f = pins-from (cellOf cells (gate g) .pins) 1 (t .0) (t .1) in
-        let q : visit k cells (gate g) (observing (f .0)) ≡ v = ap (visit k cells (gate g)) (sym (f .3)) ∙ t .2 in
-        own-line g a
-        ∙ observing-drives k cells ss sound (gate g) (listed g a) (f .0) (getD (gate h .pins) i 0) ranged
-        (subst (Needs (visit k cells (gate g) (observing (f .0)))) place (subst (λ (u : Visit). Needs u (visitPlace 1 (kindNumber k) (gateLines netlist h) i)) (sym q) d))
-        ∙ sym read
+    unfolding byRole pick pinLine
+    drives c v m d = drives-line k g a (getD (gate h .pins) i 0) ranged v m (subst (Needs v) place d) ∙ sym read
       where
         few : i < cellOf cells (gate h) .pins
         few = rw (pins-number cells ss sound behind past h (inside h b)) at c

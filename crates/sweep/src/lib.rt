@@ -3,11 +3,12 @@
 //
 // For the crates above: `calculate`, over the library and the netlist table of accepted texts, which
 // answers the type `Counts` of crate `calculation` (calculation/specs/Stored.antt says what it asks and what
-// it leaves); and its halves, `set_lines` and `observe_lines`, each of which goes on from whatever numbers
-// stand there (specs/Halves.antt); `hand_over`, which lays found numbers into a lent table. Starting and
-// running stay apart: crate `starting` lays the start, and crate `links` makes what all sweeps need of the
-// netlist. No inner function tests a bound, here or in crate `visits`: what each asks of the tables
-// (specs/Fits.antt) is shown once, for the halves.
+// it leaves); its halves, `set_lines` and `observe_lines`, each of which goes on from whatever numbers
+// stand there (specs/Halves.antt); one run, `run`, from a set of awake gates that its caller names; and
+// `hand_over`, which lays found numbers into a lent table. Starting and running stay apart: crate
+// `starting` lays the start, and crate `links` makes what all sweeps need of the netlist. No inner
+// function tests a bound, here or in crate `visits`: what each asks of the tables (specs/Fits.antt) is
+// shown once, for the halves.
 //
 // A sweep goes from one awake gate to the next (crate `awake`), and makes the visits of each (crate
 // `visits`): a gate that is not awake is one whose visits change nothing, so that numbers and counts are
@@ -93,7 +94,7 @@ fn one_sweep(
 
 // Sweeps from the numbers that stand there, with at least those gates awake that are not idle: "Sweeps
 // stop after the first that changes nothing; it is counted."
-fn run(
+pub fn run(
     role: usize,
     kind: usize,
     library: &[u32],

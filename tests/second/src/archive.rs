@@ -75,6 +75,26 @@ mod c {
             best: *mut u32,
             best_len: usize,
         ) -> u64;
+        pub fn scoap_advise(
+            lib: *const u8,
+            lib_len: usize,
+            net: *const u8,
+            net_len: usize,
+            forbidden: *const u32,
+            forbidden_len: usize,
+            answer: *mut u32,
+            answer_len: usize,
+        ) -> u64;
+        pub fn scoap_rank(
+            lib: *const u8,
+            lib_len: usize,
+            net: *const u8,
+            net_len: usize,
+            forbidden: *const u32,
+            forbidden_len: usize,
+            ranks: *mut u32,
+            ranks_len: usize,
+        ) -> u64;
     }
 }
 
@@ -186,6 +206,38 @@ pub fn scoap_best(lib: &[u8], net: &[u8], budget: u64, best: &mut [u32]) -> u64 
             budget,
             best.as_mut_ptr(),
             best.len(),
+        )
+    }
+}
+
+pub fn scoap_advise(lib: &[u8], net: &[u8], forbidden: &[u32], answer: &mut [u32]) -> u64 {
+    // Each slice is valid for its length, and no two overlap.
+    unsafe {
+        c::scoap_advise(
+            lib.as_ptr(),
+            lib.len(),
+            net.as_ptr(),
+            net.len(),
+            forbidden.as_ptr(),
+            forbidden.len(),
+            answer.as_mut_ptr(),
+            answer.len(),
+        )
+    }
+}
+
+pub fn scoap_rank(lib: &[u8], net: &[u8], forbidden: &[u32], ranks: &mut [u32]) -> u64 {
+    // Each slice is valid for its length, and no two overlap.
+    unsafe {
+        c::scoap_rank(
+            lib.as_ptr(),
+            lib.len(),
+            net.as_ptr(),
+            net.len(),
+            forbidden.as_ptr(),
+            forbidden.len(),
+            ranks.as_mut_ptr(),
+            ranks.len(),
         )
     }
 }

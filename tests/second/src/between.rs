@@ -19,7 +19,7 @@ pub fn parts(reports: &[u8]) -> Option<[&[u8]; 2]> {
 }
 
 /// The head of each line and its numbers; of the first line, which has none, its bytes.
-fn rows(report: &[u8]) -> Vec<(&[u8], Vec<Cost>)> {
+pub fn rows(report: &[u8]) -> Vec<(&[u8], Vec<Cost>)> {
     let cost = |field: &[u8]| match field {
         b"over" => OVER,
         b"never" => NEVER,

@@ -3,6 +3,7 @@
 //! It is written from the scope paper alone and shares nothing with the proved program, which it is
 //! held against. Texts go in; a report or a refusal comes out.
 
+pub mod advice;
 pub mod between;
 pub mod budget;
 pub mod cell;

@@ -332,6 +332,11 @@ pub fn stepped() -> Vec<Case> {
     ]
 }
 
+/// Those on which a pad is tried on every line.
+pub fn tried() -> Vec<Case> {
+    vec![c17(), forward(950), random(950)]
+}
+
 /// Those that pads are asked for and placed on.
 pub fn held() -> Vec<Case> {
     vec![

@@ -6,12 +6,13 @@
 //! Before a shape is timed, both sides must have given the same answer and the same bytes, and the
 //! shape must be what its label says; else the program fails.
 //!
-//! Last, by the archive alone: what an ask for a pad and its commit cost over scoap_report, and what steps within a
-//! budget cost.
+//! Last, by the archive alone: what an ask for a pad and its commit cost over scoap_report, what steps within a budget
+//! cost, and what a pad tried on every line costs.
 
 #[path = "../archive.rs"]
 mod archive;
 
+use second::advice::{advise_into, rank_into, ADVICE, RANKS};
 use second::budget::{best_into, BEST};
 use second::report_into;
 use second::shapes::{self, Case, SEED};
@@ -123,23 +124,34 @@ fn measure(case: &Case) -> Result<Times, String> {
     })
 }
 
-/// Microseconds for one call of each side, round by round.
+/// Microseconds for one call of each side, round by round. A batch has as many calls of each.
 fn rounds(mut run: impl FnMut(usize) -> u64) -> [Vec<f64>; 2] {
-    let mut calls = 1;
-    let once = batch(&mut run, 1, calls);
+    let once = batch(&mut run, 1, 1);
     if once > LONG {
-        return [batch(&mut run, 0, calls), once].map(|time| vec![time.as_secs_f64() * 1e6]);
+        return [batch(&mut run, 0, 1), once].map(|time| vec![time.as_secs_f64() * 1e6]);
     }
-    while batch(&mut run, 1, calls) < BATCH && calls < 1 << 20 {
+    let calls = fitting(&mut run, 1);
+    rounds_of(run, [calls; 2])
+}
+
+/// How many calls of a side make up a batch.
+fn fitting(run: &mut impl FnMut(usize) -> u64, side: usize) -> u32 {
+    let mut calls = 1;
+    while batch(run, side, calls) < BATCH && calls < 1 << 20 {
         calls *= 2;
     }
+    calls
+}
+
+/// The same with so many calls of each side in a batch.
+fn rounds_of(mut run: impl FnMut(usize) -> u64, calls: [u32; 2]) -> [Vec<f64>; 2] {
     let mut times = [Vec::new(), Vec::new()];
     for round in 0..ROUNDS {
         // Each side goes first in every other round.
         for turn in 0..2 {
             let side = (round + turn) % 2;
-            let time = batch(&mut run, side, calls);
-            times[side].push(time.as_secs_f64() * 1e6 / f64::from(calls));
+            let time = batch(&mut run, side, calls[side]);
+            times[side].push(time.as_secs_f64() * 1e6 / f64::from(calls[side]));
         }
     }
     times
@@ -374,6 +386,73 @@ fn budgets() -> bool {
     sound
 }
 
+/// Medians in microseconds: of advice and of a report beside it, of ranks and of one beside them.
+fn measure_advice(case: &Case) -> Result<[f64; 4], String> {
+    let mut ranks = vec![0; RANKS];
+    let mut other = vec![0; RANKS];
+    for (size, archive, second) in [
+        (
+            ADVICE,
+            archive::scoap_advise as Advising,
+            advise_into as Advising,
+        ),
+        (RANKS, archive::scoap_rank, rank_into),
+    ] {
+        let said = archive(&case.lib, &case.net, &[], &mut ranks[..size]);
+        let wanted = second(&case.lib, &case.net, &[], &mut other[..size]);
+        if said != wanted || ranks[..size] != other[..size] {
+            return Err(format!(
+                "the archive answers {said}, the second {wanted}, or other numbers"
+            ));
+        }
+    }
+    let mut report = vec![0; ROOM];
+    let mut timed = |entry: Advising| {
+        let mut run = |side: usize| match side {
+            0 => entry(
+                black_box(&case.lib),
+                black_box(&case.net),
+                &[],
+                black_box(&mut ranks),
+            ),
+            _ => call(archive::scoap_report, case, &mut report),
+        };
+        let calls = [fitting(&mut run, 0), fitting(&mut run, 1)];
+        rounds_of(run, calls).map(median)
+    };
+    let [advice, beside_advice] = timed(archive::scoap_advise);
+    let [ranks, beside_ranks] = timed(archive::scoap_rank);
+    Ok([advice, beside_advice, ranks, beside_ranks])
+}
+
+type Advising = fn(&[u8], &[u8], &[u32], &mut [u32]) -> u64;
+
+/// What it costs to try a pad on every line.
+fn advice() -> bool {
+    println!("a pad tried on every line, by the archive alone: over scoap_report beside it");
+    println!(
+        "{:<27} {:>5} {:>11} {:>11} {:>7} {:>11} {:>7}",
+        "shape", "gates", "report", "advise", "ratio", "rank", "ratio"
+    );
+    let mut sound = true;
+    for case in shapes::tried() {
+        match measure_advice(&case) {
+            Ok([advice, beside_advice, ranks, beside_ranks]) => println!(
+                "{:<27} {:>5} {beside_advice:>11.1} {advice:>11.1} {:>7.2} {ranks:>11.1} {:>7.2}",
+                case.label,
+                case.gates(),
+                advice / beside_advice,
+                ranks / beside_ranks,
+            ),
+            Err(problem) => {
+                failed(&case, &problem);
+                sound = false;
+            }
+        }
+    }
+    sound
+}
+
 fn main() -> ExitCode {
     println!("archive: the proved program, libscoap_c.a, through its C entry");
     println!("second:  the second implementation, a plain program in Rust, tests/second");
@@ -391,7 +470,9 @@ fn main() -> ExitCode {
     let asked = pads();
     println!();
     let stepped = budgets();
-    if grown && timed && asked && stepped {
+    println!();
+    let advised = advice();
+    if grown && timed && asked && stepped && advised {
         ExitCode::SUCCESS
     } else {
         ExitCode::FAILURE

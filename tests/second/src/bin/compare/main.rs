@@ -2,13 +2,14 @@
 //! of the scope paper, the largest sizes, every one-byte change of a small pair, random pairs,
 //! ladders, in which a sweep changes few of the numbers, plans, truth tables, netlists of truth
 //! tables at every setting of their inputs, netlists with ranges at prices within them, lists of
-//! asks and commits, and netlists at budgets.
+//! asks and commits, netlists at budgets, and pads tried on every line.
 //!
 //! Every entry of every lent slice is compared, canaries stand before and past it and around the
 //! texts. The last line counts: 'N passed, M failed'.
 //!
 //!     compare [SEED [PAIRS]]    another seed; another count of random pairs, and of the rest in proportion
 
+mod advice;
 #[path = "../../archive.rs"]
 mod archive;
 mod budgets;
@@ -54,7 +55,13 @@ fn main() -> ExitCode {
     tables::tables(&mut all);
     println!("{} truth tables and damaged lines", all.verdicts() - before);
     // The rest is the same however many pairs there were before it.
-    for part in [chips::chips, ranges::ranges, pads::pads, budgets::budgets] {
+    for part in [
+        chips::chips,
+        ranges::ranges,
+        pads::pads,
+        budgets::budgets,
+        advice::advice,
+    ] {
         let mut own = all.extent.random();
         part(&mut all, &mut own);
     }

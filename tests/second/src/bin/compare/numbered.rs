@@ -152,12 +152,17 @@ impl Tally {
 
     pub fn tell(&self, all: &mut Comparison) {
         for &(title, count) in &self.0 {
-            all.met(title, count);
+            if HAS.contains(&title) {
+                all.met_at_least(HAD, title, count);
+            } else {
+                all.met(title, count);
+            }
         }
     }
 }
 
-/// What a random netlist has.
+/// What a random netlist has, and how many must have it.
+const HAD: u64 = 50;
 pub const HAS: [&str; 5] = [
     "with ranges",
     "with open lines",
