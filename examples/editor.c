@@ -1,11 +1,11 @@
 /*
  * An example of a schematic editor's side: it lends two texts and a buffer to the analyser and shows
  * the report, or says in words where the texts stop. Then it places a pad on each line that it is given, after
- * asking what the pad does. While a circuit is being drawn it shows what a few steps tell; and it says where a pad
- * does most, with the lines that must get none.
+ * asking what the pad does, and changes to each library that it is given. While a circuit is being drawn it shows what
+ * a few steps tell; and it says where a pad does most, with the lines that must get none.
  *
  *     gcc -std=c99 -Iinclude -o editor examples/editor.c target/staticlib/libscoap_c.a
- *     ./editor [LIBRARY NETLIST [LINE ..]]
+ *     ./editor [LIBRARY NETLIST [LINE | LIBRARY ..]]
  *     ./editor --best STEPS [LIBRARY NETLIST]
  *     ./editor --advise [LIBRARY NETLIST [LINE ..]]
  *
@@ -46,6 +46,10 @@ static size_t net_length;
 /* The standing analysis, and what a pad would make of its CO and SO. */
 static uint32_t standing[SCOAP_STANDING];
 static uint32_t asked[SCOAP_OBSERVED];
+
+/* A library to change to, and what stood before it. */
+static uint8_t new_lib[TEXT];
+static uint32_t stood[SCOAP_STANDING];
 
 /* What a few steps tell. */
 static uint32_t best[SCOAP_BEST];
@@ -150,21 +154,27 @@ static void show_cost(uint32_t cost)
     }
 }
 
+static void show_number(unsigned line, const char *name, uint32_t then, uint32_t now)
+{
+    if (now != then) {
+        printf("line %u: %s ", line, name);
+        show_cost(then);
+        printf(" becomes ");
+        show_cost(now);
+        printf("\n");
+    }
+}
+
+/* The numbers of a line. */
+static const char *const names[] = {"cc0", "cc1", "sc0", "sc1", "co", "so"};
+
 /* Shows each CO and SO that the pad lowers. */
 static void show_gain(void)
 {
-    static const char *const names[] = {"co", "so"};
-
     for (unsigned at = 0; at < SCOAP_OBSERVED; at++) {
         uint32_t then = standing[SCOAP_STANDING_NUMBERS + 6 * (at / 2) + 4 + at % 2];
 
-        if (asked[at] != then) {
-            printf("line %u: %s ", at / 2 + 1, names[at % 2]);
-            show_cost(then);
-            printf(" becomes ");
-            show_cost(asked[at]);
-            printf("\n");
-        }
+        show_number(at / 2 + 1, names[4 + at % 2], then, asked[at]);
     }
 }
 
@@ -183,6 +193,40 @@ static int place(uint64_t line)
     /* A real editor would let its user decide here; the ticket says whether the answer still holds. */
     placed = scoap_commit(lib, lib_length, net, net_length, standing, SCOAP_STANDING, line, count);
     return placed < SCOAP_REFUSED ? 0 : refused(placed);
+}
+
+/* Changes to the library of a file, and shows what it changes. Returns the exit status. */
+static int change(const char *name)
+{
+    size_t length;
+    uint64_t answer;
+
+    if (!read_text(name, new_lib, &length)) {
+        fprintf(stderr, "editor: can't read %s\n", name);
+        return 2;
+    }
+    memcpy(stood, standing, sizeof stood);
+    answer = scoap_change(lib, lib_length, new_lib, length, net, net_length, standing, SCOAP_STANDING);
+    printf("library %s:\n", name);
+    if (answer >= SCOAP_REFUSED) {
+        return refused(answer);
+    }
+    puts(answer == SCOAP_WENT_ON ? "the sweeps went on" : "analysed from the beginning");
+    for (unsigned at = 0; at < SCOAP_STANDING - SCOAP_STANDING_NUMBERS; at++) {
+        show_number(at / 6 + 1, names[at % 6], stood[SCOAP_STANDING_NUMBERS + at], standing[SCOAP_STANDING_NUMBERS + at]);
+    }
+    printf("sweeps,%lu,%lu,%lu,%lu\n", (unsigned long)standing[1], (unsigned long)standing[2],
+           (unsigned long)standing[3], (unsigned long)standing[4]);
+    /* From here on this is the library that the analysis stands under. */
+    memcpy(lib, new_lib, length);
+    lib_length = length;
+    return 0;
+}
+
+/* A word of digits is a line, which gets a pad; any other names a library. */
+static int follow(const char *word)
+{
+    return word[strspn(word, "0123456789")] == 0 ? place(strtoull(word, NULL, 10)) : change(word);
 }
 
 /* What setting a line to a value costs: its number, or what it lies between. */
@@ -285,7 +329,7 @@ int main(int argc, char **argv)
         memcpy(lib, example_lib, lib_length);
         memcpy(net, example_net, net_length);
     } else if (argc == 2) {
-        fprintf(stderr, "usage: editor [LIBRARY NETLIST [LINE ..]]\n"
+        fprintf(stderr, "usage: editor [LIBRARY NETLIST [LINE | LIBRARY ..]]\n"
                         "       editor --best STEPS [LIBRARY NETLIST]\n"
                         "       editor --advise [LIBRARY NETLIST [LINE ..]]\n");
         return 2;
@@ -301,7 +345,7 @@ int main(int argc, char **argv)
         forbid(argc - 3, argv + 3);
         return show_advice();
     }
-    /* Without pads to place a report has to do. */
+    /* Where nothing follows, a report has to do. */
     if (argc > 3) {
         answer = scoap_stand(lib, lib_length, net, net_length, standing, SCOAP_STANDING, report, sizeof report);
     } else {
@@ -312,7 +356,7 @@ int main(int argc, char **argv)
     }
     fwrite(report, 1, (size_t)answer, stdout);
     for (int word = 3; word < argc && status == 0; word++) {
-        status = place(strtoull(argv[word], NULL, 10));
+        status = follow(argv[word]);
     }
     return status;
 }

@@ -149,6 +149,7 @@ uint64_t scoap_report(const uint8_t *lib, size_t lib_len, const uint8_t *net, si
  * Answers the text's length, or a refusal as scoap_report answers it. 17 is not made; 18 and 19 have line 0
  * and come after every other. The buffer afterwards is as scoap_report leaves its own: untouched by 2, zero
  * after every other refusal; bytes past the text keep their values.
+ * Of a standing analysis, after scoap_change too, the plan under its library costs the number that stands.
  */
 uint64_t scoap_plan(const uint8_t *lib, size_t lib_len, const uint8_t *net, size_t net_len,
                     uint64_t line, uint64_t value, uint64_t kind, uint8_t *text, size_t text_len);
@@ -286,9 +287,9 @@ uint64_t scoap_rank(const uint8_t *lib, size_t lib_len, const uint8_t *net, size
 #define SCOAP_OBSERVED 2000u
 
 /*
- * A standing analysis: pads are asked for and placed one by one, and the numbers are always those of a new
- * analysis with the pads placed so far as outputs. No pad raises a CO or an SO. The caller keeps the analysis, in
- * a standing table of SCOAP_STANDING numbers, and lends the two texts again with each call:
+ * A standing analysis: pads are asked for and placed one by one, the library may change, and the numbers are always
+ * those of a new analysis with the pads placed so far as outputs. No pad raises a CO or an SO. The caller keeps the
+ * analysis, in a standing table of SCOAP_STANDING numbers, and lends the two texts again with each call:
  *
  *   place 0          the count of pads placed
  *   places 1 to 4    the sweeps of CC, SC, CO and SO
@@ -329,11 +330,48 @@ uint64_t scoap_ask(const uint8_t *lib, size_t lib_len, const uint8_t *net, size_
  * Answers the count of pads placed now. Refused as scoap_ask is, and by 24 where another pad was placed since;
  * then nothing is touched.
  *
- * Of a table that no scoap_stand and scoap_commit over these texts left, these two calls take the count, the pads
- * and the CC and SC as they are, any number above SCOAP_NEVER as never, and find CO and SO over them.
+ * Of a table that no calls over these texts left, these two calls take the count, the pads and the CC and SC as they
+ * are, any number above SCOAP_NEVER as never, and find CO and SO over them.
  */
 uint64_t scoap_commit(const uint8_t *lib, size_t lib_len, const uint8_t *net, size_t net_len,
                       uint32_t *standing, size_t standing_len, uint64_t line, uint64_t count);
+
+/* What became of a standing analysis under a new library. */
+enum scoap_changed {
+    /* analysed from the beginning, with the pads kept */
+    SCOAP_BEGUN_AGAIN = 0,
+    /* the sweeps went on from the standing numbers */
+    SCOAP_WENT_ON = 1
+};
+
+/*
+ * Makes a standing analysis one under a new library, in which rows were added, say, while it was held open. From then
+ * on new_lib is the library that is lent to the calls.
+ *
+ * lib         the library that it stands under until now
+ * new_lib     the new one, new_lib_len bytes
+ *
+ * Answers SCOAP_WENT_ON where new_lib has the same entries in the same order, name, pins and Name or Name3 alike, and
+ * differs only by rows added to groups, perhaps none, the old rows keeping their order; Z may gain rows. No cell may
+ * lose the reading of pins that share a line as one wire, by a row of any of its lines that names both values of one
+ * pin. Cells that no gate uses count. The sweeps then go on from the standing numbers, those of CO and SO after those
+ * of CC and SC, and the four counts are those of this run: 1 each where no row was added.
+ *
+ * Answers SCOAP_BEGUN_AGAIN under any other library that is accepted.
+ *
+ * Either way the pads stay, and the six numbers of each line are those of a new analysis under new_lib with the pads as
+ * outputs. scoap_plan with new_lib writes plans that cost these numbers; they may be others than before. A ticket
+ * from before the change makes the numbers under new_lib stand.
+ *
+ * A refusal touches nothing: 1 and 2, of any of the three texts; then those of lib and of net, and 23, by which the
+ * table is no standing analysis of these; then those of new_lib; then those of net under new_lib. So where the table
+ * is one, 3 to 9 tell of new_lib, and 12 and 13 of a gate whose cell it has not, or has otherwise.
+ *
+ * Of a table that no calls over these texts left, the count and the pads are taken as they are. Where the sweeps go
+ * on, they begin with its numbers, any above SCOAP_NEVER as never, and each visit keeps the lesser.
+ */
+uint64_t scoap_change(const uint8_t *lib, size_t lib_len, const uint8_t *new_lib, size_t new_lib_len,
+                      const uint8_t *net, size_t net_len, uint32_t *standing, size_t standing_len);
 
 /* The two parts of a refusal. */
 static inline unsigned scoap_number(uint64_t answer)

@@ -27,13 +27,16 @@ static size_t lib_length;
 static size_t net_length;
 static uint64_t answer;
 /* Which entry is called. The library's text is the line of a truth table for CELL. */
-static enum { REPORT, PLAN, CELL, BUILT_IN, QUALIFIES, STAND, ASK, COMMIT, BEST, ADVISE, RANK } entry;
+static enum { REPORT, PLAN, CELL, BUILT_IN, QUALIFIES, STAND, ASK, COMMIT, CHANGE, BEST, ADVISE, RANK } entry;
 /* The line whose plan is written out, at 1. */
 static unsigned plan;
 /* A standing analysis, what is asked of it, and the line of the pad. */
 static uint32_t standing[SCOAP_STANDING];
 static uint32_t asked[SCOAP_OBSERVED];
 static unsigned pad;
+/* The library that it is changed to. */
+static char more[2 * SCOAP_MOST_TEXT];
+static size_t more_length;
 static uint32_t best[SCOAP_BEST];
 /* All lines but one, and what a pad on it leaves. */
 static uint32_t forbidden[999];
@@ -102,6 +105,10 @@ static void *run(void *unused)
     case COMMIT:
         answer = scoap_commit((const uint8_t *)lib, lib_length, (const uint8_t *)net, net_length,
                               standing, SCOAP_STANDING, pad, standing[0]);
+        break;
+    case CHANGE:
+        answer = scoap_change((const uint8_t *)lib, lib_length, (const uint8_t *)more, more_length,
+                              (const uint8_t *)net, net_length, standing, SCOAP_STANDING);
         break;
     case BEST:
         answer = scoap_best((const uint8_t *)lib, lib_length, (const uint8_t *)net, net_length,
@@ -213,6 +220,37 @@ static void measure_pad(const char *label, unsigned line)
     entry = REPORT;
 }
 
+/* What the change just measured answered. */
+static void meant(const char *label, uint64_t wanted)
+{
+    if (answer != wanted) {
+        printf("FAILED: %s: answer %llu, %llu was meant\n", label, (unsigned long long)answer,
+               (unsigned long long)wanted);
+        failed++;
+    }
+}
+
+/* The analysis just held, under the same library, under one with an entry more, and under one without any. */
+static void measure_change(const char *label)
+{
+    static const char tie[] = "Name,TIE0,0\nCC,1,Z\nCO\nSC,0,Z\nSO\nEnd\n";
+    char text[64];
+
+    entry = CHANGE;
+    memcpy(more, lib, more_length = lib_length);
+    snprintf(text, sizeof text, "%s, gone on", label);
+    measure(text, 0);
+    meant(text, SCOAP_WENT_ON);
+    memcpy(more + more_length, tie, sizeof tie - 1);
+    more_length += sizeof tie - 1;
+    snprintf(text, sizeof text, "%s, begun again", label);
+    measure(text, 0);
+    meant(text, SCOAP_BEGUN_AGAIN);
+    more_length = 0;
+    measure("under a library without entries", SCOAP_UNKNOWN_CELL);
+    entry = REPORT;
+}
+
 /* The same texts, and what steps without a limit tell of them. */
 static void measure_best(const char *label, unsigned number)
 {
@@ -296,6 +334,7 @@ int main(void)
     add_net("output,1000\n");
     measure("1,999 sweeps", 0);
     measure_pad("1,999 sweeps", 500);
+    measure_change("1,999 sweeps");
     measure_best("1,999 sweeps", 0);
     measure_advice("1,999 sweeps", 500, 0);
     /* The same at both ends of a range. */
@@ -314,6 +353,7 @@ int main(void)
     }
     measure("full entries, full rows", 0);
     measure_pad("full entries", 500);
+    measure_change("full entries");
     measure_best("full entries", 0);
     measure_advice("full entries", 500, 0);
 
@@ -334,6 +374,8 @@ int main(void)
     measure("an ask with a netlist of commas", 10);
     entry = COMMIT;
     measure("a commit with a netlist of commas", 10);
+    entry = CHANGE;
+    measure("a change with a netlist of commas", 10);
     measure_best("a netlist of commas", 10);
     measure_advice("a netlist of commas", 500, 10);
     start();
@@ -368,8 +410,18 @@ int main(void)
     measure("an ask with a text too long", 2);
     entry = COMMIT;
     measure("a commit with a text too long", 2);
+    entry = CHANGE;
+    measure("a change with a text too long", 2);
     measure_best("a text too long", 2);
     measure_advice("a text too long", 500, 2);
+    start();
+    entry = CHANGE;
+    memset(standing, 0, sizeof standing);
+    memset(more, ',', more_length = SCOAP_MOST_TEXT);
+    measure("a change to a library of commas", 3);
+    more_length++;
+    measure("a change to a text too long", 2);
+    entry = REPORT;
 
     /* The deepest tree: the 1 comes from the own 0, and the 0 from the 1 before. */
     start();

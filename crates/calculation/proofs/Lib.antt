@@ -12,8 +12,10 @@ pub mod Budgeting
 pub mod Observing
 pub mod Rows
 pub mod Outputs
+pub mod Growing
 pub mod Padding
 pub mod Trying
 pub mod Advising
 pub mod Standing
+pub mod Changing
 pub mod Laws

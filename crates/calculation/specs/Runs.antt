@@ -7,7 +7,7 @@ use Prim.Native.Nat.{ℕ, suc, _%_}
 use lib.Dec.{ltb}
 use Rattle.sizes.specs.Sizes as Size
 use Rattle.reading.specs.Choice.{pick}
-use Rattle.plans.specs.Sweep.{Run}
+use Rattle.plans.specs.Sweep.{lower, Run}
 use Rattle.plans.specs.Stages.{Stage, runStage}
 use Rattle.cell_library.specs.Cells.{Cell}
 use Rattle.netlist.specs.Netlist.{Gate, Statement, gatesOf}
@@ -38,7 +38,24 @@ runsFrom cells gs xs =
       counts = record { cc = cc .count; sc = sc .count; co = co .count; so = so .count };
     }
 
--- The last two of them, beside the counts of the first two.
+-- The four runs where each visit keeps the lesser, whatever its rule: from any costs they settle within the same bounds
+-- (`lesser-settled` of proofs/Observing.antt). Where the numbers stand under fewer rows they are `runsFrom` (`lesser-on` of
+-- proofs/Changing.antt).
+abbrev pub lesser : Stage → Stage
+lesser s = record { rule = lower; visits = s .visits; bound = s .bound }
+
+unfoldable pub lesserRuns : List Cell → List Gate → List ℕ → Analysed
+lesserRuns cells gs xs =
+    let cc : Run = runStage (lesser (settingStage combinational cells gs)) xs in
+    let sc : Run = runStage (lesser (settingStage sequential cells gs)) (cc .numbers) in
+    let co : Run = runStage (lesser (observingStage combinational cells gs)) (sc .numbers) in
+    let so : Run = runStage (lesser (observingStage sequential cells gs)) (co .numbers) in
+    record {
+      numbers = so .numbers;
+      counts = record { cc = cc .count; sc = sc .count; co = co .count; so = so .count };
+    }
+
+-- The last two of the four runs, beside the counts of the first two.
 unfoldable pub lastRuns : List Cell → List Gate → Counts → List ℕ → Analysed
 lastRuns cells gs counts xs =
     let co : Run = runStage (observingStage combinational cells gs) xs in

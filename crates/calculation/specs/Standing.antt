@@ -7,22 +7,23 @@ use Prim.Native.Nat.{ℕ, _≤_}
 use lib.ListN.{length}
 use Rattle.reading.specs.Choice.{pick}
 use Rattle.reading.specs.Refusal.{Read, refused, read}
+use Rattle.plans.specs.Stages.{Stages}
 use Rattle.plans.specs.Sweep.{at}
 use Rattle.cell_library.specs.Cells.{Cell}
 use Rattle.cell_library.specs.Sound as C
 use Rattle.netlist.specs.Netlist.{Statement, gatesOf}
 use Rattle.netlist.specs.Rereading.{Rereadable}
 use Rattle.calculation.specs.Acceptance.{BothSound}
-use Rattle.calculation.specs.Calculation.{analysed}
-use Rattle.calculation.specs.Settled.{FewSweeps}
+use Rattle.calculation.specs.Calculation.{stages, analysed}
+use Rattle.calculation.specs.Settled.{inOrder, FewSweeps}
 use Rattle.calculation.specs.Growth.{grown}
 use Rattle.calculation.specs.Runs.{runsFrom}
 use Rattle.calculation.specs.Pads.{padded, State, statementsOf, fresh, unpaddable, placeable, placed, Operation, step, steps}
 
--- What may happen to a standing analysis. A library that is refused changes nothing, and is none of these.
+-- What may happen to a standing analysis: an ask or a commit, and a change to what a library text comes to.
 pub data Event : Type 0 where
   operate : Operation → Event
-  change : (more : List Cell) → Event
+  change : (library : Read (List Cell)) → Event
 
 -- "CC and SC sweeps then go on from the standing numbers, CO and SO after them."
 unfoldable pub wentOn : State → List Cell → State
@@ -45,9 +46,11 @@ changedTo s more (refused number line) = s
 changedTo s more (read ss) = pick (grown (s .cells) more) (wentOn s more) (begunAgain s more ss)
 
 module _ (given : List Cell → Read (List Statement)) where
+  -- "one that is refused .. leaves the standing analysis untouched".
   unfoldable pub react : State → Event → State
   react s (operate o) = step s o
-  react s (change more) = changedTo s more (given more)
+  react s (change (refused number line)) = s
+  react s (change (read more)) = changedTo s more (given more)
 
   unfoldable pub reacts : State → List Event → State
   reacts s [] = s
@@ -83,13 +86,40 @@ abbrev pub NoneRaised : (List Cell → Read (List Statement)) → Type 0
 NoneRaised given =
     (s : State) → Standing given s → (os : List Operation) (n : ℕ) → at (steps s os .analysis .numbers) n ≤ at (s .analysis .numbers) n
 
--- Each library that it changes to was read.
+-- ---- other libraries, under the names of proofs/Changing.antt
+
+-- Each library that it changes to is refused, or is one that was read.
 abbrev pub AllRead : List Event → Type 0
 AllRead [] = Unit {0}
 AllRead (operate o ∷ es) = AllRead es
-AllRead (change more ∷ es) = C.Sound more × AllRead es
+AllRead (change (refused number line) ∷ es) = AllRead es
+AllRead (change (read more) ∷ es) = C.Sound more × AllRead es
 
--- `all-standing` of proofs/Standing.antt: whatever happens to a fresh analysis, it stands.
+-- `grown-reads`: a library that has only grown reads the netlist as the old one did, and so never refuses it.
+abbrev pub GrownReads : (List Cell → Read (List Statement)) → Type 0
+GrownReads given = (cells more : List Cell) → grown cells more ≡ true → given more ≡ given cells
+
+-- `on-goes`: "CC and SC sweeps then go on from the standing numbers, CO and SO after them", each until the first that changes
+-- nothing, "and stay within document 01's bounds"; they come to the numbers of a new analysis.
+pub record GoesOn (s : State) (more : List Cell) : Type 0 where
+  pub settled : Stages (stages more (gatesOf (statementsOf s))) (s .analysis .numbers) (inOrder (wentOn s more .analysis .counts)) (wentOn s more .analysis .numbers)
+  pub numbers : wentOn s more .analysis .numbers ≡ analysed more (statementsOf s) .numbers
+  pub few : FewSweeps (length (gatesOf (statementsOf s))) (wentOn s more .analysis .counts)
+
+abbrev pub OnGoes : (List Cell → Read (List Statement)) → Type 0
+OnGoes given = (s : State) → Standing given s → (more : List Cell) → C.Sound more → grown (s .cells) more ≡ true → GoesOn s more
+
+-- `same-library`: the library that stands has only grown, by no row, and each run takes the one sweep that changes nothing.
+pub record Unmoved (s : State) : Type 0 where
+  pub goes : grown (s .cells) (s .cells) ≡ true
+  pub numbers : wentOn s (s .cells) .analysis .numbers ≡ s .analysis .numbers
+  pub counts : wentOn s (s .cells) .analysis .counts ≡ record { cc = 1; sc = 1; co = 1; so = 1 }
+
+abbrev pub SameLibrary : (List Cell → Read (List Statement)) → Type 0
+SameLibrary given = (s : State) → Standing given s → Unmoved s
+
+-- `all-standing`: whatever happens to a fresh analysis, it stands; so of a ticket asked before a change and committed after it,
+-- since a commit sees the present state alone.
 abbrev pub AllStanding : (List Cell → Read (List Statement)) → Type 0
 AllStanding given =
     (cells : List Cell) (ss : List Statement) →

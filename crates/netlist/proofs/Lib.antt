@@ -10,6 +10,7 @@ pub mod Opening
 pub mod Outcomes
 pub mod Padding
 pub mod Places
+pub mod Rereading
 pub mod Sounding
 pub mod Storing
 pub mod Unranged

@@ -5,3 +5,4 @@ pub mod Qualifying
 pub mod Standing
 pub mod Best
 pub mod Advising
+pub mod Changing

@@ -6,3 +6,4 @@ pub mod Qualifies
 pub mod Standing
 pub mod Best
 pub mod Advice
+pub mod Changing

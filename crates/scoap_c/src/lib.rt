@@ -2,13 +2,14 @@
 // its own, of which no place is used before the call, and answers by one number.
 //
 // Open to others: `scoap_report`, `scoap_plan`, `scoap_cell`, `scoap_built_in`, `scoap_qualifies`, `scoap_stand`,
-// `scoap_ask`, `scoap_commit`, `scoap_best`, `scoap_advise` and `scoap_rank`. They have no condition on their input;
-// specs/Coded.antt, specs/Plan.antt, specs/Cell.antt, specs/BuiltIn.antt, specs/Qualifies.antt, specs/Standing.antt,
-// specs/Best.antt and specs/Advice.antt say what they promise.
+// `scoap_ask`, `scoap_commit`, `scoap_change`, `scoap_best`, `scoap_advise` and `scoap_rank`. They have no condition
+// on their input; specs/Coded.antt, specs/Plan.antt, specs/Cell.antt, specs/BuiltIn.antt, specs/Qualifies.antt,
+// specs/Standing.antt, specs/Changing.antt, specs/Best.antt and specs/Advice.antt say what they promise.
 use adviser::Advised;
 use adviser::Ranked;
 use best::Steps;
 use calculation::Advice;
+use changing::Changed;
 use netlist::Rules;
 use outcome::Answer;
 use read_pair::Progress;
@@ -19,10 +20,12 @@ ghost use mathlib.Core.Path.{_≡_};
 ghost use Rattle.writer.specs.Buffer.{LineBelow, codeOf};
 ghost use Rattle.adviser.specs.Calls.{advisedRead, rankedRead};
 ghost use Rattle.standing.specs.Calls.{padsRead};
+ghost use Rattle.changing.specs.Calls.{changedRead};
 ghost use Rattle.scoap_c.specs.Advice.{adviceLine, lineRead, AdviceCoded, RankCoded};
 ghost use Rattle.scoap_c.specs.Best.{BestCoded};
 ghost use Rattle.scoap_c.specs.BuiltIn.{BuiltInCoded};
 ghost use Rattle.scoap_c.specs.Cell.{CellCoded};
+ghost use Rattle.scoap_c.specs.Changing.{toldNumber, ChangeCoded};
 ghost use Rattle.scoap_c.specs.Coded.{Coded};
 ghost use Rattle.scoap_c.specs.Plan.{PlanCoded};
 ghost use Rattle.scoap_c.specs.Qualifies.{QualifiesCoded};
@@ -260,4 +263,27 @@ pub extern "C" fn scoap_rank(lib: &[u8], net: &[u8], forbidden: &[u32], ranks: &
 {
     let ranked = adviser::rank(lib, net, forbidden, ranks);
     ranked_code(ranked)
+}
+
+// 1 where the sweeps went on, 0 where the netlist was analysed from the beginning, or the refusal, by one number.
+fn change_code(changed: Changed) -> u64
+    requires { ⌜ LineBelow (toldNumber (changedRead changed)) ⌝ }
+    ensures { λ n. ⌜ n ≡ codeOf (toldNumber (changedRead changed)) ⌝ }
+{
+    match changed {
+        Changed::WentOn => 1,
+        Changed::BegunAgain => 0,
+        Changed::Refused(r) => refusal_code(r),
+    }
+}
+
+// For C: changes the library of a standing analysis, which was made with `lib`: 1 where the sweeps went on, 0 where the
+// netlist was analysed from the beginning, pads kept; else the refusal number times 1,000,000 plus the line.
+#[no_mangle]
+pub extern "C" fn scoap_change(lib: &[u8], new_lib: &[u8], net: &[u8], standing: &mut [u32]) -> u64
+    ensures { λ r. ⌜ ChangeCoded (now (lib .entry)) (now («new_lib» .entry)) (now (net .entry))
+        (now (standing .entry)) (now (standing .exit)) r ⌝ }
+{
+    let changed = changing::change(lib, new_lib, net, standing);
+    change_code(changed)
 }

@@ -29,7 +29,7 @@ module _ (lib net : List ℕ) where
         ltb-false Size.textBytes (length net) (or-right (ltb Size.textBytes (length lib)) (ltb Size.textBytes (length net)) w),
       )
 
-  held-within : (table : List ℕ) → length lib ≤ Size.textBytes → length net ≤ Size.textBytes → Within anyNumber lastLine (heldBy (givenTexts lib net) table)
+  pub held-within : (table : List ℕ) → length lib ≤ Size.textBytes → length net ≤ Size.textBytes → Within anyNumber lastLine (heldBy (givenTexts lib net) table)
   unfolding heldBy
   held-within table p q =
       within-bind anyNumber lastLine (readPair (givenTexts lib net)) _ (pair-within lib net (ownTables []) p q)

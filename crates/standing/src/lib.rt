@@ -5,6 +5,8 @@
 // output; `commit`, which marks it; the type `Pads`. They have no condition on their input; specs/Calls.antt says what
 // they answer and leave, specs/Promise.antt what that means of a standing analysis. The published sizes are
 // `sizes::STANDING` and `sizes::OBSERVED`.
+// For the crates above, each with what it asks and leaves (specs/Parts.antt): `read_held`, both texts and the pads that
+// stand; `mark_pads`, these pads in a netlist table; `put_standing`, which lays an analysis into a standing table.
 use analysis::analyse_into;
 use calculation::Counts;
 use netlist::RawStatement;
@@ -113,7 +115,7 @@ fn refusal(number: u32) -> Refusal
 }
 
 // Marks the pads of a standing table; 23 where there are more than lines, or one cannot be placed.
-fn mark_pads(library: &[u32], netlist: &mut [u32], standing: &[u32]) -> Verdict
+pub fn mark_pads(library: &[u32], netlist: &mut [u32], standing: &[u32]) -> Verdict
     requires { ⌜ Size.standing ≤ length (now standing) ⌝ }
     ensures { λ r. ⌜ ((cells : List Cell) (ss : List Statement)
         → Holds (now (library .entry)) (now (netlist .entry)) cells ss
@@ -156,7 +158,7 @@ fn read_both(lib: &[u8], net: &[u8], library: &mut [u32], netlist: &mut [u32]) -
 }
 
 // Both texts, and the pads that stand.
-fn read_held(
+pub fn read_held(
     lib: &[u8],
     net: &[u8],
     standing: &[u32],
@@ -268,7 +270,12 @@ fn put_numbers(standing: &mut [u32], numbers: &[u32; sizes::NUMBERS])
 }
 
 // Lays counts and numbers into a standing table that has so many pads, with 0 after the last.
-fn put_standing(standing: &mut [u32], pads: usize, counts: Counts, numbers: &[u32; sizes::NUMBERS])
+pub fn put_standing(
+    standing: &mut [u32],
+    pads: usize,
+    counts: Counts,
+    numbers: &[u32; sizes::NUMBERS],
+)
     requires { ⌜ (pads ≤ Size.pads) × (Size.standing ≤ length (now standing))
         × (length (now numbers) ≡ Size.numbers) ⌝ }
     ensures { λ _. ⌜ now (standing .exit)

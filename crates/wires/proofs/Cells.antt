@@ -58,7 +58,7 @@ each-fitted P d h zero xs e = tt
 each-fitted P d h (suc count) [] e = (h, each-fitted P d h count [] tt)
 each-fitted P d h (suc count) (x ∷ xs) e = (e .0, each-fitted P d h count xs (e .1))
 
-abbrev FewRows : Group → Type 0
+abbrev pub FewRows : Group → Type 0
 FewRows g = length g ≤ Size.rows
 
 few-rows : {w : Word} {n : ℕ} {gs : List Group} → SoundGroups w n gs → (count : ℕ) → Each FewRows (fitted [] count gs)
@@ -71,7 +71,7 @@ module _ (d : Cell) (cells : List Cell) (behind : List ℕ) (few : length cells 
   abbrev library : List ℕ
   library = libraryWords cells ++ behind
 
-  most-rows : (g : ℕ) → g < Size.groups → FewRows (getD (cellGroups cell) g [])
+  pub most-rows : (g : ℕ) → g < Size.groups → FewRows (getD (cellGroups cell) g [])
   unfolding cellGroups
   most-rows g h =
       each-at FewRows (cellGroups cell) g [] (rw (length-cellGroups cell) h)

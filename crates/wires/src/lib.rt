@@ -2,7 +2,8 @@
 // SC rows are read.
 //
 // For the crates above: `tied`, whether a gate's rows are read so, which is asked once for each gate;
-// `needs_both` and `once`, of a row of such a gate. specs/Wires.antt says what each answers.
+// `needs_both` and `once`, of a row of such a gate; `cell_both`, whether a cell is none of one wire.
+// specs/Wires.antt says what each answers.
 ghost use mathlib.Core.Bool.{_&&_};
 ghost use mathlib.Core.Path.{_≡_};
 ghost use Prim.Native.Nat.{_+_, _*_, _^_, _≤_, _<_};
@@ -205,7 +206,7 @@ fn group_both(library: &[u32], pins: usize, group: usize) -> bool
 }
 
 // Whether a row of a cell does, the cell at a place of the library table.
-fn cell_both(library: &[u32], pins: usize, cell: usize) -> bool
+pub fn cell_both(library: &[u32], pins: usize, cell: usize) -> bool
     requires { ⌜ (pins ≤ Size.pins) × (cell + Size.cellWords ≤ length (now library)) ⌝ }
     ensures { λ r. ⌜ r ≡ cellBoth (now (library .entry)) pins cell ⌝ }
 {

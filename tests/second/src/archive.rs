@@ -66,6 +66,16 @@ mod c {
             line: u64,
             count: u64,
         ) -> u64;
+        pub fn scoap_change(
+            lib: *const u8,
+            lib_len: usize,
+            new_lib: *const u8,
+            new_lib_len: usize,
+            net: *const u8,
+            net_len: usize,
+            standing: *mut u32,
+            standing_len: usize,
+        ) -> u64;
         pub fn scoap_best(
             lib: *const u8,
             lib_len: usize,
@@ -191,6 +201,22 @@ pub fn scoap_commit(lib: &[u8], net: &[u8], standing: &mut [u32], line: u64, cou
             standing.len(),
             line,
             count,
+        )
+    }
+}
+
+pub fn scoap_change(lib: &[u8], new_lib: &[u8], net: &[u8], standing: &mut [u32]) -> u64 {
+    // Each slice is valid for its length, and no two overlap.
+    unsafe {
+        c::scoap_change(
+            lib.as_ptr(),
+            lib.len(),
+            new_lib.as_ptr(),
+            new_lib.len(),
+            net.as_ptr(),
+            net.len(),
+            standing.as_mut_ptr(),
+            standing.len(),
         )
     }
 }

@@ -134,6 +134,29 @@ sweeps,3,3,3,3
 /// CO and SO of the latch's four lines with a pad on line 4: each input is seen at its own gate.
 pub const LATCH_ASKED: [u32; 8] = [3, 0, 3, 0, 0, 0, 0, 0];
 
+/// NAND2 with a row added, the first pin at 1 alone for the output's 0. Of the latch CC0 of lines 3 and 4 becomes 2,
+/// in a sweep and one that changes nothing; SC, CO and SO stand as they were.
+pub const NAND2_MORE: &str = "\
+Name,NAND2,2
+CC,13,M,11,21,M,5
+CO,203,211
+SC,12,20,M,4
+SO,202,210
+End
+";
+pub const LATCH_CHANGED: [u32; 4] = [2, 1, 1, 1];
+
+/// C1490 with a reset that needs no clock: the row with R at 1 alone. Of the netlist below CC0 of Q becomes 1 and,
+/// as a change of C is seen from Q at 0, CO of C becomes 5.
+pub const C1490_MORE: &str = "\
+Name,C1490,3
+CC,22,M,134,M,2,74
+CO,1034,1334,M,1474,1222
+SC,23,M,135,M,3,75
+SO,1035,1335,M,1475,1223
+End
+";
+
 /// What five steps come to on the latch: the last cost, then flag and number for 0 and for 1 of each line. Line 4
 /// is on offer, line 3 at 0 is not.
 pub const LATCH_BEST: [u32; 17] = [2, 1, 1, 1, 1, 1, 1, 1, 1, 0, NEVER, 1, 2, 0, 4, 0, 2];

@@ -33,7 +33,7 @@ pub struct Ways {
 
 /// One way to set or observe: what it adds to the sum of its columns, and the columns that it names,
 /// whatever bits its entry gives to the depth.
-#[derive(Clone, Copy)]
+#[derive(Clone, Copy, PartialEq)]
 pub struct Row {
     pub depth: u32,
     /// From bit 0: the last pin at 1, the last pin at 0, and on to the output.
@@ -41,7 +41,7 @@ pub struct Row {
 }
 
 pub struct Cell {
-    name: Name,
+    pub name: Name,
     pub pins: usize,
     /// The lowest bits of each row, as the entry writes it, that are its depth.
     pub depth_bits: u32,

@@ -6,6 +6,7 @@ use crate::generate::{
     add_cells, add_netlist, fields, groups_of, library_of, rows_line, Order, Pair, Shape, Style,
     Wiring, ENTRY,
 };
+use crate::grow::{one_row, WORDS};
 use crate::random::Random;
 use crate::{Counts, MOST_BYTES, MOST_LINES};
 use std::ops::Range;
@@ -347,5 +348,40 @@ pub fn held() -> Vec<Case> {
         loops(950),
         long_library_many_gates(),
         slow(999),
+    ]
+}
+
+/// A shape whose library is changed.
+pub struct Grown {
+    pub case: Case,
+    /// Its library with one row more, of each cell and line of rows one where there is a place.
+    pub with_a_row: Vec<Vec<u8>>,
+    /// Its library with the first entry behind the others.
+    pub moved: Vec<u8>,
+}
+
+impl Grown {
+    fn of(case: Case, mut pair: Pair) -> Self {
+        let mut rng = Random::from(SEED);
+        let with_a_row = (0..pair.cells.len() * WORDS.len())
+            .filter_map(|at| one_row(&mut rng, &pair, at / WORDS.len(), at % WORDS.len()))
+            .collect();
+        pair.lib.lines.rotate_left(ENTRY);
+        Grown {
+            case,
+            with_a_row,
+            moved: pair.lib.bytes(),
+        }
+    }
+}
+
+/// Those under which the library is changed.
+pub fn grown() -> Vec<Grown> {
+    let pair = |seed, wiring| random_pair(seed, 950, wiring);
+    vec![
+        Grown::of(forward(950), pair(SEED, Wiring::Forward)),
+        Grown::of(random(950), pair(FEW_LOOPS, Wiring::Near)),
+        Grown::of(random_any_order(950), pair(FEW_LOOPS, Wiring::Near)),
+        Grown::of(loops(950), pair(SEED, Wiring::Any)),
     ]
 }

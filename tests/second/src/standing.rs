@@ -26,16 +26,16 @@ pub const COSTS: usize = 6;
 pub const OBSERVED_AT: usize = 4;
 
 /// An analysis that the pads have been placed on.
-struct Standing {
-    pads: Vec<u32>,
-    counts: Counts,
-    numbers: Numbers,
+pub(crate) struct Standing {
+    pub(crate) pads: Vec<u32>,
+    pub(crate) counts: Counts,
+    pub(crate) numbers: Numbers,
 }
 
 impl Standing {
     /// What a table holds, whoever wrote it: a number above never is read as never. None where the count is above
-    /// 1,000. CO and SO, which each call finds anew, are left out.
-    fn held(table: &[u32]) -> Option<Self> {
+    /// 1,000.
+    pub(crate) fn held(table: &[u32]) -> Option<Self> {
         let count = table[0] as usize;
         if count > MOST_LINES {
             return None;
@@ -50,6 +50,8 @@ impl Standing {
             let cost = |place: usize| costs[place].min(NEVER);
             numbers.cc[at + 1] = [cost(0), cost(1)];
             numbers.sc[at + 1] = [cost(2), cost(3)];
+            numbers.co[at + 1] = cost(OBSERVED_AT);
+            numbers.so[at + 1] = cost(OBSERVED_AT + 1);
         }
         Some(Standing {
             pads: table[PADS_AT..PADS_AT + count].to_vec(),
@@ -59,7 +61,7 @@ impl Standing {
     }
 
     /// All numbers of the table.
-    fn words(&self) -> Vec<u32> {
+    pub(crate) fn words(&self) -> Vec<u32> {
         let mut words = vec![self.pads.len() as u32];
         words.extend(self.counts);
         words.extend(&self.pads);
@@ -87,23 +89,29 @@ pub fn observed(table: &[u32]) -> Vec<Cost> {
 }
 
 /// A standing analysis, and the two texts read, with its pads marked.
-struct Opened {
-    library: Library,
+pub(crate) struct Opened {
+    pub(crate) library: Library,
     netlist: Netlist,
-    standing: Standing,
+    pub(crate) standing: Standing,
 }
 
-fn open(lib: &[u8], net: &[u8], table: &[u32]) -> Result<Opened, Refusal> {
+pub(crate) fn open(lib: &[u8], net: &[u8], table: &[u32]) -> Result<Opened, Refusal> {
     let (library, mut netlist) = both_read(lib, net)?;
     let standing = Standing::held(table).ok_or(Refusal::whole(UNPADDABLE))?;
-    for &pad in &standing.pads {
-        netlist.pad(u64::from(pad)).map_err(Refusal::whole)?;
-    }
+    mark(&mut netlist, &standing.pads)?;
     Ok(Opened {
         library,
         netlist,
         standing,
     })
+}
+
+/// Marks the pads one after another.
+pub(crate) fn mark(netlist: &mut Netlist, pads: &[u32]) -> Result<(), Refusal> {
+    for &pad in pads {
+        netlist.pad(u64::from(pad)).map_err(Refusal::whole)?;
+    }
+    Ok(())
 }
 
 impl Opened {
@@ -126,7 +134,7 @@ pub(crate) fn long_enough(length: usize, size: usize) -> Result<(), Refusal> {
     Ok(())
 }
 
-fn code(answer: Result<u64, Refusal>) -> u64 {
+pub(crate) fn code(answer: Result<u64, Refusal>) -> u64 {
     answer.unwrap_or_else(Refusal::code)
 }
 
@@ -199,9 +207,7 @@ fn commit(
 /// comes to.
 pub fn analysed(lib: &[u8], net: &[u8], pads: &[u32]) -> Result<Vec<u32>, Refusal> {
     let (library, mut netlist) = both_read(lib, net)?;
-    for &pad in pads {
-        netlist.pad(u64::from(pad)).map_err(Refusal::whole)?;
-    }
+    mark(&mut netlist, pads)?;
     let (numbers, counts) = low(&library, &netlist);
     let standing = Standing {
         pads: pads.to_vec(),

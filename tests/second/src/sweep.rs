@@ -18,6 +18,15 @@ pub struct Numbers {
     pub so: Observing,
 }
 
+/// What a visit makes of a number of setting.
+#[derive(Clone, Copy, PartialEq)]
+pub enum Rule {
+    /// The least row sum, as the scope paper has it.
+    Becomes,
+    /// The lesser of the number and the row sums: from whatever costs, no number rises.
+    Keeps,
+}
+
 /// All numbers, with each input at its price.
 pub fn run(
     library: &Library,
@@ -36,19 +45,35 @@ pub fn run(
             numbers.sc[line] = [0, 0];
         }
     }
-    let cc = set(library, netlist, combinational, &mut numbers.cc);
-    let sc = set(library, netlist, sequential, &mut numbers.sc);
-    let [co, so] = observe_both(library, netlist, &mut numbers);
-    (numbers, [cc, sc, co, so])
+    start_observing(netlist, &mut numbers);
+    let counts = go_on(library, netlist, Rule::Becomes, &mut numbers);
+    (numbers, counts)
 }
 
 /// CO and SO from their start, over the costs of setting that the numbers hold, and their sweeps.
 pub fn observe_both(library: &Library, netlist: &Netlist, numbers: &mut Numbers) -> [u32; 2] {
+    start_observing(netlist, numbers);
+    observe_on(library, netlist, numbers)
+}
+
+/// All four runs from the costs that the numbers hold, and their sweeps.
+pub fn go_on(library: &Library, netlist: &Netlist, rule: Rule, numbers: &mut Numbers) -> Counts {
+    let cc = set(library, netlist, combinational, rule, &mut numbers.cc);
+    let sc = set(library, netlist, sequential, rule, &mut numbers.sc);
+    let [co, so] = observe_on(library, netlist, numbers);
+    [cc, sc, co, so]
+}
+
+fn start_observing(netlist: &Netlist, numbers: &mut Numbers) {
     for (line, marks) in netlist.marks.iter().enumerate() {
         let start = if marks.output { 0 } else { NEVER };
         numbers.co[line] = start;
         numbers.so[line] = start;
     }
+}
+
+/// CO and SO from the costs that the numbers hold, and their sweeps.
+fn observe_on(library: &Library, netlist: &Netlist, numbers: &mut Numbers) -> [u32; 2] {
     let co = observe(
         library,
         netlist,
@@ -72,6 +97,7 @@ fn set(
     library: &Library,
     netlist: &Netlist,
     ways: impl Fn(&Cell) -> &Ways,
+    rule: Rule,
     costs: &mut Setting,
 ) -> u32 {
     // Gates with pins on one wire, where the cell lets that count.
@@ -87,7 +113,10 @@ fn set(
             let groups = &ways(&library.cells[gate.cell]).set;
             // The 1 sees the 0 just renewed, where a gate reads its own output.
             for value in [0, 1] {
-                let mut least = NEVER;
+                let mut least = match rule {
+                    Rule::Becomes => NEVER,
+                    Rule::Keeps => costs[gate.output()][value],
+                };
                 for &row in library.rows(groups[value]) {
                     let sum = if wired {
                         wired_sum(row, gate, costs)

@@ -6,11 +6,13 @@
 //! Before a shape is timed, both sides must have given the same answer and the same bytes, and the
 //! shape must be what its label says; else the program fails.
 //!
-//! Last, by the archive alone: what an ask for a pad and its commit cost over scoap_report, what steps within a budget
-//! cost, and what a pad tried on every line costs.
+//! Last, by the archive alone: what an ask for a pad and its commit cost over scoap_report, what a change of library
+//! costs, what steps within a budget cost, and what a pad tried on every line costs.
 
 #[path = "../archive.rs"]
 mod archive;
+#[path = "bench/changes.rs"]
+mod changes;
 
 use second::advice::{advise_into, rank_into, ADVICE, RANKS};
 use second::budget::{best_into, BEST};
@@ -469,10 +471,12 @@ fn main() -> ExitCode {
     println!();
     let asked = pads();
     println!();
+    let changed = changes::changes();
+    println!();
     let stepped = budgets();
     println!();
     let advised = advice();
-    if grown && timed && asked && stepped && advised {
+    if grown && timed && asked && changed && stepped && advised {
         ExitCode::SUCCESS
     } else {
         ExitCode::FAILURE

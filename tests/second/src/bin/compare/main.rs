@@ -2,7 +2,8 @@
 //! of the scope paper, the largest sizes, every one-byte change of a small pair, random pairs,
 //! ladders, in which a sweep changes few of the numbers, plans, truth tables, netlists of truth
 //! tables at every setting of their inputs, netlists with ranges at prices within them, lists of
-//! asks and commits, netlists at budgets, and pads tried on every line.
+//! asks and commits, with changes of library among them, netlists at budgets, and pads tried on
+//! every line.
 //!
 //! Every entry of every lent slice is compared, canaries stand before and past it and around the
 //! texts. The last line counts: 'N passed, M failed'.
@@ -13,6 +14,7 @@ mod advice;
 #[path = "../../archive.rs"]
 mod archive;
 mod budgets;
+mod changes;
 mod chips;
 mod comparison;
 mod extent;
@@ -59,6 +61,7 @@ fn main() -> ExitCode {
         chips::chips,
         ranges::ranges,
         pads::pads,
+        changes::changes,
         budgets::budgets,
         advice::advice,
     ] {

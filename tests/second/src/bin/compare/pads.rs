@@ -5,10 +5,10 @@
 //! Every entry of every lent slice is compared, with the canaries around it. What an accepted call leaves of a
 //! standing analysis is besides held against a new analysis, from the beginning, with the pads as outputs.
 
-mod calls;
-mod foreign;
-mod list;
-mod tally;
+pub mod calls;
+pub mod foreign;
+pub mod list;
+pub mod tally;
 
 use crate::comparison::{answer_of, Comparison, ROOM};
 use calls::Lending;
@@ -44,6 +44,7 @@ fn random_list(lists: &mut Lists, rng: &mut Random, other: &mut Vec<u32>) {
     let past = *rng.pick(&[0, 1, 40]);
     let lending = Lending {
         lib: made.lib.bytes(),
+        new_lib: Vec::new(),
         net: made.net.bytes(),
         table: (0..STANDING + past)
             .map(|_| rng.next() as u32 | 1)
@@ -80,6 +81,7 @@ fn random_list(lists: &mut Lists, rng: &mut Random, other: &mut Vec<u32>) {
 fn fixed(lists: &mut Lists) {
     let lending = |lib: &str, net: &str| Lending {
         lib: lib.as_bytes().to_vec(),
+        new_lib: Vec::new(),
         net: net.as_bytes().to_vec(),
         table: vec![5; STANDING],
         answer: OBSERVED,
@@ -93,7 +95,10 @@ fn fixed(lists: &mut Lists) {
     let latch = lending(NAND2, LATCH_NET);
     if let Some(mut list) = List::begin(lists, "latch", latch, lines(LATCH_NET)) {
         list.ask(lists, "latch", 4);
-        let answer = list.tickets.last().map(|ticket| ticket.2[..8].to_vec());
+        let answer = list
+            .tickets
+            .last()
+            .map(|ticket| ticket.answer[..8].to_vec());
         let problem = (answer.as_deref() != Some(&LATCH_ASKED[..]))
             .then(|| format!("latch, ask 4: {answer:?}"));
         lists.all.verdict("latch", problem);

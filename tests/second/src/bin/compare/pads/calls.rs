@@ -1,7 +1,8 @@
-//! The three calls of a standing analysis on both sides, and the memory that is lent to them.
+//! The calls of a standing analysis on both sides, and the memory that is lent to them.
 
 use crate::archive;
 use crate::lent::{canary, differ, Lent};
+use second::change::change_into;
 use second::standing::{ask_into, commit_into, stand_into};
 
 /// Answers from here on are refusals.
@@ -11,6 +12,7 @@ pub const REFUSED: u64 = 1_000_000;
 #[derive(Clone)]
 pub struct Memory {
     lib: Lent<u8>,
+    new_lib: Lent<u8>,
     net: Lent<u8>,
     standing: Lent<u32>,
     answer: Lent<u32>,
@@ -25,10 +27,15 @@ impl Memory {
         let (answer, report) = match call {
             Call::Stand => (0, lending.report),
             Call::Ask { .. } => (lending.answer, 0),
-            Call::Commit { .. } => (0, 0),
+            Call::Commit { .. } | Call::Change => (0, 0),
+        };
+        let new_lib = match call {
+            Call::Change => &lending.new_lib[..],
+            _ => &[],
         };
         Memory {
             lib: Lent::of(lending.lib.iter().copied(), turn % 8, salt),
+            new_lib: Lent::of(new_lib.iter().copied(), turn / 16 % 8, salt),
             net: Lent::of(lending.net.iter().copied(), turn / 8 % 8, salt),
             standing: Lent::of(lending.table.iter().copied(), turn % 4, salt),
             answer: Lent::of(filled(answer).map(u32::from), turn / 4 % 4, salt),
@@ -47,6 +54,7 @@ impl Memory {
 
     pub fn differs(&self, wanted: &Memory) -> Option<String> {
         differ("library", &self.lib, &wanted.lib)
+            .or_else(|| differ("new library", &self.new_lib, &wanted.new_lib))
             .or_else(|| differ("netlist", &self.net, &wanted.net))
             .or_else(|| differ("standing table", &self.standing, &wanted.standing))
             .or_else(|| differ("answer", &self.answer, &wanted.answer))
@@ -59,9 +67,10 @@ pub enum Call {
     Stand,
     Ask { line: u64 },
     Commit { line: u64, count: u64 },
+    Change,
 }
 
-pub const CALLS: [&str; 3] = ["stand", "ask", "commit"];
+pub const CALLS: [&str; 4] = ["stand", "ask", "commit", "change"];
 
 impl Call {
     pub fn index(self) -> usize {
@@ -69,6 +78,7 @@ impl Call {
             Call::Stand => 0,
             Call::Ask { .. } => 1,
             Call::Commit { .. } => 2,
+            Call::Change => 3,
         }
     }
 
@@ -91,6 +101,12 @@ impl Call {
             Call::Commit { line, count } => {
                 archive::scoap_commit(lib, net, memory.standing.inner_mut(), line, count)
             }
+            Call::Change => archive::scoap_change(
+                lib,
+                memory.new_lib.inner(),
+                net,
+                memory.standing.inner_mut(),
+            ),
         }
     }
 
@@ -113,6 +129,12 @@ impl Call {
             Call::Commit { line, count } => {
                 commit_into(lib, net, memory.standing.inner_mut(), line, count)
             }
+            Call::Change => change_into(
+                lib,
+                memory.new_lib.inner(),
+                net,
+                memory.standing.inner_mut(),
+            ),
         }
     }
 }
@@ -121,6 +143,8 @@ impl Call {
 #[derive(Clone)]
 pub struct Lending {
     pub lib: Vec<u8>,
+    /// For a change alone.
+    pub new_lib: Vec<u8>,
     pub net: Vec<u8>,
     pub table: Vec<u32>,
     pub answer: usize,

@@ -9,16 +9,28 @@ use second::generate::Pair;
 use second::random::Random;
 use second::refusal::{TABLE_SHORT, TICKET_STALE};
 use second::standing::{analysed, observed, OBSERVED, PADS_AT, STANDING, STANDING_NUMBERS};
-use second::MOST_LINES;
+use second::{Counts, MOST_LINES};
+
+/// A ticket handed out, with the numbers that were answered.
+pub struct Ticket {
+    line: u64,
+    count: u64,
+    pub answer: Vec<u32>,
+    /// After so many changes of library.
+    changes: usize,
+}
 
 /// A standing analysis that grows by commits.
 pub struct List {
     pub lending: Lending,
-    pads: Vec<u32>,
-    /// Tickets handed out, with the numbers that were answered.
-    pub tickets: Vec<(u64, u64, Vec<u32>)>,
+    pub pads: Vec<u32>,
+    /// The sweeps that must stand.
+    pub counts: Counts,
+    pub tickets: Vec<Ticket>,
+    /// How often the library was changed.
+    pub changes: usize,
     /// The lines that the netlist mentions.
-    lines: Vec<u64>,
+    pub lines: Vec<u64>,
 }
 
 impl List {
@@ -32,14 +44,16 @@ impl List {
         let mut list = List {
             lending,
             pads: Vec::new(),
+            counts: [0; 4],
             tickets: Vec::new(),
+            changes: 0,
             lines,
         };
         if !said.accepted() {
             return None;
         }
         list.lending.table = said.table;
-        list.as_new(lists, label);
+        list.as_new(lists, label, 0);
         Some(list)
     }
 
@@ -54,9 +68,13 @@ impl List {
         analysed(&self.lending.lib, &self.lending.net, &pads).ok()
     }
 
-    /// What stands is the new analysis.
-    fn as_new(&self, lists: &mut Lists, label: &str) {
-        let same = self.new_analysis(None).as_deref() == Some(&self.lending.table[..STANDING]);
+    /// What stands is the new analysis; only of its sweeps the first so many are those that stood.
+    pub fn as_new(&mut self, lists: &mut Lists, label: &str, stood: usize) {
+        let mut wanted = self.new_analysis(None).unwrap_or(vec![0; STANDING]);
+        let counts = &mut wanted[1..PADS_AT];
+        counts[..stood].copy_from_slice(&self.counts[..stood]);
+        self.counts.copy_from_slice(counts);
+        let same = wanted == self.lending.table[..STANDING];
         let problem = (!same).then(|| format!("pads {:?}: no new analysis", self.pads));
         lists.tell(label, &self.lending, problem);
     }
@@ -70,7 +88,12 @@ impl List {
                 .then(|| format!("line {line}: the answer is that of no new analysis"));
             lists.tell(label, &self.lending, problem);
             lists.meant(label, &said, self.count());
-            self.tickets.push((line, said.answer, answer));
+            self.tickets.push(Ticket {
+                line,
+                count: said.answer,
+                answer,
+                changes: self.changes,
+            });
         }
         said.answer
     }
@@ -82,16 +105,22 @@ impl List {
         if said.accepted() {
             self.lending.table = said.table;
             self.pads.push(line as u32);
-            self.as_new(lists, label);
+            // After a change of library the sweeps of CC and SC are those that stood.
+            self.as_new(lists, label, if self.changes == 0 { 0 } else { 2 });
             let now = observed(&self.lending.table);
-            // Every ticket with this line and count was answered with what stands now.
-            for (_, _, answer) in self
+            // Every ticket with this line and count was answered with what stands now, but for one from before a
+            // change of library.
+            for ticket in self
                 .tickets
                 .iter()
-                .filter(|ticket| (ticket.0, ticket.1) == (line, count))
+                .filter(|ticket| (ticket.line, ticket.count) == (line, count))
             {
+                if ticket.changes < self.changes {
+                    lists.seen.across += 1;
+                    continue;
+                }
                 let problem =
-                    (*answer != now).then(|| format!("line {line}: another answer stands"));
+                    (ticket.answer != now).then(|| format!("line {line}: another answer stands"));
                 lists.all.verdict(label, problem);
                 lists.seen.asked_then_committed += 1;
             }
@@ -128,8 +157,8 @@ impl List {
         match rng.below(8) {
             0..=2 => (self.any_line(rng), self.count()),
             3..=5 if !self.tickets.is_empty() => {
-                let (line, count, _) = rng.pick(&self.tickets);
-                (*line, *count)
+                let ticket = rng.pick(&self.tickets);
+                (ticket.line, ticket.count)
             }
             6 => (
                 self.any_line(rng),

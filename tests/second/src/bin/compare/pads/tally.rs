@@ -3,6 +3,7 @@
 use super::calls::{Call, Lending, Memory, Said, CALLS, REFUSED};
 use crate::comparison::{answer_of, Comparison};
 use second::refusal::{REPORT_LONG, TABLE_SHORT, TEXT_LONG, TICKET_STALE, UNPADDABLE};
+use std::ops::Range;
 
 /// What must have come up, and how often it did.
 #[derive(Default)]
@@ -12,12 +13,14 @@ pub struct Seen {
     pub three_pads: u64,
     pub stale: u64,
     pub foreign: [u64; 2],
+    /// A ticket that was asked for under another library.
+    pub across: u64,
 }
 
 pub struct Lists<'a> {
     pub all: &'a mut Comparison,
     /// By call and by the kind of answer.
-    answers: [[u64; ANSWERS.len()]; 3],
+    answers: [[u64; ANSWERS.len()]; CALLS.len()],
     pub seen: Seen,
 }
 
@@ -44,20 +47,21 @@ impl<'a> Lists<'a> {
     pub fn of(all: &'a mut Comparison) -> Self {
         Lists {
             all,
-            answers: [[0; ANSWERS.len()]; 3],
+            answers: [[0; ANSWERS.len()]; CALLS.len()],
             seen: Seen::default(),
         }
     }
 
     /// From here on it is counted anew what comes up.
     pub fn count_anew(&mut self) {
-        self.answers = [[0; ANSWERS.len()]; 3];
+        self.answers = [[0; ANSWERS.len()]; CALLS.len()];
         self.seen = Seen::default();
     }
 
-    /// Tells how often each answer that a call can give came up, and the rest that must have.
-    pub fn tell_met(&mut self) {
-        for (call, name) in CALLS.into_iter().enumerate() {
+    /// Tells how often each answer that these calls can give came up.
+    pub fn tell_answers(&mut self, calls: Range<usize>) {
+        for call in calls {
+            let name = CALLS[call];
             for (at, (title, number)) in ANSWERS.into_iter().enumerate() {
                 let given = match number {
                     UNPADDABLE => name != "stand",
@@ -71,6 +75,11 @@ impl<'a> Lists<'a> {
                 }
             }
         }
+    }
+
+    /// The same of asks and commits, and the rest that must have.
+    pub fn tell_met(&mut self) {
+        self.tell_answers(0..3);
         for (title, count) in [
             ("a pad that lowers other lines", self.seen.lowered),
             ("an ask whose commit stands", self.seen.asked_then_committed),
@@ -109,7 +118,8 @@ impl<'a> Lists<'a> {
                 |text: &[u8]| String::from_utf8_lossy(&text[..text.len().min(1_000)]).into_owned();
             let head: Vec<u32> = lending.table.iter().copied().take(12).collect();
             let (lib, net) = (cut(&lending.lib), cut(&lending.net));
-            format!("{problem}\n  table {head:?}..\n  {lib:?}\n  {net:?}")
+            let new_lib = cut(&lending.new_lib);
+            format!("{problem}\n  table {head:?}..\n  {lib:?}\n  {net:?}\n  {new_lib:?}")
         });
         self.all.verdict(label, problem);
     }
