@@ -26,6 +26,37 @@ mod c {
         ) -> u64;
         pub fn scoap_cell(line: *const u8, line_len: usize, entry: *mut u8, entry_len: usize) -> u64;
         pub fn scoap_qualifies(lib: *const u8, lib_len: usize, net: *const u8, net_len: usize) -> u64;
+        pub fn scoap_stand(
+            lib: *const u8,
+            lib_len: usize,
+            net: *const u8,
+            net_len: usize,
+            standing: *mut u32,
+            standing_len: usize,
+            report: *mut u8,
+            report_len: usize,
+        ) -> u64;
+        pub fn scoap_ask(
+            lib: *const u8,
+            lib_len: usize,
+            net: *const u8,
+            net_len: usize,
+            standing: *const u32,
+            standing_len: usize,
+            line: u64,
+            answer: *mut u32,
+            answer_len: usize,
+        ) -> u64;
+        pub fn scoap_commit(
+            lib: *const u8,
+            lib_len: usize,
+            net: *const u8,
+            net_len: usize,
+            standing: *mut u32,
+            standing_len: usize,
+            line: u64,
+            count: u64,
+        ) -> u64;
     }
 }
 
@@ -41,6 +72,11 @@ const REPORT_ROOM: usize = 127_899;
 /// Above this a plan's length could not be told from a refusal.
 const PLAN_ROOM: usize = 999_999;
 const ENTRY_ROOM: usize = 8_192;
+/// Numbers of a standing table, and the place of line 1's six costs in it.
+const STANDING: usize = 7_005;
+const STANDING_NUMBERS: usize = 1_005;
+/// Numbers of an answer to an ask: CO and SO of line 1, of line 2, ..
+const OBSERVED: usize = 2 * MOST_LINES;
 const REFUSED: u64 = 1_000_000;
 
 #[derive(Clone, Copy, Debug, PartialEq, Eq)]
@@ -56,14 +92,19 @@ fn accepted(answer: u64) -> Result<usize, Refusal> {
     Err(Refusal { number: (answer / REFUSED) as u32, line: (answer % REFUSED) as usize })
 }
 
+/// The text that a call wrote into its buffer.
+fn written(mut buffer: Vec<u8>, answer: u64) -> Result<String, Refusal> {
+    buffer.truncate(accepted(answer)?);
+    Ok(String::from_utf8(buffer).expect("a text of ASCII"))
+}
+
 /// The six numbers of a line, in the report's order.
 pub type Six = [Cost; 6];
 
-/// The numbers of a netlist by line, and the four counts of sweeps.
+/// The numbers of a netlist by line.
 #[derive(Clone, Debug, PartialEq, Eq)]
 pub struct Numbers {
     by_line: Vec<Option<Six>>,
-    pub sweeps: [u32; 4],
 }
 
 impl Numbers {
@@ -83,8 +124,7 @@ pub fn report_text(lib: &[u8], net: &[u8]) -> Result<String, Refusal> {
     // Each slice is valid for its length, and no two overlap.
     let answer =
         unsafe { c::scoap_report(lib.as_ptr(), lib.len(), net.as_ptr(), net.len(), buffer.as_mut_ptr(), buffer.len()) };
-    buffer.truncate(accepted(answer)?);
-    Ok(String::from_utf8(buffer).expect("a report of ASCII"))
+    written(buffer, answer)
 }
 
 /// The numbers for a library and a netlist.
@@ -95,14 +135,10 @@ pub fn report(lib: &[u8], net: &[u8]) -> Result<Numbers, Refusal> {
 /// Reads a report. It ends with the line of sweeps: a second report after it is not read.
 fn read_report(text: &str) -> Numbers {
     let mut by_line = vec![None; MOST_LINES + 1];
-    let mut sweeps = [0; 4];
     for row in text.lines().skip(1) {
         let mut fields = row.split(',');
         let first = fields.next().unwrap_or("");
         if first == "sweeps" {
-            for (count, field) in sweeps.iter_mut().zip(fields) {
-                *count = field.parse().expect("a count of sweeps");
-            }
             break;
         }
         let line: usize = first.parse().expect("a line of the report");
@@ -112,7 +148,109 @@ fn read_report(text: &str) -> Numbers {
         }
         by_line[line] = Some(six);
     }
-    Numbers { by_line, sweeps }
+    Numbers { by_line }
+}
+
+/// A standing analysis, on which pads are asked for and placed: the archive's own table. The texts that it is of are lent
+/// again with each call.
+#[derive(Clone, Debug, PartialEq, Eq)]
+pub struct Standing {
+    table: Vec<u32>,
+    /// The lines that the netlist mentions.
+    lines: Vec<usize>,
+}
+
+impl Standing {
+    /// The count of pads placed so far. With a line it is the ticket for a pad there.
+    pub fn count(&self) -> u64 {
+        u64::from(self.table[0])
+    }
+
+    /// The numbers with the pads placed so far.
+    pub fn numbers(&self) -> Numbers {
+        self.numbers_of(|line| {
+            let place = STANDING_NUMBERS + 6 * (line - 1);
+            std::array::from_fn(|at| cost(self.table[place + at]))
+        })
+    }
+
+    fn numbers_of(&self, six: impl Fn(usize) -> Six) -> Numbers {
+        let mut by_line = vec![None; MOST_LINES + 1];
+        for &line in &self.lines {
+            by_line[line] = Some(six(line));
+        }
+        Numbers { by_line }
+    }
+}
+
+fn cost(number: u32) -> Cost {
+    Cost::of_number(number).expect("a cost of the table")
+}
+
+/// The analysis of a library and a netlist, without a pad.
+pub fn stand(lib: &[u8], net: &[u8]) -> Result<Standing, Refusal> {
+    let mut table = vec![0; STANDING];
+    let mut buffer = vec![0; REPORT_ROOM];
+    // Each slice is valid for its length, and no two overlap.
+    let answer = unsafe {
+        c::scoap_stand(
+            lib.as_ptr(),
+            lib.len(),
+            net.as_ptr(),
+            net.len(),
+            table.as_mut_ptr(),
+            table.len(),
+            buffer.as_mut_ptr(),
+            buffer.len(),
+        )
+    };
+    let report = read_report(&written(buffer, answer)?);
+    Ok(Standing { table, lines: report.lines().collect() })
+}
+
+/// What a pad on a line would leave, and the count of pads placed so far, which with the line is the ticket.
+pub fn ask(lib: &[u8], net: &[u8], standing: &Standing, line: usize) -> Result<(u64, Numbers), Refusal> {
+    let mut seen = vec![0; OBSERVED];
+    // Each slice is valid for its length, and no two overlap.
+    let answer = unsafe {
+        c::scoap_ask(
+            lib.as_ptr(),
+            lib.len(),
+            net.as_ptr(),
+            net.len(),
+            standing.table.as_ptr(),
+            standing.table.len(),
+            line as u64,
+            seen.as_mut_ptr(),
+            seen.len(),
+        )
+    };
+    let count = accepted(answer)? as u64;
+    let before = standing.numbers();
+    let numbers = standing.numbers_of(|line| {
+        let [cc0, cc1, sc0, sc1, ..] = *before.of(line);
+        let place = 2 * (line - 1);
+        [cc0, cc1, sc0, sc1, cost(seen[place]), cost(seen[place + 1])]
+    });
+    Ok((count, numbers))
+}
+
+/// Places a pad by its ticket: what was asked for stands from now on.
+pub fn commit(lib: &[u8], net: &[u8], standing: &mut Standing, line: usize, count: u64) -> Result<(), Refusal> {
+    // Each slice is valid for its length, and no two overlap.
+    let answer = unsafe {
+        c::scoap_commit(
+            lib.as_ptr(),
+            lib.len(),
+            net.as_ptr(),
+            net.len(),
+            standing.table.as_mut_ptr(),
+            standing.table.len(),
+            line as u64,
+            count,
+        )
+    };
+    accepted(answer).map(|_| ())
 }
 
 /// The plan that sets a line to a value, in combinational (kind 0) or sequential terms (kind 1).
@@ -132,8 +270,7 @@ pub fn plan(lib: &[u8], net: &[u8], line: usize, value: u8, kind: u8) -> Result<
             buffer.len(),
         )
     };
-    buffer.truncate(accepted(answer)?);
-    Ok(String::from_utf8(buffer).expect("a plan of ASCII"))
+    written(buffer, answer)
 }
 
 /// The library entry of a truth table of at most four pins.
@@ -142,8 +279,7 @@ pub fn cell(name: &str, pins: usize, bits: &str) -> Result<String, Refusal> {
     let mut buffer = vec![0; ENTRY_ROOM];
     // Each slice is valid for its length, and the two do not overlap.
     let answer = unsafe { c::scoap_cell(line.as_ptr(), line.len(), buffer.as_mut_ptr(), buffer.len()) };
-    buffer.truncate(accepted(answer)?);
-    Ok(String::from_utf8(buffer).expect("an entry of ASCII"))
+    written(buffer, answer)
 }
 
 /// What never says of the chip (K8): 0 nothing, 1 that no setting gives a value that is never, 2 exactly so.
@@ -178,6 +314,11 @@ pub fn words(number: u32) -> &'static str {
         20 => "a line is read by a pin or marked output, and neither driven nor declared open",
         21 => "a range on a line that is not marked input above it",
         22 => "bounds outside 1 to 999, LOW above HIGH, or a second range for the line",
+        23 => {
+            "the netlist does not mention the line, or it is an output already; or the standing table holds such a pad, \
+              or a count of pads above 1,000"
+        }
+        24 => "the ticket's count of pads is not the present one",
         _ => "the analyser refuses it",
     }
 }
@@ -195,7 +336,6 @@ mod tests {
             numbers.of(7),
             &[Cost::Figure(1), Cost::Over, Cost::Figure(0), Cost::Never, Cost::Figure(3), Cost::Figure(0)]
         );
-        assert_eq!(numbers.sweeps, [2, 3, 4, 5]);
     }
 
     #[test]
@@ -209,5 +349,30 @@ mod tests {
         assert_eq!(qualifies(lib.as_bytes(), net), Ok(2));
         let refused = Refusal { number: 10, line: 1 };
         assert_eq!(report(lib.as_bytes(), b"?\n").unwrap_err(), refused);
+    }
+
+    /// The latch of docs/TABLES.md: a pad on line 4 is asked for and placed.
+    #[test]
+    fn a_pad_is_asked_for_and_placed() {
+        let lib = cell("NAND2", 2, "1110").unwrap().into_bytes();
+        let net = b"input,1\ninput,2\ngate,NAND2,3,1,4\ngate,NAND2,4,2,3\noutput,3\n";
+        let mut standing = stand(&lib, net).unwrap();
+        assert_eq!(standing.numbers(), report(&lib, net).unwrap());
+        let fresh = standing.clone();
+        let (count, asked) = ask(&lib, net, &standing, 4).unwrap();
+        assert_eq!((count, &standing), (0, &fresh));
+        let co: Vec<Cost> = [1, 2, 3, 4].map(|line| asked.of(line)[4]).to_vec();
+        assert_eq!(co, [3, 3, 0, 0].map(Cost::Figure));
+        let refused = |number| Err(Refusal { number, line: 0 });
+        for line in [0, 3, 5, 1_001] {
+            assert_eq!(ask(&lib, net, &standing, line).map(|_| ()), refused(23), "line {line}");
+        }
+        commit(&lib, net, &mut standing, 4, count).unwrap();
+        assert_eq!((standing.count(), standing.numbers()), (1, asked));
+        let placed = standing.clone();
+        assert_eq!(commit(&lib, net, &mut standing, 1, count), refused(24));
+        assert_eq!(commit(&lib, net, &mut standing, 4, 1), refused(23));
+        assert_eq!(standing, placed);
+        assert_eq!(stand(&lib, b"?\n").unwrap_err(), Refusal { number: 10, line: 1 });
     }
 }

@@ -1,6 +1,6 @@
 //! The commands: each answers what it prints and its exit status.
 
-use crate::archive::{words, MOST_BYTES, MOST_CELLS, MOST_LINES, MOST_PINS, MOST_ROWS};
+use crate::archive::{MOST_BYTES, MOST_CELLS, MOST_LINES, MOST_PINS, MOST_ROWS};
 use crate::args::{Args, Takes};
 use crate::cost::{grouped, Cost};
 use crate::load::{self, Loaded};
@@ -109,13 +109,6 @@ fn check(args: &Args, messages: &mut Messages) -> Result<Done, Stop> {
     Done::well(printable(&text))
 }
 
-/// The effect of a pad on each ranked line that is no output.
-fn gains(model: &Model) -> Result<HashMap<usize, Effect>, Stop> {
-    let lines: Vec<usize> = pads::candidates(model, &[]).into_iter().filter(|&line| model.is_ranked(line)).collect();
-    let effects = pads::effects(model, &[], &lines).map_err(Stop::Usage)?;
-    Ok(effects.into_iter().map(|effect| (effect.line, effect)).collect())
-}
-
 fn gain_told(effect: Option<&Effect>) -> String {
     match effect {
         None => "-".to_string(),
@@ -169,7 +162,7 @@ fn report(args: &Args, messages: &mut Messages) -> Result<Done, Stop> {
     let bound = args.value("--fail-above").map(|_| args.number("--fail-above", 0)).transpose()?;
     let Loaded { model, .. } = load::load(&args.source, messages)?;
     messages.print();
-    let effects = gains(&model)?;
+    let effects = pads::by_line(&model).map_err(Stop::Usage)?;
     let ranked = ranking::ranked(&model, key, &effects);
     if let Some(file) = args.value("--csv") {
         text::write(Path::new(file), csv_of(&model, &ranked, &effects).as_bytes())?;
@@ -361,9 +354,8 @@ fn pad(args: &Args, messages: &mut Messages) -> Result<Done, Stop> {
     for line in outputs {
         messages.note(format!("{} is an output already", model.net_name(line)));
     }
-    let after = model
-        .with_pads(&lines)
-        .map_err(|refusal| Stop::Usage(format!("{} (refusal {})", words(refusal.number), refusal.number)))?;
+    messages.print();
+    let after = pads::placed(&model, &lines).map_err(Stop::Usage)?.numbers;
     let measures = [pads::measure(&model, &model.numbers), pads::measure(&model, &after)];
     let told: Vec<&str> = lines.iter().map(|&line| model.net_name(line)).collect();
     let mut text = format!(
@@ -371,17 +363,9 @@ fn pad(args: &Args, messages: &mut Messages) -> Result<Done, Stop> {
         if told.is_empty() { "nothing".to_string() } else { told.join(", ") },
         change_told(measures[0], measures[1])
     );
-    let mut changed: Vec<usize> = model
-        .lines()
-        .filter(|&line| {
-            let (was, is) = (model.numbers.of(line), after.of(line));
-            is[4] < was[4] || is[5] < was[5]
-        })
-        .collect();
-    let fall = |line: usize| match (model.numbers.of(line)[4], after.of(line)[4]) {
-        (Cost::Figure(was), Cost::Figure(is)) => (0, was.saturating_sub(is)),
-        (was, is) => (usize::from(is < was), 0),
-    };
+    let mut changed: Vec<usize> =
+        model.lines().filter(|&line| pads::is_easier(model.numbers.of(line), after.of(line))).collect();
+    let fall = |line: usize| pads::fall(model.numbers.of(line)[4], after.of(line)[4]);
     changed.sort_by_key(|&line| (std::cmp::Reverse(fall(line)), line));
     let _ = writeln!(text, "{} easier to see; CC and SC stay as they are", load::many(changed.len(), "net"));
     let mut rows = vec![["net", "kind", "CO", "", "SO", "", ""].map(str::to_string).to_vec()];
@@ -505,6 +489,7 @@ fn candidates_csv(model: &Model, effects: &[Effect], privacy: &Privacy) -> Strin
         let names = |lines: &[usize]| -> String {
             lines.iter().map(|&line| model.net_name(line)).collect::<Vec<_>>().join(" ")
         };
+        let easier: Vec<usize> = effect.easier.iter().map(|&(line, _)| line).collect();
         let largest = match effect.after {
             Measure { never: 1.., .. } => Cost::Never,
             Measure { over: 1.., .. } => Cost::Over,
@@ -515,7 +500,7 @@ fn candidates_csv(model: &Model, effects: &[Effect], privacy: &Privacy) -> Strin
             &model.name(effect.line).instance,
             &effect.gain.to_string(),
             &largest.plain(),
-            &names(&effect.easier),
+            &names(&easier),
             &names(&privacy.touched(effect)),
             if privacy.allows(effect) { "1" } else { "0" },
         ]);

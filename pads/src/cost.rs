@@ -11,6 +11,8 @@ pub enum Cost {
 }
 
 const MOST: u64 = 999_999_999;
+const OVER: u64 = 1_000_000_000;
+const NEVER: u64 = 1_000_000_001;
 
 impl Cost {
     /// A cost as the report writes it.
@@ -22,6 +24,16 @@ impl Cost {
                 let figure: u32 = text.parse().ok()?;
                 (u64::from(figure) <= MOST).then_some(Cost::Figure(figure))
             }
+        }
+    }
+
+    /// A cost as the archive's tables hold it: over and never are the two numbers above all figures.
+    pub fn of_number(number: u32) -> Option<Cost> {
+        match u64::from(number) {
+            figure if figure <= MOST => Some(Cost::Figure(number)),
+            OVER => Some(Cost::Over),
+            NEVER => Some(Cost::Never),
+            _ => None,
         }
     }
 
@@ -101,6 +113,11 @@ mod tests {
             assert_eq!(Cost::read(text).unwrap().plain(), text);
         }
         assert_eq!(Cost::read("1000000000"), None);
+        for (number, text) in [(0, "0"), (999_999_999, "999999999"), (1_000_000_000, "over"), (1_000_000_001, "never")]
+        {
+            assert_eq!(Cost::of_number(number).unwrap().plain(), text);
+        }
+        assert_eq!(Cost::of_number(1_000_000_002), None);
         assert_eq!(Cost::Figure(24_178).to_string(), "24,178");
         assert_eq!(format!("{:>6}|", Cost::Over), "  over|");
         assert_eq!(grouped(999), "999");

@@ -1,7 +1,7 @@
 //! The texts that the analyser accepted, read once more for their structure: cells with their rows, gates, readers, and
 //! the user's names. Numbers are asked of the archive.
 
-use crate::archive::{self, Numbers, Refusal, MOST_LINES};
+use crate::archive::{self, Numbers, Refusal, Standing, MOST_LINES};
 use crate::cost::Cost;
 use crate::names::{LineKind, Name};
 
@@ -97,6 +97,8 @@ pub struct Model {
     /// One for each line, ascending.
     pub names: Vec<Name>,
     place: Vec<usize>,
+    /// The analysis that pads are asked of and placed on, and its numbers.
+    standing: Standing,
     pub numbers: Numbers,
     /// A block of a larger netlist.
     pub block: bool,
@@ -105,7 +107,7 @@ pub struct Model {
 impl Model {
     /// Reads texts and their names; lines that have none are called by their numbers.
     pub fn new(title: &str, lib: Vec<u8>, net: Vec<u8>, names: Vec<Name>) -> Result<Model, Refusal> {
-        let numbers = archive::report(&lib, &net)?;
+        let standing = archive::stand(&lib, &net)?;
         let cells = read_library(&String::from_utf8_lossy(&lib));
         let mut model = Model {
             title: title.to_string(),
@@ -118,7 +120,8 @@ impl Model {
             readers: vec![Vec::new(); MOST_LINES + 1],
             names: Vec::new(),
             place: vec![usize::MAX; MOST_LINES + 1],
-            numbers,
+            numbers: standing.numbers(),
+            standing,
             block: false,
         };
         model.read_netlist();
@@ -253,13 +256,22 @@ impl Model {
         None
     }
 
-    /// The numbers with more lines marked as outputs: what pads would change.
-    pub fn with_pads(&self, pads: &[usize]) -> Result<Numbers, Refusal> {
-        let mut net = self.net.clone();
-        for pad in pads {
-            net.extend_from_slice(format!("output,{pad}\n").as_bytes());
-        }
-        archive::report(&self.lib, &net)
+    /// What a pad on a line would leave, and its ticket: the count of pads placed so far. Nothing changes.
+    pub fn ask(&self, line: usize) -> Result<(u64, Numbers), Refusal> {
+        archive::ask(&self.lib, &self.net, &self.standing, line)
+    }
+
+    /// Places a pad by its ticket: the line is an output from now on.
+    pub fn commit(&mut self, line: usize, count: u64) -> Result<(), Refusal> {
+        archive::commit(&self.lib, &self.net, &mut self.standing, line, count)?;
+        self.numbers = self.standing.numbers();
+        self.is_output[line] = true;
+        Ok(())
+    }
+
+    /// The count of pads placed so far.
+    pub fn pads(&self) -> u64 {
+        self.standing.count()
     }
 }
 
@@ -356,7 +368,11 @@ mod tests {
         assert!(!model.is_ranked(2) && model.is_ranked(1) && model.is_ranked(8));
         assert_eq!(model.cell_of(1).control[0].len(), 2);
         assert!(model.cells[0].one_wire);
-        let numbers = model.with_pads(&[1]).unwrap();
-        assert_eq!(numbers.of(1)[4], Cost::Figure(0));
+        let (count, asked) = model.ask(1).unwrap();
+        assert_eq!(asked.of(1)[4], Cost::Figure(0));
+        let mut placed = model.clone();
+        placed.commit(1, count).unwrap();
+        assert_eq!((placed.pads(), &placed.numbers), (1, &asked));
+        assert!(placed.is_output[1] && !model.is_output[1]);
     }
 }

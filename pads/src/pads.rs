@@ -1,9 +1,10 @@
-//! What pads would change: reports of the netlist with more outputs, and the advice drawn from them. A pad changes CO and
-//! SO alone.
+//! What pads would change, as the archive answers when it is asked for a pad, and the advice drawn from that. A pad is an
+//! output: it changes CO and SO alone.
 
-use crate::archive::{words, Numbers};
+use crate::archive::{words, Numbers, Refusal, Six};
 use crate::cost::Cost;
 use crate::model::Model;
+use std::collections::HashMap;
 use std::time::{Duration, Instant};
 
 /// How well the ranked lines are seen. Ordered: lines that are never seen, over, the largest figure, the sum of figures.
@@ -34,13 +35,15 @@ pub fn measure(model: &Model, numbers: &Numbers) -> Measure {
 #[derive(Clone, Debug, PartialEq, Eq)]
 pub struct Effect {
     pub line: usize,
+    /// The count of pads when this one was asked for: with the line, its ticket.
+    pub count: u64,
     pub after: Measure,
     /// Lines that were never seen, or over, and are seen for less.
     pub freed: usize,
     /// How much the CO figures fall together.
     pub gain: u64,
-    /// Ranked lines whose CO or SO falls.
-    pub easier: Vec<usize>,
+    /// Ranked lines that become easier to see, with their CO after.
+    pub easier: Vec<(usize, Cost)>,
     /// The largest CO over all lines, as request K13 counts it.
     pub plain_largest: Cost,
 }
@@ -52,27 +55,40 @@ impl Effect {
     }
 }
 
-fn effect(model: &Model, line: usize, before: &Numbers, after: &Numbers) -> Effect {
+/// How far a CO falls: whether it was never or over and is less, and else by how much.
+pub fn fall(was: Cost, is: Cost) -> (bool, u32) {
+    match (was, is) {
+        (Cost::Figure(was), Cost::Figure(is)) => (false, was.saturating_sub(is)),
+        (was, is) => (is < was, 0),
+    }
+}
+
+/// Whether a line is easier to see: its CO or SO falls.
+pub fn is_easier(was: &Six, is: &Six) -> bool {
+    is[4] < was[4] || is[5] < was[5]
+}
+
+/// The effect of a pad on a line: what it leaves, by the count of pads when it was asked for.
+fn effect(model: &Model, line: usize, (count, after): (u64, Numbers)) -> Effect {
     let mut freed = 0;
     let mut gain = 0;
     let mut easier = Vec::new();
     for other in model.lines().filter(|&other| model.is_ranked(other)) {
-        let (was, is) = (before.of(other), after.of(other));
-        match (was[4], is[4]) {
-            (Cost::Figure(was), Cost::Figure(is)) => gain += u64::from(was.saturating_sub(is)),
-            (was, is) => freed += usize::from(is < was),
-        }
-        if is[4] < was[4] || is[5] < was[5] {
-            easier.push(other);
+        let (was, is) = (model.numbers.of(other), after.of(other));
+        let (free, figures) = fall(was[4], is[4]);
+        freed += usize::from(free);
+        gain += u64::from(figures);
+        if is_easier(was, is) {
+            easier.push((other, is[4]));
         }
     }
     let plain_largest = model.lines().map(|other| after.of(other)[4]).max().unwrap_or(Cost::Figure(0));
-    Effect { line, after: measure(model, after), freed, gain, easier, plain_largest }
+    Effect { line, count, after: measure(model, &after), freed, gain, easier, plain_largest }
 }
 
 /// The lines that may get a pad at all: those that are no output and have none yet.
-pub fn candidates(model: &Model, placed: &[usize]) -> Vec<usize> {
-    model.lines().filter(|line| !model.is_output[*line] && !placed.contains(line)).collect()
+pub fn candidates(model: &Model) -> Vec<usize> {
+    model.lines().filter(|&line| !model.is_output[line]).collect()
 }
 
 /// Tells the progress of what takes longer than a second.
@@ -97,23 +113,36 @@ impl Progress {
     }
 }
 
-/// The effect of each candidate alone, beside pads that are placed already.
-pub fn effects(model: &Model, placed: &[usize], lines: &[usize]) -> Result<Vec<Effect>, String> {
-    let told = |refusal: crate::archive::Refusal| {
-        format!("a pad more is refused: {} (refusal {})", words(refusal.number), refusal.number)
-    };
-    let before = model.with_pads(placed).map_err(told)?;
+fn refused(refusal: Refusal) -> String {
+    format!("a pad is refused: {} (refusal {})", words(refusal.number), refusal.number)
+}
+
+/// The effect of a pad on each of these lines alone, beside those that are placed already.
+pub fn effects(model: &Model, lines: &[usize]) -> Result<Vec<Effect>, String> {
     let mut progress = Progress::new("pads tried");
     let mut effects = Vec::with_capacity(lines.len());
-    let mut pads = placed.to_vec();
     for (at, &line) in lines.iter().enumerate() {
-        pads.push(line);
-        let after = model.with_pads(&pads).map_err(told)?;
-        pads.pop();
-        effects.push(effect(model, line, &before, &after));
+        effects.push(effect(model, line, model.ask(line).map_err(refused)?));
         progress.tell(at + 1, lines.len());
     }
     Ok(effects)
+}
+
+/// The effect of a pad on each ranked line that is no output, by line.
+pub fn by_line(model: &Model) -> Result<HashMap<usize, Effect>, String> {
+    let lines: Vec<usize> = candidates(model).into_iter().filter(|&line| model.is_ranked(line)).collect();
+    Ok(effects(model, &lines)?.into_iter().map(|effect| (effect.line, effect)).collect())
+}
+
+/// The model with pads on these lines.
+pub fn placed(model: &Model, lines: &[usize]) -> Result<Model, String> {
+    let mut progress = Progress::new("pads placed");
+    let mut model = model.clone();
+    for (at, &line) in lines.iter().enumerate() {
+        model.commit(line, model.pads()).map_err(refused)?;
+        progress.tell(at + 1, lines.len());
+    }
+    Ok(model)
 }
 
 /// Nets that get no pad, and nets that no pad may make easier to see; by line.
@@ -126,7 +155,7 @@ pub struct Privacy {
 impl Privacy {
     /// Lines of the protected nets that an effect makes easier to see.
     pub fn touched(&self, effect: &Effect) -> Vec<usize> {
-        effect.easier.iter().copied().filter(|line| self.protected.contains(line)).collect()
+        effect.easier.iter().map(|&(line, _)| line).filter(|line| self.protected.contains(line)).collect()
     }
 
     pub fn allows(&self, effect: &Effect) -> bool {
@@ -152,22 +181,19 @@ pub fn best<'e>(model: &Model, before: Measure, effects: &'e [Effect], privacy: 
 
 /// Pads one after another. Also answers all effects of the first round.
 pub fn advise(model: &Model, count: usize, privacy: &Privacy) -> Result<(Vec<Advice>, Vec<Effect>), String> {
-    let mut placed = Vec::new();
+    let mut model = model.clone();
     let mut advice: Vec<Advice> = Vec::new();
     let mut first = Vec::new();
-    let mut before = measure(model, &model.numbers);
     while advice.len() < count {
-        let lines = candidates(model, &placed);
-        let effects = effects(model, &placed, &lines)?;
+        let effects = effects(&model, &candidates(&model))?;
         let ranked = effects.iter().filter(|effect| model.is_ranked(effect.line));
         let (candidates, allowed) = (ranked.clone().count(), ranked.filter(|effect| privacy.allows(effect)).count());
-        let chosen = best(model, before, &effects, privacy).cloned();
+        let chosen = best(&model, measure(&model, &model.numbers), &effects, privacy).cloned();
         if first.is_empty() {
             first = effects;
         }
         let Some(effect) = chosen else { break };
-        placed.push(effect.line);
-        before = effect.after;
+        model.commit(effect.line, effect.count).map_err(refused)?;
         advice.push(Advice { effect, allowed, candidates });
     }
     Ok((advice, first))
@@ -195,11 +221,11 @@ mod tests {
         let model = chain();
         let before = measure(&model, &model.numbers);
         assert_eq!(before.largest, 6);
-        let lines = candidates(&model, &[]);
+        let lines = candidates(&model);
         assert_eq!(lines, [1, 2, 3, 4, 5, 6]);
-        let effects = effects(&model, &[], &lines).unwrap();
+        let effects = effects(&model, &lines).unwrap();
         let pad5 = &effects[4];
-        assert_eq!(pad5.easier, [1, 2, 5]);
+        assert_eq!(pad5.easier, [(1, Cost::Figure(2)), (2, Cost::Figure(2)), (5, Cost::Figure(0))]);
         assert_eq!(pad5.after.sum + pad5.gain, before.sum);
         let (advice, _) = advise(&model, 2, &Privacy::default()).unwrap();
         // By trying all.
@@ -216,8 +242,8 @@ mod tests {
         let mut pads = Vec::new();
         for pad in &advice {
             pads.push(pad.effect.line);
-            let after = model.with_pads(&pads).unwrap();
-            assert_eq!(after.of(1), model.numbers.of(1));
+            let after = placed(&model, &pads).unwrap();
+            assert_eq!(after.numbers.of(1), model.numbers.of(1));
         }
         assert!(!pads.is_empty() && !pads.contains(&6) && !pads.contains(&5));
         // A pad on 5 would show 1.

@@ -77,31 +77,10 @@ fn step(reasons: &Reasons, step: &Step) -> String {
 
 /// The page of a design with pads placed already.
 pub fn page(path: &str, model: &Model, placed: &[usize], privacy: &Privacy, said: &str) -> Result<String, String> {
-    let mut model = model.clone();
-    let refused = |refusal: crate::archive::Refusal| format!("a pad is refused (refusal {})", refusal.number);
-    model.numbers = model.with_pads(placed).map_err(refused)?;
-    for &line in placed {
-        model.is_output[line] = true;
-        model.net.extend_from_slice(format!("output,{line}\n").as_bytes());
-    }
-    let candidates: Vec<usize> =
-        pads::candidates(&model, &[]).into_iter().filter(|&line| model.is_ranked(line)).collect();
-    let mut effects: HashMap<usize, (Effect, Vec<(usize, Cost)>)> = HashMap::new();
-    for effect in pads::effects(&model, &[], &candidates)? {
-        let after = model.with_pads(&[effect.line]).map_err(refused)?;
-        let fall = |line: usize| match (model.numbers.of(line)[4], after.of(line)[4]) {
-            (Cost::Figure(was), Cost::Figure(is)) => (0, was.saturating_sub(is)),
-            (was, is) => (usize::from(is < was), 0),
-        };
-        let mut easier = effect.easier.clone();
-        easier.sort_by_key(|&line| (!privacy.protected.contains(&line), std::cmp::Reverse(fall(line)), line));
-        let protected = easier.iter().filter(|line| privacy.protected.contains(line)).count();
-        easier.truncate(MOST_EASIER.max(protected));
-        let easier = easier.into_iter().map(|line| (line, after.of(line)[4])).collect();
-        effects.insert(effect.line, (effect, easier));
-    }
+    let model = pads::placed(model, placed)?;
+    let effects = pads::by_line(&model)?;
     let steps = all_steps(&model)?;
-    let lines = model.lines().map(|line| line_data(&model, line, effects.get(&line), &steps[&line]));
+    let lines = model.lines().map(|line| line_data(&model, line, effects.get(&line), privacy, &steps[&line]));
     let numbers = |lines: &[usize]| list(lines.iter().map(usize::to_string));
     let data = format!(
         "{{\"title\":{},\"summary\":{},\"nevers\":{},\"warnings\":{},\"pads\":{},\"forbidden\":{},\"protected\":{},\"lines\":{}}}",
@@ -134,7 +113,18 @@ fn all_steps(model: &Model) -> Result<HashMap<usize, Vec<String>>, String> {
     Ok(steps)
 }
 
-fn line_data(model: &Model, line: usize, effect: Option<&(Effect, Vec<(usize, Cost)>)>, steps: &[String]) -> String {
+/// The nets listed that a pad makes easier to see, with their CO after: protected ones first, then by how far it falls.
+fn listed(model: &Model, effect: &Effect, privacy: &Privacy) -> Vec<(usize, Cost)> {
+    let mut easier = effect.easier.clone();
+    easier.sort_by_key(|&(line, after)| {
+        let fall = pads::fall(model.numbers.of(line)[4], after);
+        (!privacy.protected.contains(&line), std::cmp::Reverse(fall), line)
+    });
+    easier.truncate(MOST_EASIER.max(privacy.touched(effect).len()));
+    easier
+}
+
+fn line_data(model: &Model, line: usize, effect: Option<&Effect>, privacy: &Privacy, steps: &[String]) -> String {
     let name = model.name(line);
     let six = model.numbers.of(line);
     let mut readers: Vec<usize> = model.readers[line].iter().map(|&(gate, _)| model.gates[gate].line).collect();
@@ -158,7 +148,8 @@ fn line_data(model: &Model, line: usize, effect: Option<&(Effect, Vec<(usize, Co
     let fed = model.feeds(line).filter(|_| !model.is_output[line]);
     let _ = write!(out, ",\"d\":{}", fed.map_or("null".to_string(), |fed| fed.to_string()));
     match effect {
-        Some((effect, easier)) => {
+        Some(effect) => {
+            let easier = listed(model, effect, privacy);
             let easier_list = list(easier.iter().map(|&(line, after)| format!("[{line},{}]", cost(after))));
             let (gain, freed, count) = (effect.gain, effect.freed, effect.easier.len());
             let _ = write!(out, ",\"g\":{gain},\"f\":{freed},\"en\":{count},\"e\":{easier_list}}}");

@@ -1,5 +1,6 @@
 //! What the tests share.
 
+use scoap_pads::archive::{self, Numbers};
 use scoap_pads::load::{self, Loaded, Source};
 use scoap_pads::messages::Messages;
 use scoap_pads::model::Model;
@@ -29,8 +30,17 @@ pub fn model(name: &str) -> Model {
     loaded.unwrap_or_else(|| panic!("{name}: {said}")).model
 }
 
+/// The numbers of a new report, with these lines as outputs: what pads on them must come to.
+pub fn reported(model: &Model, pads: &[usize]) -> Numbers {
+    let mut net = model.net.clone();
+    for pad in pads {
+        net.extend_from_slice(format!("output,{pad}\n").as_bytes());
+    }
+    archive::report(&model.lib, &net).expect("a pad that is accepted")
+}
+
 /// Everything that is checked in: netlists of each format, and folders of the analyser's texts.
-pub const ALL: [&str; 13] = [
+pub const ALL: [&str; 14] = [
     "shift_register/c1.blif",
     "shift_register/c2.blif",
     "shift_register/c3.blif",
@@ -44,6 +54,7 @@ pub const ALL: [&str; 13] = [
     "c17",
     "c1130",
     "latch",
+    "range",
 ];
 
 /// A fixed sequence of numbers.

@@ -35,8 +35,8 @@ fn the_shift_register_of_source_000() {
     assert_eq!(largest(&c1, &SC), (8, "FB111".to_string()));
     assert_eq!(largest(&c1, &[Number::So]), (9, "CNT109".to_string()));
     // The least observable node of C3 as an output.
-    let pad = names::find(&c3.names, "CNT109").unwrap();
-    let after = c3.with_pads(&pad).unwrap();
+    let pad = names::find(&c3.names, "CNT109").unwrap()[0];
+    let (_, after) = c3.ask(pad).unwrap();
     let co = c3.lines().filter_map(|line| after.of(line)[4].figure()).max();
     assert_eq!(co, Some(22));
     // The SC0 and SC1 profiles are alike, and each flip-flop's bump has three nodes.

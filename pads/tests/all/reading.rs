@@ -1,6 +1,7 @@
 //! Reasons, pads and advice on every example.
 
-use crate::common::{model, ALL};
+use crate::common::{model, reported, Random, ALL};
+use scoap_pads::archive::Refusal;
 use scoap_pads::model::Model;
 use scoap_pads::pads::{self, Privacy};
 use scoap_pads::{names, why};
@@ -14,13 +15,65 @@ fn every_reason_of_every_line_adds_up() {
     }
 }
 
-/// The effect of a pad is a new report: written out by hand here.
+/// What is asked for is what a new report says, on every line of every example.
 #[test]
-fn effects_are_new_reports() {
+fn asks_are_new_reports() {
+    let mut asks = 0;
+    for name in ALL {
+        let model = model(name);
+        for line in pads::candidates(&model) {
+            let (count, asked) = model.ask(line).unwrap();
+            assert_eq!((count, &asked), (0, &reported(&model, &[line])), "{name}, line {line}");
+            assert_ne!(asked, model.numbers, "{name}, line {line}");
+            asks += 1;
+        }
+    }
+    assert!(asks > 1_000, "{asks} asks");
+}
+
+/// Pads one after another: what was asked for stands, as a new report with all of them says.
+#[test]
+fn commits_are_new_reports() {
+    let mut random = Random(0xbad5);
+    for name in ALL {
+        let mut model = model(name);
+        let mut pads = Vec::new();
+        for count in 0..5 {
+            let lines = pads::candidates(&model);
+            if lines.is_empty() {
+                break;
+            }
+            let [line, other] = [0; 2].map(|_| lines[random.below(lines.len())]);
+            let (ticket, asked) = model.ask(line).unwrap();
+            let (_, beside) = model.ask(other).unwrap();
+            assert_eq!(beside, reported(&model, &[&pads[..], &[other]].concat()), "{name}: {other} beside {pads:?}");
+            assert_eq!(ticket, count, "{name}");
+            let before = model.numbers.clone();
+            model.commit(line, ticket).unwrap();
+            pads.push(line);
+            assert_eq!(model.numbers, asked, "{name}: {pads:?}");
+            assert_eq!(model.numbers, reported(&model, &pads), "{name}: {pads:?}");
+            // No pad raises a number; CC and SC stay.
+            for line in model.lines() {
+                let (was, is) = (before.of(line), model.numbers.of(line));
+                assert!(was[..4] == is[..4] && is[4] <= was[4] && is[5] <= was[5], "{name}: {pads:?}");
+            }
+            // The ticket is used up.
+            if let Some(&next) = pads::candidates(&model).first() {
+                assert_eq!(model.commit(next, ticket), Err(Refusal { number: 24, line: 0 }), "{name}");
+            }
+        }
+        assert_eq!(model.pads(), pads.len() as u64);
+    }
+}
+
+/// The gain and the lines easier to see, from a new report of the second implementation: worked out by hand here.
+#[test]
+fn effects_are_drawn_from_new_reports() {
     for name in ["shift_register/c1.blif", "recorder/i2c_id.json", "c17"] {
         let model = model(name);
-        let lines = pads::candidates(&model, &[]);
-        for effect in pads::effects(&model, &[], &lines).unwrap() {
+        let lines = pads::candidates(&model);
+        for effect in pads::effects(&model, &lines).unwrap() {
             let mut net = model.net.clone();
             net.extend_from_slice(format!("output,{}\n", effect.line).as_bytes());
             let second::Answer::Accepted { report, .. } = second::analyse(&model.lib, &net, 65_536) else {
@@ -28,18 +81,25 @@ fn effects_are_new_reports() {
             };
             let report = String::from_utf8(report).unwrap();
             let mut fall = 0;
+            let mut easier = Vec::new();
             for row in report.lines().skip(1).filter(|row| !row.starts_with("sweeps")) {
                 let fields: Vec<&str> = row.split(',').collect();
                 let line: usize = fields[0].parse().unwrap();
-                if let (true, Some(was), Ok(is)) =
-                    (model.is_ranked(line), model.numbers.of(line)[4].figure(), fields[5].parse::<u32>())
-                {
-                    // No pad raises a number.
-                    assert!(is <= was);
+                if !model.is_ranked(line) {
+                    continue;
+                }
+                let was = model.numbers.of(line);
+                if let (Some(was), Ok(is)) = (was[4].figure(), fields[5].parse::<u32>()) {
                     fall += u64::from(was - is);
+                }
+                // No pad raises a number: another one is a lower one.
+                if fields[5..] != [was[4].plain(), was[5].plain()] {
+                    easier.push((line, fields[5].to_string()));
                 }
             }
             assert_eq!(fall, effect.gain, "{name}, line {}", effect.line);
+            let told: Vec<(usize, String)> = effect.easier.iter().map(|&(line, co)| (line, co.plain())).collect();
+            assert_eq!(told, easier, "{name}, line {}", effect.line);
         }
     }
 }
@@ -47,14 +107,14 @@ fn effects_are_new_reports() {
 /// The advice by trying every pad and comparing by hand.
 fn brute(model: &Model, placed: &[usize], privacy: &Privacy) -> Option<usize> {
     let mut best: Option<((usize, usize, u32, u64), usize)> = None;
-    let base = model.with_pads(placed).unwrap();
+    let base = reported(model, placed);
     for line in model.lines().filter(|&line| model.is_ranked(line)) {
         if model.is_output[line] || placed.contains(&line) || privacy.forbidden.contains(&line) {
             continue;
         }
         let mut pads = placed.to_vec();
         pads.push(line);
-        let after = model.with_pads(&pads).unwrap();
+        let after = reported(model, &pads);
         let shown = |&line: &usize| after.of(line)[4] < base.of(line)[4] || after.of(line)[5] < base.of(line)[5];
         if privacy.protected.contains(&line) || privacy.protected.iter().any(shown) {
             continue;
@@ -86,7 +146,7 @@ fn advice_is_what_trying_all_gives() {
                 placed.push(pad.effect.line);
             }
             // No protected net is easier to see than before, whatever was placed.
-            let after = model.with_pads(&placed).unwrap();
+            let after = reported(&model, &placed);
             for &line in &privacy.protected {
                 assert_eq!(after.of(line)[4..], model.numbers.of(line)[4..], "{name}");
             }
