@@ -57,6 +57,16 @@ mod c {
             line: u64,
             count: u64,
         ) -> u64;
+        pub fn scoap_advise(
+            lib: *const u8,
+            lib_len: usize,
+            net: *const u8,
+            net_len: usize,
+            forbidden: *const u32,
+            forbidden_len: usize,
+            answer: *mut u32,
+            answer_len: usize,
+        ) -> u64;
     }
 }
 
@@ -253,6 +263,29 @@ pub fn commit(lib: &[u8], net: &[u8], standing: &mut Standing, line: usize, coun
     accepted(answer).map(|_| ())
 }
 
+/// The line whose pad leaves the least largest CO, over all lines of the netlist, and that CO (K13). None where every line
+/// is forbidden or an output.
+pub fn advise(lib: &[u8], net: &[u8], forbidden: &[u32]) -> Result<Option<(usize, Cost)>, Refusal> {
+    let mut largest = [0];
+    // Each slice is valid for its length, and no two overlap.
+    let answer = unsafe {
+        c::scoap_advise(
+            lib.as_ptr(),
+            lib.len(),
+            net.as_ptr(),
+            net.len(),
+            forbidden.as_ptr(),
+            forbidden.len(),
+            largest.as_mut_ptr(),
+            largest.len(),
+        )
+    };
+    Ok(match accepted(answer)? {
+        0 => None,
+        line => Some((line, cost(largest[0]))),
+    })
+}
+
 /// The plan that sets a line to a value, in combinational (kind 0) or sequential terms (kind 1).
 pub fn plan(lib: &[u8], net: &[u8], line: usize, value: u8, kind: u8) -> Result<String, Refusal> {
     let mut buffer = vec![0; PLAN_ROOM];
@@ -374,5 +407,16 @@ mod tests {
         assert_eq!(commit(&lib, net, &mut standing, 4, 1), refused(23));
         assert_eq!(standing, placed);
         assert_eq!(stand(&lib, b"?\n").unwrap_err(), Refusal { number: 10, line: 1 });
+    }
+
+    #[test]
+    fn the_adviser_names_a_line() {
+        let lib = cell("NAND2", 2, "1110").unwrap().into_bytes();
+        let net = b"input,1\ninput,2\ngate,NAND2,3,1,4\ngate,NAND2,4,2,3\noutput,3\n";
+        // A pad on line 2 leaves 3 at line 1, one on line 4 leaves 3 at lines 1 and 2: the lower line is named.
+        assert_eq!(advise(&lib, net, &[]), Ok(Some((2, Cost::Figure(3)))));
+        assert_eq!(advise(&lib, net, &[2, 2, 0, 1_001]), Ok(Some((4, Cost::Figure(3)))));
+        assert_eq!(advise(&lib, net, &[1, 2, 4]), Ok(None));
+        assert_eq!(advise(&lib, b"?\n", &[]), Err(Refusal { number: 10, line: 1 }));
     }
 }

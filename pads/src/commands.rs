@@ -426,16 +426,11 @@ fn advise(args: &Args, messages: &mut Messages) -> Result<Done, Stop> {
         text += if privacy { "no pad that is allowed helps further\n" } else { "no pad helps further\n" };
     }
     text += &trouble_told(&model);
-    if let Some(plain) = pads::plainly(&effects, &privacy) {
-        if advice.first().is_some_and(|pad| pad.effect.line != plain.line) {
-            let _ = writeln!(
-                text,
-                "by the largest CO of all lines alone, constants and unread ones among them, it would be {} ({})",
-                model.net_name(plain.line),
-                plain.plain_largest
-            );
-        }
-    }
+    text += "proved adviser, one pad by the largest CO of all lines, constants and unread ones among them: ";
+    text += &match pads::proved(&model, &effects, &privacy).map_err(Stop::Usage)? {
+        Some((line, largest)) => format!("{}, largest CO {largest}\n", model.net_name(line)),
+        None => "none, no line is allowed\n".to_string(),
+    };
     Done::well(printable(&text))
 }
 

@@ -79,7 +79,8 @@ smallest largest CO, then the smallest sum of CO; the lowest line among equals.
     --protect FILE    no pad may make one of these nets easier to see (CO or SO)
     --csv FILE        every candidate for the first pad: net, instance, gain, largest CO after, nets that become
                       easier to see, protected ones among them
-A FILE of nets has one net or pattern a line; # starts a comment.
+A FILE of nets has one net or pattern a line; # starts a comment. The last line printed is the answer of the proved
+adviser, scoap_advise, among the lines that privacy leaves: one pad, by the largest CO of all lines alone.
 ";
 
 pub const PAGE: &str = "\

@@ -269,6 +269,11 @@ impl Model {
         Ok(())
     }
 
+    /// The one pad that the archive's adviser names (K13), with the largest CO that it leaves. It knows of no pad placed.
+    pub fn advised(&self, forbidden: &[u32]) -> Result<Option<(usize, Cost)>, Refusal> {
+        archive::advise(&self.lib, &self.net, forbidden)
+    }
+
     /// The count of pads placed so far.
     pub fn pads(&self) -> u64 {
         self.standing.count()

@@ -44,8 +44,6 @@ pub struct Effect {
     pub gain: u64,
     /// Ranked lines that become easier to see, with their CO after.
     pub easier: Vec<(usize, Cost)>,
-    /// The largest CO over all lines, as request K13 counts it.
-    pub plain_largest: Cost,
 }
 
 impl Effect {
@@ -82,8 +80,7 @@ fn effect(model: &Model, line: usize, (count, after): (u64, Numbers)) -> Effect 
             easier.push((other, is[4]));
         }
     }
-    let plain_largest = model.lines().map(|other| after.of(other)[4]).max().unwrap_or(Cost::Figure(0));
-    Effect { line, count, after: measure(model, &after), freed, gain, easier, plain_largest }
+    Effect { line, count, after: measure(model, &after), freed, gain, easier }
 }
 
 /// The lines that may get a pad at all: those that are no output and have none yet.
@@ -199,10 +196,12 @@ pub fn advise(model: &Model, count: usize, privacy: &Privacy) -> Result<(Vec<Adv
     Ok((advice, first))
 }
 
-/// The line that request K13 names: the least of the largest CO over all lines, the lowest line among equals.
-pub fn plainly<'e>(effects: &'e [Effect], privacy: &Privacy) -> Option<&'e Effect> {
-    let allowed = effects.iter().filter(|effect| !privacy.forbidden.contains(&effect.line));
-    allowed.min_by_key(|effect| (effect.plain_largest, effect.line))
+/// The proved adviser's one pad, and the largest CO over all lines that it leaves. Forbidden to it is every line that
+/// privacy rules out, by the effects of all candidates.
+pub fn proved(model: &Model, effects: &[Effect], privacy: &Privacy) -> Result<Option<(usize, Cost)>, String> {
+    let ruled_out = effects.iter().filter(|effect| !privacy.allows(effect));
+    let forbidden: Vec<u32> = ruled_out.map(|effect| effect.line as u32).collect();
+    model.advised(&forbidden).map_err(refused)
 }
 
 #[cfg(test)]

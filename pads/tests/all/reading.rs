@@ -154,6 +154,44 @@ fn advice_is_what_trying_all_gives() {
     }
 }
 
+/// The proved adviser's one pad, by trying all: every line counts, ranked or not.
+#[test]
+fn the_proved_adviser_is_what_trying_all_gives() {
+    for (name, pattern) in [
+        ("shift_register/c1.blif", "STC*"),
+        ("recorder/breath.json", "quiet[*]"),
+        ("recorder/uart_log.json", "data[*]"),
+        ("c17", "11"),
+        ("latch", "*"),
+        ("range", "*"),
+    ] {
+        let model = model(name);
+        let nets = names::find(&model.names, pattern).unwrap();
+        for privacy in [
+            Privacy::default(),
+            Privacy { forbidden: nets.clone(), protected: vec![] },
+            Privacy { forbidden: vec![], protected: nets },
+        ] {
+            let mut best = None;
+            for line in pads::candidates(&model) {
+                let after = reported(&model, &[line]);
+                let kept = |other: &usize| after.of(*other)[4..] == model.numbers.of(*other)[4..];
+                let private = privacy.forbidden.contains(&line) || !privacy.protected.iter().all(kept);
+                let largest = model.lines().map(|other| after.of(other)[4]).max().unwrap();
+                if !private && best.is_none_or(|(_, least)| largest < least) {
+                    best = Some((line, largest));
+                }
+            }
+            let (_, effects) = pads::advise(&model, 1, &privacy).unwrap();
+            assert_eq!(pads::proved(&model, &effects, &privacy).unwrap(), best, "{name}");
+            assert_eq!(
+                best.is_none(),
+                pattern == "*" && !(privacy.forbidden.is_empty() && privacy.protected.is_empty())
+            );
+        }
+    }
+}
+
 /// 000's own choice of a pad.
 #[test]
 fn the_pad_of_source_000() {
