@@ -19,8 +19,9 @@ use Rattle.rerun.specs.Standing.{held}
 use Rattle.outcome.specs.Outcome.{Given, givenTexts, readPair}
 use Rattle.figures.specs.Entries.{nand2, and2}
 use Rattle.figures.specs.Figures.{outcome-open}
-use Rattle.standing.specs.Table.{standingWords, padsHeld, countsHeld, analysisHeld, stateHeld}
-use Rattle.standing.specs.Calls.{entered, foreign, heldBy, tableShort, stoodLater, stoodFrom, stood}
+use Rattle.standing_table.specs.Table.{standingWords, padsHeld, countsHeld, analysisHeld, stateHeld}
+use Rattle.standing_texts.specs.Held.{entered, foreign, heldBy}
+use Rattle.standing.specs.Calls.{tableShort, stoodLater, stoodFrom, stood}
 use Rattle.changing.specs.Calls.{goneOn, Change, changeOf, changed, changedBy, comes, answerOf, tableAfter}
 
 -- "Latch: gates 3 = (1,4), 4 = (2,3), inputs 1, 2, output 3".

@@ -21,7 +21,8 @@ use Rattle.netlist.proofs.Bounds.{netlist-within}
 use Rattle.calculation.specs.Pads.{State}
 use Rattle.outcome.specs.Outcome.{Given, givenBy, givenTexts, textLong}
 use Rattle.outcome.proofs.Bounds.{lastLine}
-use Rattle.standing.specs.Calls.{heldBy, tableShort}
+use Rattle.standing_texts.specs.Held.{heldBy}
+use Rattle.standing.specs.Calls.{tableShort}
 use Rattle.standing.proofs.Bounds.{held-within}
 use Rattle.changing.specs.Calls.{Change, changed, changedBy, comes, answerOf}
 

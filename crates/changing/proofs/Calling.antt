@@ -39,10 +39,11 @@ use Rattle.calculation.specs.Stored.{Holds, Ready}
 use Rattle.growth.specs.Held.{HoldsCells, SomeCells}
 use Rattle.outcome.specs.Outcome.{Given, Pair, readPair, givenBy, givenTexts, textLong}
 use Rattle.outcome.proofs.Accepting.{read-as}
-use Rattle.standing.specs.Table.{padsHeld, analysisHeld, stateHeld}
-use Rattle.standing.specs.Calls.{entered, foreign, heldBy, tableShort}
-use Rattle.standing.specs.Parts.{PadsJudged, HeldRead}
-use Rattle.standing.proofs.Reading.{done-both, zero-cleared}
+use Rattle.standing_table.specs.Table.{padsHeld, analysisHeld, stateHeld}
+use Rattle.standing_texts.specs.Held.{entered, foreign, heldBy}
+use Rattle.standing.specs.Calls.{tableShort}
+use Rattle.standing_texts.specs.Parts.{PadsJudged, HeldRead}
+use Rattle.standing_texts.proofs.Texts.{done-both, zero-cleared}
 use Rattle.changing.specs.Calls.{Change, readUnder, changed, changedBy, comes, answerOf, tableAfter}
 use Rattle.changing.specs.Parts.{AgainFits, Again, ReadAgain, StateHeld, SomeState, Changes}
 use Rattle.changing.specs.Promise.{ChangePromised}

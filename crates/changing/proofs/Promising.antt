@@ -20,8 +20,9 @@ use Rattle.calculation.specs.Pads.{State}
 use Rattle.calculation.specs.Standing.{Standing, wentOn, begunAgain, changedTo}
 use Rattle.calculation.proofs.Changing.{on-read, lesser-on, changed-standing, on-goes}
 use Rattle.outcome.specs.Outcome.{Given}
-use Rattle.standing.specs.Table.{standingWords, StandsIn}
-use Rattle.standing.specs.Calls.{heldBy, tableShort}
+use Rattle.standing_table.specs.Table.{standingWords, StandsIn}
+use Rattle.standing_texts.specs.Held.{heldBy}
+use Rattle.standing.specs.Calls.{tableShort}
 use Rattle.standing.proofs.Standing.{table-long, held-standing, means}
 use Rattle.changing.specs.Calls.{goneOn, Change, changeOf, changed, changedBy, comes, answerOf, tableAfter, told}
 use Rattle.changing.specs.Promise.{Follows, ChangePromised}

@@ -23,9 +23,9 @@ use Rattle.calculation.specs.Standing.{begunAgain}
 use Rattle.calculation.specs.Stored.{Holds}
 use Rattle.calculation.proofs.Changing.{again-placeable, on-read, on-sound}
 use Rattle.growth.specs.Held.{HoldsCells}
-use Rattle.standing.specs.Table.{standingWords, padsHeld, stateHeld}
-use Rattle.standing.specs.Calls.{foreign}
-use Rattle.standing.specs.Parts.{PadsJudged}
+use Rattle.standing_table.specs.Table.{standingWords, padsHeld, stateHeld}
+use Rattle.standing_texts.specs.Held.{foreign}
+use Rattle.standing_texts.specs.Parts.{PadsJudged}
 use Rattle.changing.specs.Calls.{goneOn, Change, changeOf, readUnder, changed, answerOf, tableAfter}
 use Rattle.changing.specs.Parts.{Stores, lesserHeld, Again, ReadAgain, StateHeld, Changes}
 

@@ -20,7 +20,7 @@ use Rattle.calculation.proofs.Laws.{own-figures, numbers-length}
 use Rattle.calculation.proofs.Observing.{lesser-runs}
 use Rattle.rerun.specs.Standing.{held, GoneOn}
 use Rattle.rerun.proofs.Keeping.{held-length, held-bounded}
-use Rattle.standing.specs.Table.{standingWords, padsHeld, analysisHeld}
+use Rattle.standing_table.specs.Table.{standingWords, padsHeld, analysisHeld}
 use Rattle.changing.specs.Parts.{Stores, lesserHeld}
 
 module _ (table : List ℕ) (long : Size.standing ≤ length table) where

@@ -18,8 +18,9 @@ use Rattle.calculation.specs.Growth.{grown}
 use Rattle.calculation.specs.Pads.{State, statementsOf}
 use Rattle.calculation.specs.Standing.{begunAgain}
 use Rattle.outcome.specs.Outcome.{Given}
-use Rattle.standing.specs.Table.{standingWords}
-use Rattle.standing.specs.Calls.{heldBy, tableShort}
+use Rattle.standing_table.specs.Table.{standingWords}
+use Rattle.standing_texts.specs.Held.{heldBy}
+use Rattle.standing.specs.Calls.{tableShort}
 use Rattle.changing.specs.declared.Changed.{Changed}
 use Rattle.changing.specs.declared.Changed.the-variants.{WentOn, BegunAgain, Refused}
 

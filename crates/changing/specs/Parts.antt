@@ -14,8 +14,8 @@ use Rattle.calculation.specs.Runs.{lesserRuns}
 use Rattle.calculation.specs.Pads.{State, statementsOf, placeable}
 use Rattle.calculation.specs.Stored.{Holds}
 use Rattle.growth.specs.Held.{SomeCells}
-use Rattle.standing.specs.Table.{standingWords, padsHeld, analysisHeld}
-use Rattle.standing.specs.Parts.{PadsJudged}
+use Rattle.standing_table.specs.Table.{standingWords, padsHeld, analysisHeld}
+use Rattle.standing_texts.specs.Parts.{PadsJudged}
 use Rattle.changing.specs.Calls.{Change, readUnder, answerOf, tableAfter}
 
 -- ---- the numbers

@@ -14,7 +14,7 @@ use Rattle.calculation.specs.Growth.{grown}
 use Rattle.calculation.specs.Pads.{State}
 use Rattle.calculation.specs.Standing.{changedTo, GoesOn}
 use Rattle.outcome.specs.Outcome.{Given}
-use Rattle.standing.specs.Table.{StandsIn}
+use Rattle.standing_table.specs.Table.{StandsIn}
 use Rattle.standing.specs.Promise.{Meant}
 use Rattle.changing.specs.Calls.{comes, answerOf, tableAfter, told}
 

@@ -16,8 +16,9 @@ use Rattle.rerun.specs.Standing.{held}
 use Rattle.outcome.specs.Outcome.{Given, givenTexts, readPair}
 use Rattle.figures.specs.Entries.{nand2}
 use Rattle.figures.specs.Figures.{outcome-open}
-use Rattle.standing.specs.Table.{standingWords, padsHeld, countsHeld, analysisHeld, stateHeld, observedWords}
-use Rattle.standing.specs.Calls.{entered, foreign, heldBy, comes, tableShort, ticketOf, answerAfter, placedOf, tableAfter, stoodLater, stoodFrom, stood}
+use Rattle.standing_table.specs.Table.{standingWords, padsHeld, countsHeld, analysisHeld, stateHeld, observedWords}
+use Rattle.standing_texts.specs.Held.{entered, foreign, heldBy}
+use Rattle.standing.specs.Calls.{comes, tableShort, ticketOf, answerAfter, placedOf, tableAfter, stoodLater, stoodFrom, stood}
 
 -- "Latch: gates 3 = (1,4), 4 = (2,3), inputs 1, 2, output 3".
 abbrev latch : Given

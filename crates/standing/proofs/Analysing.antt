@@ -28,9 +28,10 @@ use Rattle.outcome.proofs.Accepting.{concluded, Accepts, accepts}
 use Rattle.outcome.proofs.Checking.{Checked}
 use Rattle.outcome.proofs.Fitting.{pair-sound, entry-number, later-number, longest-most}
 use Rattle.outcome.specs.Own.{ownTables}
-use Rattle.standing.specs.Calls.{entered, tableShort, standing, stoodLater, stoodFrom, stood, reportedFrom, reported}
+use Rattle.standing_texts.specs.Held.{entered}
+use Rattle.standing.specs.Calls.{tableShort, standing, stoodLater, stoodFrom, stood, reportedFrom, reported}
 use Rattle.standing.specs.Promise.{StandPromised}
-use Rattle.standing.specs.Table.{standingWords, StandsIn}
+use Rattle.standing_table.specs.Table.{standingWords, StandsIn}
 use Rattle.standing.proofs.Standing.{means}
 
 module _ (g : Given) (checks : Checked g) (before report : List ℕ) where

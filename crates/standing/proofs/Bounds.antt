@@ -18,7 +18,8 @@ use Rattle.outcome.specs.Outcome.{givenBy, givenTexts, textLong, readPair, answ
 use Rattle.outcome.specs.Outcome as O
 use Rattle.outcome.proofs.Bounds.{lastLine, pair-within, refusal-told}
 use Rattle.outcome.specs.Own.{ownTables}
-use Rattle.standing.specs.Calls.{entered, heldBy, comes, ticketOf, placedOf, tableShort, standing}
+use Rattle.standing_texts.specs.Held.{entered, heldBy}
+use Rattle.standing.specs.Calls.{comes, ticketOf, placedOf, tableShort, standing}
 
 module _ (lib net : List ℕ) where
   brief : (short : Bool) → entered short (givenTexts lib net) ≡ read tt → (length lib ≤ Size.textBytes) × (length net ≤ Size.textBytes)

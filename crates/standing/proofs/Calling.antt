@@ -30,12 +30,14 @@ use Rattle.rerun.specs.Standing.{ObservedAnew}
 use Rattle.calculation.specs.Stored.{Holds, Ready}
 use Rattle.outcome.specs.Outcome.{Given, readPair}
 use Rattle.outcome.proofs.Checking.{Checked}
-use Rattle.standing.specs.Calls.{entered, heldBy, padCauses, comes, tableShort, answerShort, ticketOf, answerAfter, placedOf, tableAfter}
-use Rattle.standing.specs.Parts.{PadRead, StoresPad}
+use Rattle.standing_texts.specs.Held.{entered, heldBy, padCauses}
+use Rattle.standing.specs.Calls.{comes, tableShort, answerShort, ticketOf, answerAfter, placedOf, tableAfter}
+use Rattle.standing_table.specs.Table.{StoresPad}
+use Rattle.standing_texts.specs.Parts.{PadRead}
 use Rattle.standing.specs.Promise.{AskPromised, CommitPromised}
-use Rattle.standing.specs.Table.{standingWords, padsHeld, countsHeld, analysisHeld, stateHeld, observedWords}
+use Rattle.standing_table.specs.Table.{standingWords, padsHeld, countsHeld, analysisHeld, stateHeld, observedWords}
 use Rattle.standing.proofs.Promising.{comes-short, held, more-few, ask-free, ask-promised, commit-free, commit-promised}
-use Rattle.standing.proofs.Reading.{done-both}
+use Rattle.standing_texts.proofs.Texts.{done-both}
 
 pub is-short : (table : List ℕ) → length table < Size.standing → tableShort table ≡ true
 unfolding tableShort

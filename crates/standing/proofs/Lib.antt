@@ -1,10 +1,5 @@
-pub mod Parts
-pub mod Placing
-pub mod Reading
-pub mod Table
 pub mod Standing
 pub mod Promising
 pub mod Analysing
 pub mod Calling
 pub mod Bounds
-pub mod Sizes

@@ -32,11 +32,13 @@ use Rattle.calculation.proofs.Standing.{pads-few, step-standing, one-pad-more}
 use Rattle.outcome.specs.Outcome.{Given, Pair, readPair}
 use Rattle.outcome.proofs.Accepting.{read-as}
 use Rattle.outcome.proofs.Checking.{Checked}
-use Rattle.standing.specs.Calls.{entered, foreign, heldBy, comes, tableShort, answerShort, ticketOf, answerAfter, placedOf, tableAfter, asked, committed}
-use Rattle.standing.specs.Promise.{Answered, AskRefused, answerPlace, PadSeen, AskPromised, CommitRefused, CommitPromised}
-use Rattle.standing.specs.Table.{standingWords, padsHeld, observedPlace, observedWords, stateHeld, StandsIn}
+use Rattle.standing_texts.specs.Held.{entered, foreign, heldBy}
+use Rattle.standing.specs.Calls.{comes, tableShort, answerShort, ticketOf, answerAfter, placedOf, tableAfter, asked, committed}
+use Rattle.standing_table.specs.Table.{answerPlace}
+use Rattle.standing.specs.Promise.{Answered, AskRefused, PadSeen, AskPromised, CommitRefused, CommitPromised}
+use Rattle.standing_table.specs.Table.{standingWords, padsHeld, observedPlace, observedWords, stateHeld, StandsIn}
 use Rattle.standing.proofs.Standing.{placed-purpose, numbers-size, table-long, held-standing, comes-standing, means}
-use Rattle.standing.proofs.Table.{numbers-part, number-at, observed-length, observed-word, observed-at}
+use Rattle.standing_table.proofs.Table.{numbers-part, number-at, observed-length, observed-word, observed-at}
 
 -- ---- the checks of an ask and of a commit
 

@@ -25,10 +25,11 @@ use Rattle.calculation.proofs.Standing.{pads-few}
 use Rattle.outcome.specs.Demands.{Reported}
 use Rattle.outcome.specs.Outcome.{Given, readPair}
 use Rattle.rerun.specs.Standing.{held}
-use Rattle.standing.specs.Calls.{entered, foreign, heldBy, comes, tableShort}
+use Rattle.standing_texts.specs.Held.{entered, foreign, heldBy}
+use Rattle.standing.specs.Calls.{comes, tableShort}
 use Rattle.standing.specs.Promise.{Meant}
-use Rattle.standing.specs.Table.{standingWords, analysisHeld, stateHeld, StandsIn}
-use Rattle.standing.proofs.Table.{standing-length, numbers-part, pads-part, counts-part, number-at, held-same}
+use Rattle.standing_table.specs.Table.{standingWords, analysisHeld, stateHeld, StandsIn}
+use Rattle.standing_table.proofs.Table.{standing-length, numbers-part, pads-part, counts-part, number-at, held-same}
 
 pub placed-purpose : (p : Purpose) → Reported p → Placed p
 unfolding InRange

@@ -1,6 +1,6 @@
 -- What the calls come to, answer and leave, whatever is lent. Document 02, K11.
 -- Assumes nothing.
-use mathlib.Core.Bool.{Bool, not, _||_}
+use mathlib.Core.Bool.{Bool}
 use mathlib.Core.List.{List, [], _∷_, _++_}
 use Prim.Native.Nat.{ℕ}
 use lib.Dec.{ltb}
@@ -9,34 +9,15 @@ use Rattle.sizes.specs.Sizes as Size
 use Rattle.reading.specs.Numbers as No
 use Rattle.reading.specs.Refusal.{Read, refused, read, _>>=_, _>>_, weigh}
 use Rattle.calculation.specs.Calculation.{analysed}
-use Rattle.calculation.specs.Pads.{padded, State, placeable, placed, Operation, ask, commit, causesOf, checked}
+use Rattle.calculation.specs.Pads.{padded, State, placed, Operation, ask, commit, causesOf, checked}
 use Rattle.outcome.specs.Outcome as O
 use Rattle.outcome.specs.Own.{ownTables}
+use Rattle.standing_texts.specs.Held.{entered, heldBy}
 use Rattle.standing.specs.declared.Pads.{Pads}
 use Rattle.standing.specs.declared.Pads.the-variants.{Count, Refused}
-use Rattle.standing.specs.Table.{standingWords, stateHeld, observedWords}
+use Rattle.standing_table.specs.Table.{standingWords, observedWords}
 
 -- ---- asking and committing
-
--- "1 a lent table below its published size; 2 a text above 65,535 bytes"
-unfoldable pub entered : Bool → O.Given → Read (Unit {0})
-entered short g = weigh 0 ((No.tableShort, short) ∷ ((No.textLong, g .long) ∷ []))
-
--- A table that no commits left: it has more pads than there are lines, or one that would be refused.
-unfoldable pub foreign : State → Bool
-foreign s = ltb Size.pads (length (s .pads)) || not (placeable (s .statements) (s .pads))
-
--- What was read with what the table holds of it; a foreign table is 23.
-unfoldable pub heldBy : O.Given → List ℕ → Read State
-heldBy g table =
-    O.readPair g >>= λ p.
-    weigh 0 ((No.unpaddable, foreign (stateHeld (p .cells) (p .statements) table)) ∷ [])
-    >> read (stateHeld (p .cells) (p .statements) table)
-
--- "23 ..; then 24": the causes of a pad, on a line that takes none and by a stale ticket. Those of an ask are the same with no
--- ticket that could be stale.
-abbrev pub padCauses : (taken stale : Bool) → List (ℕ × Bool)
-padCauses taken stale = (No.unpaddable, taken) ∷ ((No.ticketStale, stale) ∷ [])
 
 -- The refusal of a call, or the state of which it asks: entry and texts, then 23, then 24.
 unfoldable pub comes : O.Given → Bool → List ℕ → Operation → Read State

@@ -1,4 +1,2 @@
-pub mod Table
 pub mod Calls
-pub mod Parts
 pub mod Promise

@@ -5,7 +5,7 @@ use mathlib.Core.Bool.{true, false, _||_}
 use mathlib.Core.List.{List, _++_}
 use mathlib.Core.Logic.{_⊎_}
 use mathlib.Core.Path.{_≡_}
-use Prim.Native.Nat.{ℕ, _+_, _*_, _-_, _≤_, _<_}
+use Prim.Native.Nat.{ℕ, _+_, _≤_, _<_}
 use lib.ListN.{length, getD, drop}
 use Rattle.sizes.specs.Sizes as Size
 use Rattle.sizes.specs.Places.{observingPlace}
@@ -22,7 +22,7 @@ use Rattle.outcome.specs.declared.Summary.{Summary}
 use Rattle.outcome.specs.Demands.{Reported, PairRead, Promised}
 use Rattle.outcome.specs.Outcome as O
 use Rattle.outcome.specs.Own.{ownTables}
-use Rattle.standing.specs.Table.{observedWords, StandsIn}
+use Rattle.standing_table.specs.Table.{observedWords, StandsIn, answerPlace}
 use Rattle.standing.specs.Calls.{comes, tableShort, answerShort, ticketOf, answerAfter, placedOf, tableAfter, asked, committed, standing, stood, reported}
 
 -- Demands 2 and 3 of the numbers that stand in a table: they are those of a new analysis with the pads as outputs, to which the
@@ -59,10 +59,6 @@ Answered (read x) before after said = (said ≡ read (x .0)) × (after ≡ x .1 
 abbrev pub AskRefused : State → ℕ → List ℕ → ℕ → ℕ → Type 0
 AskRefused s l before number line =
     (line ≡ 0) × (((number ≡ No.tableShort) × (answerShort before ≡ true)) ⊎ ((number ≡ No.unpaddable) × (unpaddable s l ≡ true)))
-
--- Where the CO or SO of a line stands in the answer.
-abbrev pub answerPlace : Kind → ℕ → ℕ
-answerPlace k l = (l - 1) * Size.kinds + kindNumber k
 
 -- What an accepted ask says of each line: the number is exact with the pad as an output, and not above the one that stands.
 pub record PadSeen (s : State) (l : ℕ) (table after : List ℕ) : Type 0 where

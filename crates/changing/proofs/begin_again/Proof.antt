@@ -6,7 +6,7 @@ use denote.Ref.{now}
 use borrow.Author.Needs.{needs}
 use Rattle.sizes.specs.Sizes as Size
 use Rattle.calculation.specs.Calculation.{Analysed}
-use Rattle.standing.proofs.Parts.{ready-size}
+use Rattle.standing_table.proofs.Slices.{ready-size}
 use Rattle.changing.specs.Parts.{Stores}
 use Rattle.changing.proofs.Running.{begun-length, begun-whole}
 use Rattle.changing.proofs.begin_again.Statement.{statement}

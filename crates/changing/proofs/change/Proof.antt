@@ -8,8 +8,8 @@ use borrow.Author.Needs.{needs}
 use Rattle.sizes.specs.Sizes as Size
 use Rattle.reading.specs.Refusal.{read}
 use Rattle.outcome.specs.Outcome.{Given, givenTexts}
-use Rattle.standing.specs.Parts.{HeldRead}
-use Rattle.standing.proofs.Reading.{accepted-is, refused-is}
+use Rattle.standing_texts.specs.Parts.{HeldRead}
+use Rattle.standing_texts.proofs.Texts.{accepted-is, refused-is}
 use Rattle.changing.specs.Calls.{changedRead}
 use Rattle.changing.proofs.Calling.{change-short, change-long, held-stopped, some-state, held-changed}
 use Rattle.changing.proofs.change.Statement.{statement}

@@ -14,7 +14,7 @@ use Rattle.calculation.specs.Growth.{grown}
 use Rattle.calculation.specs.Pads.{State, statementsOf}
 use Rattle.calculation.specs.Stored.{Ready}
 use Rattle.growth.specs.Held.{HoldsCells}
-use Rattle.standing.proofs.Reading.{accepted-is, refused-is}
+use Rattle.standing_texts.proofs.Texts.{accepted-is, refused-is}
 use Rattle.changing.specs.Calls.{changedRead}
 use Rattle.changing.specs.Parts.{StateHeld, ReadAgain}
 use Rattle.changing.proofs.Calling.{some-cells, on-ready, again-fits, again-ready}

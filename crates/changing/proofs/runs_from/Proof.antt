@@ -9,7 +9,7 @@ use borrow.Author.Needs.{needs}
 use Rattle.sizes.specs.Sizes as Size
 use Rattle.calculation.specs.Stored.{Ready}
 use Rattle.rerun.specs.Standing.{GoneOn}
-use Rattle.standing.proofs.Parts.{part-is, ready-size}
+use Rattle.standing_table.proofs.Slices.{part-is, ready-size}
 use Rattle.changing.proofs.runs_from.Statement.{statement}
 use Rattle.changing.proofs.runs_from.Tie as tie
 

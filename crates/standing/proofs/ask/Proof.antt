@@ -11,11 +11,11 @@ use Rattle.calculation.specs.Stored.{Ready}
 use Rattle.outcome.specs.Outcome.{Given, givenTexts}
 use Rattle.outcome.proofs.Checking.{texts-checked}
 use Rattle.standing.specs.Calls.{tableShort, answerShort, padsRead}
-use Rattle.standing.specs.Parts.{PadRead}
+use Rattle.standing_texts.specs.Parts.{PadRead}
 use Rattle.standing.specs.Promise.{AskPromised}
 use Rattle.standing.proofs.Calling.{both-long, ready, ask-short, ask-stopped, ask-answered}
-use Rattle.standing.proofs.Reading.{accepted-is, refused-is}
-use Rattle.standing.proofs.Sizes.{anew-length}
+use Rattle.standing_texts.proofs.Texts.{accepted-is, refused-is}
+use Rattle.standing_table.proofs.Lengths.{anew-length}
 use Rattle.standing.proofs.ask.Statement.{statement}
 use Rattle.standing.proofs.ask.Tie as tie
 

@@ -12,10 +12,11 @@ use Rattle.reading.specs.Verdict.{verdictRead}
 use Rattle.outcome.specs.Outcome.{Given, givenTexts}
 use Rattle.outcome.proofs.Checking.{texts-checked}
 use Rattle.standing.specs.Calls.{tableShort, padsRead}
-use Rattle.standing.specs.Parts.{PadRead, StoresPad}
+use Rattle.standing_table.specs.Table.{StoresPad}
+use Rattle.standing_texts.specs.Parts.{PadRead}
 use Rattle.standing.specs.Promise.{CommitPromised}
 use Rattle.standing.proofs.Calling.{is-short, is-long, ready, in-range, room, commit-short, commit-stopped, commit-stored}
-use Rattle.standing.proofs.Reading.{accepted-is, refused-is}
+use Rattle.standing_texts.proofs.Texts.{accepted-is, refused-is}
 use Rattle.standing.proofs.commit.Statement.{statement}
 use Rattle.standing.proofs.commit.Tie as tie
 
