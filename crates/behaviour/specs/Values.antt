@@ -26,7 +26,7 @@ pub record Does (ss : List Statement) (tables : Tables) (s : Setting) (v : Value
   -- "each gate's output is its truth table's value"
   pub gates : (g : Gate) → List·Memᴰ g (gatesOf ss) → v (g .line) ≡ tables g (map v (g .pins))
 
--- "each setting of the inputs gives each line one value"
+-- The setting gives each line one value, and no other.
 pub record OneValue (ss : List Statement) (tables : Tables) (s : Setting) : Type 0 where
   pub values : Values
   pub given : Does ss tables s values

@@ -12,7 +12,7 @@ abbrev pub kindNumber : Kind → ℕ
 kindNumber combinational = 0
 kindNumber sequential = 1
 
--- What a plan is for: "line L is set to v" or "line L is observed".
+-- What a plan is for: a line set to a value, or a line observed.
 pub data Purpose : Type 0 where
   set : (line v : ℕ) → Purpose
   observe : (line : ℕ) → Purpose

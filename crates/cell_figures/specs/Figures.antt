@@ -32,7 +32,7 @@ NorFigure =
 abbrev pub BuiltInFigure : Type 0
 BuiltInFigure = entries tables ≡ read (text builtIn)
 
--- "A constant with pins has `CC,1,Z` or `CC,Z,1`; with none too, and then CO and SO stand alone."
+-- A constant with pins has `CC,1,Z` or `CC,Z,1`; with none too, and then "CO and SO stand alone on their lines".
 abbrev pub ConstantFigure : Type 0
 ConstantFigure =
     entries ("TIE0,0,0" ∷ "ONE,1,11" ∷ [])

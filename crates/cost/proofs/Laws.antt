@@ -65,7 +65,7 @@ sum-below a b h k = rw (sum-form a b) (omega arith)
 pub sum-comm : (a b : ℕ) → a ⊕ b ≡ b ⊕ a
 sum-comm a b = rw (sum-form a b, sum-form b a, max-comm (min a never) (min b never), add-comm a b)
 
--- "a sum is at least each term"
+-- A sum is at least each term.
 pub sum-left : (a b : ℕ) → min a never ≤ a ⊕ b
 sum-left a b = rw (sum-form a b) (omega arith)
 

@@ -63,7 +63,7 @@ rangeKind = 4
 abbrev pub lastKind : ℕ
 lastKind = rangeKind
 
--- By the old rules, "those in force just before" K5, nothing declares a line open; by the new ones `open,L` does. The old rules
+-- By the old rules, those in force just before K5, nothing declares a line open; by the new ones `open,L` does. The old rules
 -- know no ranges either.
 abbrev pub declaring : Rules → Bool
 declaring Old = false

@@ -13,9 +13,9 @@ use Rattle.plans.specs.Sweep.{at}
 pub record Stands (P : Type 0) (c : P → ℕ) (x : ℕ) : Type 0 where
   -- "A figure up to 999,999,999 stands exactly when some such plan costs just that and none costs less."
   pub figure : (k : ℕ) → k ≤ most → (x ≡ k) ↔ (((p : P) × (c p ≡ k)) × ((p : P) → k ≤ c p))
-  -- "'Over' stands exactly when such plans exist and every one of them costs more than 999,999,999."
+  -- ""Over" stands exactly when such plans exist and every one of them costs more than 999,999,999."
   pub isOver : (x ≡ over) ↔ (P × ((p : P) → most < c p))
-  -- "'Never' stands exactly when there is no such plan."
+  -- ""Never" stands exactly when there is no such plan."
   pub isNever : (x ≡ never) ↔ (P → ⊥)
 
 -- The number `x` is that of the node `n`.

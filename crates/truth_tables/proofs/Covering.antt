@@ -214,8 +214,8 @@ unfolding anyOf
 any-putIn k v s [] = refl
 any-putIn k v s (t ∷ ts) = rw (meets-putIn k v t s, any-putIn k v s ts) refl
 
--- "pin p's value shows at the output exactly when the setting of the other pins meets a row of p's group", whichever value the pin
--- has.
+-- A pin's value shows at the output exactly when the setting of the other pins meets a row of the pin's group, whichever value
+-- the pin has.
 pub observing-fact : (n : ℕ) (bits : List Bool) (k : ℕ) (s : Setting) (v : Bool) → suc (length s) ≡ n
     → (output bits (putIn k false s) ≡ output bits (putIn k true s) → ⊥)
     ↔ (anyOf (λ t. meets t (putIn k v s)) (observing n bits k) ≡ true)

@@ -68,7 +68,7 @@ terms (suc n) =
 
 -- ---- prime implicants
 
--- What a setting may be asked for, as "the output is e".
+-- What a setting may be asked for, as that the output is e.
 abbrev pub Condition : Type 0
 Condition = Setting → Bool
 
