@@ -19,6 +19,12 @@ use Rattle.behaviour.specs.Built.{Qualifies, tablesOf}
 unfoldable pub ccNumber : List ℕ → ℕ → Bool → ℕ
 ccNumber numbers l x = getD numbers (node combinational (set l (digit x))) 0
 
+-- "never stands exactly when no setting does", for every line that the netlist mentions.
+abbrev pub NeverExactly : List Statement → Tables → List ℕ → Type 0
+NeverExactly ss tables numbers =
+    (l : ℕ) → mentioned l ss ≡ true → (x : Bool)
+    → (ccNumber numbers l x ≡ never) ↔ ((s : Setting) (v : Values) → Does ss tables s v → v l ≡ x → ⊥)
+
 -- What the numbers table of an accepted analysis says of the chip, for every line that the netlist mentions.
 pub record NeverMeans (ss : List Statement) (tables : Tables) (numbers : List ℕ) : Type 0 where
   -- Each setting of the inputs gives each line one value.
@@ -27,5 +33,4 @@ pub record NeverMeans (ss : List Statement) (tables : Tables) (numbers : List �
   pub noneGives : (s : Setting) (v : Values) → Does ss tables s v → (l : ℕ) → mentioned l ss ≡ true
       → ccNumber numbers l (v l) ≡ never → ⊥
   -- "If besides each line is read by at most one pin, never stands exactly when no setting does."
-  pub exactly : ReadOnce ss → (l : ℕ) → mentioned l ss ≡ true → (x : Bool)
-      → (ccNumber numbers l x ≡ never) ↔ ((s : Setting) (v : Values) → Does ss tables s v → v l ≡ x → ⊥)
+  pub exactly : ReadOnce ss → NeverExactly ss tables numbers

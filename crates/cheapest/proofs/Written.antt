@@ -31,7 +31,7 @@ use Rattle.calculation.specs.Nodes.{Kind, combinational, sequential, kindNumber
 use Rattle.calculation.specs.Ways.{noCell, cellOf, pinLine, Role, setting, groupOf, groupIndex, wordOf, bothValues, oneWire, asks, isWay, usable}
 use Rattle.calculation.specs.Acceptance.{BothSound}
 use Rattle.calculation.specs.Calculation.{analysed}
-use Rattle.calculation.proofs.Laws.{own-figures}
+use Rattle.calculation.proofs.Laws.{own-figures, exact}
 use Rattle.calculation.proofs.Placing.{Placed, node-inside}
 use Rattle.calculation.proofs.Bounding.{numbers-length}
 use Rattle.plans.specs.Sweep.{at}
@@ -342,7 +342,13 @@ module _ (cells : List Cell) (ss : List Statement) (sound : BothSound cells ss) 
         let same : at (trace cells ss sound k .numbers) n ≡ getD (analysed cells ss .numbers) n 0 = sym (reported cells ss sound l v placed k) ∙ entry in
         let s = P.shown cells ss sound k code codes (suc (visitOf (markAt (trace cells ss sound k .marks) n))) l v placed (rw same small) (omega arith) in
         let text = s .tree (suc (visitOf (markAt (trace cells ss sound k .marks) n))) 0 (omega arith) in (
-          record { plan = s .plan; lowered = s .lowered; text = text; costs = s .costs ∙ same },
+          record {
+            plan = s .plan;
+            lowered = s .lowered;
+            text = text;
+            costs = s .costs ∙ same;
+            least = λ q. rw (s .costs ∙ same) (exact cells ss sound (pricesOf ss) (own-figures sound) k (set l v) placed .figure _ small .0 refl .1 q);
+          },
           s .written 4294967295 0 (visit-early l v (markAt (trace cells ss sound k .marks) n) refl) ∙ sym text,
         )
       where

@@ -2,7 +2,7 @@
 -- Assumes nothing.
 use mathlib.Core.List.{List}
 use mathlib.Core.Path.{_≡_}
-use Prim.Native.Nat.{ℕ}
+use Prim.Native.Nat.{ℕ, _≤_}
 use lib.ListN.{getD}
 use Rattle.cell_library.specs.Cells.{Cell}
 use Rattle.netlist.specs.Netlist.{Statement}
@@ -20,5 +20,7 @@ pub record Cheapest (cells : List Cell) (ss : List Statement) (k : Kind) (l v : 
   pub lowered : LastLowered (settingTrace k cells ss .marks) plan
   -- whose text is the one that is computed,
   pub text : cheapestText k cells ss l v ≡ planText 0 plan
-  -- and whose exact cost is the number reported.
+  -- whose exact cost is the number reported.
   pub costs : cost plan ≡ getD (analysed cells ss .numbers) (node k (set l v)) 0
+  -- Demand 3: nobody sets the line to the value "by any finite plan that the library allows, for less".
+  pub least : (q : Plan cells ss k (set l v)) → cost plan ≤ cost q

@@ -1,6 +1,6 @@
 -- The entry: what its two checks say of the lengths.
 -- Assumes nothing.
-use mathlib.Core.Bool.{_||_}
+use mathlib.Core.Bool.{false, _||_}
 use mathlib.Core.List.{List, []}
 use mathlib.Core.Path.{_≡_, refl}
 use Prim.Native.Nat.{ℕ, _≤_}
@@ -13,6 +13,12 @@ use Rattle.reading.specs.Refusal.{read}
 use Rattle.reading.proofs.Laws.{or-left, or-right, weigh-one}
 use Rattle.netlist.specs.declared.Rules.{Rules}
 use Rattle.outcome.specs.Outcome.{Lent, entry, entryBy, givenBy, tableShort, textLong}
+use Rattle.outcome.specs.Own.{ownTables}
+
+-- Tables of a call's own have the published sizes.
+pub own-fit : (report : List ℕ) → tableShort (ownTables report) ≡ false
+unfolding tableShort ownTables
+own-fit report = refl
 
 -- Of two texts the entry is weighed by their lengths.
 pub texts-entry : (rules : Rules) (lib net : List ℕ) (m : Lent)

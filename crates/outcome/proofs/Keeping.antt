@@ -5,7 +5,7 @@ use mathlib.Core.List.{List, _++_}
 use mathlib.Core.Path.{_≡_, refl, sym, ap, subst, _∙_}
 use Prim.Native.Nat.{ℕ, zero, suc, _+_, _≤_, _<_}
 use native.Mathlib.Omega.{arith}
-use lib.ListN.{length, getD, take, drop, List·getD-append}
+use lib.ListN.{length, getD, take, drop}
 use lib.Seq.{take-at, drop-at}
 use Rattle.sizes.specs.Places.{linePlace}
 use Rattle.sizes.specs.Sizes as Size
@@ -20,24 +20,19 @@ use Rattle.calculation.specs.Prices.{pricesOf}
 use Rattle.calculation.specs.Nodes.{Kind, combinational, sequential, Purpose, set, observe, lineOf, node}
 use Rattle.calculation.specs.Calculation.{analysed}
 use Rattle.calculation.specs.Settled.{Settled, FewSweeps}
-use Rattle.calculation.specs.Plans.{Exact}
 use Rattle.calculation.specs.Acceptance.{BothSound}
 use Rattle.calculation.specs.declared.Counts.{Counts}
 use Rattle.calculation.proofs.Laws.{own-figures, low-within, high-within, analysis-at, between}
-use Rattle.calculation.proofs.Laws.{exact, settled, settled-once, few-sweeps, unmentioned, entry-bounded, numbers-length, node-inside, Placed}
+use Rattle.calculation.proofs.Laws.{unmentioned, entry-bounded, node-inside, Placed}
 use Rattle.report.specs.Report.{reportBytes}
 use Rattle.report.proofs.Laws.{report-same}
 use Rattle.outcome.specs.declared.Summary.{Summary}
 use Rattle.outcome.specs.Outcome.{Given, Lent, Accepted, summary, reportOf, second, reports, entry, outcome, reading, answer, left, leftFrom, leftLater, filled, zeroed}
-use Rattle.outcome.specs.Demands.{Reported, standing, standingReport, PairRead, Acceptance, Calculated, ReportStands, Promised}
+use Rattle.outcome.specs.Demands.{NumbersStand, standing, standingReport, PairRead, Acceptance, Calculated, ReportStands, Promised}
 use Rattle.outcome.proofs.Checking.{Checked}
+use Rattle.outcome.proofs.Numbers.{placed, entry-stands, numbers-stand}
 use Rattle.outcome.proofs.Accepting.{concluded, Accepts, accepts}
 use Rattle.outcome.proofs.Fitting.{reports-short, pair-sound, accepts-fitting, entry-number, later-number, refused-where, long-refused}
-
-placed : (p : Purpose) → Reported p → Placed p
-unfolding InRange
-placed (set l v) h = ((h .0, h .1), h .2)
-placed (observe l) h = (h .0, h .1)
 
 -- Each of a line's six entries is the number of a kind and a purpose.
 by-purpose : (P : ℕ → Type 0) (l : ℕ) → 1 ≤ l → l ≤ Size.lines → ((k : Kind) (p : Purpose) → Placed p → lineOf p ≡ l → P (node k p))
@@ -112,20 +107,17 @@ module _ (g : Given) (checked : Checked g) (before after : Lent) (said : Read Su
 
   module _ (cells : List Cell) (ss : List Statement) (sound : BothSound cells ss) (s : Summary) (z : Agrees cells ss s) where
     entry-at : (i : ℕ) → i < Size.numbers → getD (after .numbers) i 0 ≡ getD (analysed cells ss .numbers) i 0
-    entry-at i h =
-        ap (λ (y : List ℕ). getD y i 0) (z .numbers)
-        ∙ List·getD-append (analysed cells ss .numbers) (drop Size.numbers (before .numbers)) 0 i (rw (numbers-length cells ss sound (pricesOf ss) (own-figures sound)) h)
+    entry-at = entry-stands sound (after .numbers) (drop Size.numbers (before .numbers)) (z .numbers)
+
+    held : NumbersStand cells ss (after .numbers)
+    held = numbers-stand sound (after .numbers) (drop Size.numbers (before .numbers)) (z .numbers)
 
     counts-are : s .counts ≡ analysed cells ss .counts
     unfolding summary
     counts-are = ap (λ (y : Summary). y .counts) (z .says)
 
-    numbers-are : take Size.numbers (after .numbers) ≡ analysed cells ss .numbers
-    numbers-are =
-        rw (z .numbers) (take-at (analysed cells ss .numbers) (drop Size.numbers (before .numbers)) Size.numbers (numbers-length cells ss sound (pricesOf ss) (own-figures sound)))
-
     stands : standing after s ≡ analysed cells ss
-    stands = λ i. record { numbers = numbers-are i; counts = counts-are i }
+    stands = λ i. record { numbers = held .calculated i; counts = counts-are i }
 
     unmentioned-at : (l i : ℕ) → 1 ≤ l → l ≤ Size.lines → i < Size.costs → mentioned l ss ≡ false → getD (after .numbers) (linePlace l + i) 0 ≡ never
     unmentioned-at l i a b h e =
@@ -135,18 +127,14 @@ module _ (g : Given) (checked : Checked g) (before after : Lent) (said : Read Su
     calculates : Calculated g before after said cells ss s
     calculates =
         record {
-          numbers = numbers-are;
+          numbers = held .calculated;
           counts = counts-are;
-          settled = subst (Settled cells ss) (sym stands) (settled cells ss sound (pricesOf ss) (own-figures sound));
-          settledOnce = λ a t. settled-once cells ss sound (pricesOf ss) (own-figures sound) a t ∙ sym stands;
-          fewSweeps = subst (FewSweeps (length (gatesOf ss))) (sym counts-are) (few-sweeps cells ss sound (pricesOf ss) (own-figures sound));
+          settled = subst (Settled cells ss) (sym stands) (held .settled);
+          settledOnce = λ a t. held .settledOnce a t ∙ sym stands;
+          fewSweeps = subst (FewSweeps (length (gatesOf ss))) (sym counts-are) (held .fewSweeps);
           costs = λ i h. rw (entry-at i h) (entry-bounded cells ss sound (pricesOf ss) (own-figures sound) i);
           unmentioned = unmentioned-at;
         }
-
-    exact-at : (k : Kind) (p : Purpose) → Reported p → Exact cells ss k p (getD (after .numbers) (node k p) 0)
-    exact-at k p r =
-        subst (λ (y : ℕ). Exact cells ss k p y) (sym (entry-at (node k p) (node-inside k p (placed p r)))) (exact cells ss sound (pricesOf ss) (own-figures sound) k p (placed p r))
 
     report-is : reportOf ss (analysed cells ss) ≡ standingReport ss after s
     unfolding reportOf
@@ -215,7 +203,7 @@ module _ (g : Given) (checked : Checked g) (before after : Lent) (said : Read Su
               cleared = cleared a l;
             };
         demand2 = λ pair s r. calculates (pair .cells) (pair .statements) (sound pair) s (agreed pair s r);
-        demand3 = λ pair s r. exact-at (pair .cells) (pair .statements) (sound pair) s (agreed pair s r);
+        demand3 = λ pair s r. held (pair .cells) (pair .statements) (sound pair) s (agreed pair s r) .exact;
         acceptance = accepting a;
         reporting = λ pair s r. prints (pair .cells) (pair .statements) (sound pair) s (agreed pair s r);
       }

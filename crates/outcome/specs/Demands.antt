@@ -62,6 +62,18 @@ pub record AtAllPrices (cells : List Cell) (ss : List Statement) : Type 0 where
   pub analyses : (price : Pricing) → WithinRanges ss price → AnalysisAt cells ss price
   pub between : (price : Pricing) → WithinRanges ss price → (p : Purpose) → Reported p → Between cells ss price p
 
+-- Demands 2 and 3 of a numbers table, whatever call leaves it: what a call has to say of its numbers that analyses and makes no
+-- report.
+pub record NumbersStand (cells : List Cell) (ss : List Statement) (numbers : List ℕ) : Type 0 where
+  -- "the six numbers of each line .. are those of Goldstein's calculation",
+  pub calculated : take Size.numbers numbers ≡ (analysed cells ss) .numbers
+  -- which is the one that follows the rule: "Sweeps stop after the first that changes nothing",
+  pub settled : Settled cells ss (analysed cells ss)
+  pub settledOnce : (a : Analysed) → Settled cells ss a → a ≡ analysed cells ss
+  pub fewSweeps : FewSweeps (length (gatesOf ss)) ((analysed cells ss) .counts)
+  -- and demand 3 holds "for all six numbers of every line".
+  pub exact : (k : Kind) (p : Purpose) → Reported p → Exact cells ss k p (getD numbers (node k p) 0)
+
 module _ (g : Given) (before after : Lent) (said : Read Summary) where
   -- 1. "The analyser, from the first byte read to the last byte of its report, ends on every pair of texts and refuses a bad
   -- one by the number and line given in document 01. It relies on no earlier check. A refusal at entry touches no lent table;

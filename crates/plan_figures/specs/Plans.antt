@@ -59,7 +59,24 @@ pub tied-plan : planned and2 tiedNet 3 1 0 ≡ read (text ("0,3,1,13" ∷ "1,2,1
 unfolding plans-open
 tied-plan = refl
 
+-- The last line of a netlist has a number, and so a plan; the line behind it "counts as never".
+abbrev lastNet : List String
+lastNet = "input,1000" ∷ "output,1000" ∷ []
+
+pub last-plan : planned c1130 lastNet 1000 1 0 ≡ read (text ("0,1000,1,input" ∷ []))
+unfolding plans-open
+last-plan = refl
+
+pub past-last : planned c1130 lastNet 1001 1 0 ≡ refused 18 0
+unfolding plans-open
+past-last = refl
+
 -- 18 and 19, at line 0.
 pub no-plan : planned c1130 c1130Net 9 1 0 ≡ refused 18 0
 unfolding plans-open
 no-plan = refl
+
+-- C1130's plan for 1 has 46 bytes.
+pub long-plan : planOutcome (givenTexts (text c1130) (text c1130Net)) (lent (replicate 45 0)) 4 1 0 ≡ refused 19 0
+unfolding plans-open
+long-plan = refl

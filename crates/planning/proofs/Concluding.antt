@@ -4,34 +4,39 @@ use mathlib.Core.Bool.{true, _&&_}
 use mathlib.Core.List.{List, _++_}
 use mathlib.Core.Path.{_≡_, refl, sym, ap, _∙_}
 use Prim.Native.Nat.{ℕ, zero, suc, _+_, _≤_, _<_}
+use native.Mathlib.Decide.{ℕ-discrete}
 use native.Mathlib.Omega.{arith}
-use borrow.Author.Tests.{lt-ltb, le-ltb, leb-true, ltb-true, ltb-false}
+use borrow.Author.Tests.{lt-ltb, le-ltb, le-leb, leb-true, ltb-true, ltb-false}
 use lib.Dec.{leb, ltb}
-use lib.ListN.{length, getD, drop, List·getD-append}
+use lib.ListN.{length, getD, take, drop, List·getD-append}
+use lib.Seq.{take-at}
 use Rattle.sizes.specs.Sizes as Size
 use Rattle.sizes.specs.Places.{settingPlace}
 use Rattle.reading.specs.Choice.{pick}
 use Rattle.reading.specs.Numbers.{noFigure, planLong}
 use Rattle.reading.specs.Refusal.{Read, refused, read, _>>_, weigh}
 use Rattle.reading.proofs.Laws.{by-test, and-left, and-right, refused-read}
-use Rattle.cost.specs.Cost.{most, never}
+use Rattle.cost.specs.Cost.{most, over, never}
+use Rattle.plans.specs.Exact.{Stands}
 use Rattle.writer.specs.declared.Written.{Written}
-use Rattle.writer.specs.Buffer.{textWithin, lengthRead, writtenRead, Writes, Refuses, Closes}
+use Rattle.writer.specs.Buffer.{textWithin, lengthRead, leftBy, writtenRead, Writes, Refuses, Closes}
 use Rattle.writer.proofs.Buffer.{text-fits, text-long, refuses-writes, put-closed}
 use Rattle.cell_library.specs.Cells.{Cell}
 use Rattle.netlist.specs.Netlist.{Statement}
 use Rattle.calculation.specs.Prices.{pricesOf}
 use Rattle.calculation.specs.Nodes.{kindNumber, set, node}
 use Rattle.calculation.specs.Calculation.{analysed}
+use Rattle.calculation.specs.Plans.{Plan, cost}
 use Rattle.calculation.specs.Acceptance.{BothSound}
 use Rattle.calculation.specs.declared.Counts.{Counts}
-use Rattle.calculation.proofs.Laws.{own-figures}
-use Rattle.calculation.proofs.Laws.{numbers-length}
+use Rattle.calculation.proofs.Laws.{own-figures, exact, entry-bounded, numbers-length}
 use Rattle.gates.proofs.Naming.{set-node}
 use Rattle.cheapest.specs.Text.{cheapestText}
 use Rattle.cheapest.specs.Plan.{Cheapest}
 use Rattle.cheapest.specs.Asked.{PlanPut, PutWhere}
 use Rattle.calculation.specs.Stored.{Holds, Calculated, HoldsAnalysis}
+use Rattle.outcome.specs.Demands.{Reported}
+use Rattle.outcome.proofs.Numbers.{placed}
 use Rattle.planning.specs.Promise.{known, askedNumber, kindOf, planRead, PlanConcluded}
 
 -- ---- what is asked for
@@ -54,6 +59,11 @@ in-range l v kind e =
       value = leb-true v 1 (and-left (leb v 1) (leb kind 1) b);
       kinds = leb-true kind 1 (and-right (leb v 1) (leb kind 1) b);
     }
+
+pub from-range : (l v kind : ℕ) → InRange l v kind → known l v kind ≡ true
+unfolding known
+from-range l v kind i =
+    rw (le-leb 1 l (i .least), le-leb l Size.lines (i .most), le-leb v 1 (i .value), le-leb kind 1 (i .kinds)) refl
 
 -- A number that is a figure is one of the table.
 pub asked-known : (numbers : List ℕ) (l v kind : ℕ) → askedNumber numbers l v kind ≤ most
@@ -82,6 +92,30 @@ module _ (cells : List Cell) (ss : List Statement) (sound : BothSound cells ss) 
       (List·getD-append (analysed cells ss .numbers) rest 0 (settingPlace kind l v)
       (rw (numbers-length cells ss sound (pricesOf ss) (own-figures sound)) (omega (arith, i .least, i .most, i .value, i .kinds)))))
       (λ t. rw t refl)
+
+-- ---- whatever plan there is for what is asked
+
+pub kind-node : (l v kind : ℕ) → kind ≤ 1 → node (kindOf kind) (set l v) ≡ settingPlace kind l v
+kind-node l v kind h = sym (set-node (kindOf kind) l v) ∙ ap (λ (n : ℕ). settingPlace n l v) (kind-is kind h)
+
+-- A cost that stands and is no figure is below no plan's.
+stands-above : {P : Type 0} (c : P → ℕ) (x : ℕ) → Stands P c x → x ≤ never → most < x → (p : P) → most < c p
+stands-above {P} c x e b h p = test (ℕ-discrete x over)
+  where
+    test : Dec (x ≡ over) → most < c p
+    test (yes q) = e .isOver .0 q .1 p
+    test (no q) = absurd (e .isNever .0 (omega arith) p)
+
+-- So it is with the number that is asked for.
+pub all-above : (cells : List Cell) (ss : List Statement) → BothSound cells ss → (l v kind : ℕ)
+    → most < askedNumber (analysed cells ss .numbers) l v kind → Reported (set l v) → kind ≤ 1
+    → (q : Plan cells ss (kindOf kind) (set l v)) → most < cost q
+unfolding askedNumber pick
+all-above cells ss sound l v kind h r k =
+    let i : InRange l v kind = record { least = r .0; most = r .1; value = r .2; kinds = k } in
+    stands-above (λ p. cost p) _ (exact cells ss sound (pricesOf ss) (own-figures sound) (kindOf kind) (set l v) (placed (set l v) r))
+    (entry-bounded cells ss sound (pricesOf ss) (own-figures sound) (node (kindOf kind) (set l v)))
+    (rw (kind-node l v kind k) (rw (from-range l v kind i) at h))
 
 -- ---- answers are told apart
 
@@ -123,10 +157,15 @@ module _ (cells : List Cell) (ss : List Statement) (l v kind : ℕ) (before : Li
       (λ u. fits (ltb-false most number t) (ltb-false (length before) (length text) u)))
 
   module _ (after : List ℕ) (w : Written) where
-    ends : Writes (planRead cells ss l v kind (length before)) before after w → (number ≤ most → Cheapest cells ss (kindOf kind) l v)
-        → PlanConcluded cells ss l v kind before after (writtenRead w)
-    unfolding lengthRead
-    ends c plan =
+    ends : BothSound cells ss → Writes (planRead cells ss l v kind (length before)) before after w
+        → (number ≤ most → Cheapest cells ss (kindOf kind) l v) → PlanConcluded cells ss l v kind before after (writtenRead w)
+    unfolding lengthRead leftBy
+    ends sound c plan =
+        let over-only : (line : ℕ) → writtenRead w ≡ refused noFigure line → most < number =
+        λ line q.
+        tested (λ h. h)
+        (λ h k. refusals-differ noFigure planLong line 0 (λ z. omega arith) (sym q ∙ c .answers ∙ ap lengthRead (long-read h k)))
+        (λ h k. refused-read (sym q ∙ c .answers ∙ ap lengthRead (fits-read h k))) in
         record {
           answers = c .answers;
           leaves = c .leaves;
@@ -134,24 +173,24 @@ module _ (cells : List Cell) (ss : List Statement) (l v kind : ℕ) (before : Li
           written = λ n q.
               tested (λ h. refused-read (sym (sym q ∙ c .answers ∙ ap lengthRead (over-read h))))
               (λ h k. refused-read (sym (sym q ∙ c .answers ∙ ap lengthRead (long-read h k))))
-              (λ h k. (h, read-same n (length text) (sym q ∙ c .answers ∙ ap lengthRead (fits-read h k))));
-          noNumber = λ line q.
-              tested (λ h. h)
-              (λ h k. refusals-differ noFigure planLong line 0 (λ z. omega arith) (sym q ∙ c .answers ∙ ap lengthRead (long-read h k)))
-              (λ h k. refused-read (sym q ∙ c .answers ∙ ap lengthRead (fits-read h k)));
+              (λ h k.
+              let long = read-same n (length text) (sym q ∙ c .answers ∙ ap lengthRead (fits-read h k)) in
+              (h, long, rw (c .leaves, fits-read h k) (take-at text (drop (length text) before) n (sym long))));
+          noNumber = over-only;
+          noPlan = λ line q. all-above cells ss sound l v kind (over-only line q);
           tooLong = λ line q.
               tested (λ h. refusals-differ planLong noFigure line 0 (λ z. omega arith) (sym q ∙ c .answers ∙ ap lengthRead (over-read h)))
               (λ h k. (h, k)) (λ h k. refused-read (sym q ∙ c .answers ∙ ap lengthRead (fits-read h k)));
         }
 
-    pub ends-over : most < number → Refuses noFigure 0 before after w → PlanConcluded cells ss l v kind before after (writtenRead w)
-    ends-over h r =
-        ends (rw (over-read h) (refuses-writes noFigure 0 before after w refl r)) (λ q. absurd (omega arith))
+    pub ends-over : BothSound cells ss → most < number → Refuses noFigure 0 before after w → PlanConcluded cells ss l v kind before after (writtenRead w)
+    ends-over sound h r =
+        ends sound (rw (over-read h) (refuses-writes noFigure 0 before after w refl r)) (λ q. absurd (omega arith))
 
-    pub ends-written : number ≤ most → (middle : List ℕ) (end : ℕ) → PlanPut cells ss (kindOf kind) l v before middle end
+    pub ends-written : BothSound cells ss → number ≤ most → (middle : List ℕ) (end : ℕ) → PlanPut cells ss (kindOf kind) l v before middle end
         → Closes planLong end middle after w → PlanConcluded cells ss l v kind before after (writtenRead w)
-    ends-written h middle end put c =
-        ends (rw (figure-read h) (put-closed planLong refl (put .put) c)) (λ z. put .plan)
+    ends-written sound h middle end put c =
+        ends sound (rw (figure-read h) (put-closed planLong refl (put .put) c)) (λ z. put .plan)
 
 -- ---- the plan that is put
 
@@ -159,9 +198,7 @@ pub plan-put : (cells : List Cell) (ss : List Statement) (l v kind : ℕ) (libra
     → Holds library netlist cells ss → askedNumber (analysed cells ss .numbers) l v kind ≤ most → PlanPut cells ss (kindOf kind) l v before middle end
 plan-put cells ss l v kind library netlist before middle end w holds h =
     let i = asked-known (analysed cells ss .numbers) l v kind h in
-    let e = kind-is kind (i .0 .kinds) in
-    let place : node (kindOf kind) (set l v) ≡ settingPlace kind l v = sym (set-node (kindOf kind) l v) ∙ ap (λ (n : ℕ). settingPlace n l v) e in
-    w (kindOf kind) cells ss e holds (rw (place, ← i .1) h)
+    w (kindOf kind) cells ss (kind-is kind (i .0 .kinds)) holds (rw (kind-node l v kind (i .0 .kinds), ← i .1) h)
 
 -- The number that was read is the one of the analysis.
 pub number-is : (library netlist numbers : List ℕ) (cells : List Cell) (ss : List Statement) → HoldsAnalysis library netlist numbers cells ss → (l v kind : ℕ)

@@ -1,7 +1,8 @@
 -- What is printed of two texts, from the promise of `write_plan` on tables of its own and a buffer of 65,536 bytes.
 -- Assumes nothing.
+use mathlib.Core.Bool.{true≢false}
 use mathlib.Core.List.{List}
-use mathlib.Core.Path.{_≡_, refl, ap, _∙_}
+use mathlib.Core.Path.{_≡_, refl, sym, ap, _∙_}
 use Prim.Native.Nat.{ℕ}
 use native.Mathlib.Omega.{arith}
 use lib.ListN.{length}
@@ -15,13 +16,14 @@ use Rattle.writer.proofs.Buffer.{writes-prints}
 use Rattle.outcome.specs.Outcome.{Given, Lent, Pair, entry, readPair, zeroed, givenTexts}
 use Rattle.outcome.specs.Own.{ownTables}
 use Rattle.outcome.proofs.Checking.{Checked, texts-checked}
+use Rattle.outcome.proofs.Entering.{own-fit}
 use Rattle.outcome.proofs.Fitting.{entry-number, pair-number}
-use Rattle.planning.specs.Promise.{planOutcome, planFilled, planLater, planFrom, planLeft, PlanPromised}
+use Rattle.planning.specs.Promise.{planOutcome, tablesFilled, planFilled, planLater, planFrom, planLeft, PlanPromised}
 use Rattle.planning.specs.Printed.{planPrinted, PlanPrinted}
 
 -- What is left in the text buffer, by what the call comes to alone.
 text-left : (g : Given) → Checked g → (m : Lent) (l v kind : ℕ) → planLeft g m l v kind .report ≡ leftBy (planOutcome g m l v kind) (m .report)
-unfolding planLeft planFrom planLater planFilled planOutcome leftBy zeroed pick _>>_ _>>=_
+unfolding planLeft planFrom planLater planFilled tablesFilled planOutcome leftBy zeroed pick _>>_ _>>=_
 text-left g checked m l v kind = from-entry (entry g m) refl
   where
     from-pair : entry g m ≡ read tt → (o : Read Pair) → readPair g ≡ o → planLeft g m l v kind .report ≡ leftBy (planOutcome g m l v kind) (m .report)
@@ -46,6 +48,15 @@ module _ (lib net before : List ℕ) (l v kind : ℕ) (mid : Lent) (w : Written)
 
   pub plan-printed : Size.reportBytes ≡ length (mid .report) → (after : List ℕ) (said : ℕ) → ShownBy (writtenRead w) (mid .report) after said
       → PlanPrinted lib net l v kind before after said
-  unfolding planPrinted ownTables
+  unfolding planPrinted ownTables ShownBy
   plan-printed long after said s =
-      rw (text-left (givenTexts lib net) (texts-checked lib net) (ownTables before) l v kind) (writes-prints (omega arith) long writes s)
+      record {
+        bytes =
+            rw (text-left (givenTexts lib net) (texts-checked lib net) (ownTables before) l v kind) (writes-prints (omega arith) long writes s);
+        tables = mid;
+        answer = writtenRead w;
+        promised = p;
+        shows = s;
+        seen = λ n q. let t = rw q at s in rw (t .0, t .1) (p .seen n q);
+        tableShort = λ line q. true≢false (sym (p .tableShort line q) ∙ own-fit before);
+      }

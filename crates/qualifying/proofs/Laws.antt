@@ -1,7 +1,7 @@
 -- What the answer says of the cells and statements that were read, and of every accepted analysis.
 -- Assumes nothing.
 use mathlib.Core.Bool.{Bool, true, false, _&&_}
-use mathlib.Core.List.{List, [], _∷_, _++_, List·Memᴰ, List·Memᴰ·head, List·Memᴰ·tail}
+use mathlib.Core.List.{List, [], _∷_, _++_, List·Memᴰ, List·Memᴰ·head, List·Memᴰ·tail, append-nil}
 use mathlib.Core.Logic.{_↔_}
 use mathlib.Core.Path.{_≡_, refl, sym, ap, subst, _∙_}
 use Prim.Native.Nat.{ℕ, _≤_}
@@ -19,9 +19,15 @@ use Rattle.netlist.specs.Gates.{gatesHeld}
 use Rattle.netlist.proofs.HeldGates.{gates-held}
 use Rattle.calculation.specs.Acceptance.{BothSound}
 use Rattle.calculation.specs.Ways.{noCell, cellOf}
+use Rattle.calculation.specs.Nodes.{combinational, set}
+use Rattle.calculation.specs.Prices.{pricesOf}
+use Rattle.calculation.specs.Calculation.{analysed}
+use Rattle.truth_tables.specs.Tables.{digit}
 use Rattle.truth_tables.specs.Generated.{Generated}
 use Rattle.behaviour.specs.Loops.{Loopless, NoneOpen, ReadOnce}
-use Rattle.behaviour.specs.Built.{Built, Qualifies}
+use Rattle.behaviour.specs.Built.{Built, Qualifies, tablesOf}
+use Rattle.behaviour.specs.Never.{ccNumber, NeverMeans}
+use Rattle.behaviour.proofs.Laws.{never-stands}
 use Rattle.generated_cells.specs.Words.{generatedAt, tableAt}
 use Rattle.generated_cells.proofs.Laws.{generated-told, generated-tells}
 use Rattle.loops.specs.Settling.{withoutLoops, readOnce}
@@ -29,39 +35,51 @@ use Rattle.loops.proofs.Laws.{without-loops, read-once}
 use Rattle.calculation.specs.Stored.{Holds}
 use Rattle.outcome.specs.declared.Summary.{Summary}
 use Rattle.outcome.specs.Outcome.{Given, Lent, givenTexts}
-use Rattle.outcome.specs.Demands.{PairRead, Promised}
+use Rattle.outcome.specs.Demands.{PairRead, NumbersStand, Promised}
 use Rattle.outcome.proofs.Checking.{Checked, texts-checked}
 use Rattle.outcome.proofs.Held.{accepted-held}
-use Rattle.qualifying.specs.Qualifying.{allGenerated, qualifying, Says}
+use Rattle.outcome.proofs.Numbers.{numbers-stand}
+use Rattle.qualifying.specs.Qualifying.{allGenerated, qualifying, Says, Qualified}
 
 -- ---- the three answers together
 
-module _ (cells : List Cell) (ss : List Statement) where
+module _ (cells : List Cell) (ss : List Statement) (sound : BothSound cells ss) where
+  numbers : NumbersStand cells ss (analysed cells ss .numbers)
+  numbers = numbers-stand sound (analysed cells ss .numbers) [] (sym (append-nil (analysed cells ss .numbers)))
+
+  -- K8's theorems, whichever truth tables its cells are generated from.
+  means : Qualifies cells ss → (b : Built cells ss) → NeverMeans ss (tablesOf (b .bits)) (analysed cells ss .numbers)
+  unfolding ccNumber
+  means q b =
+      never-stands cells ss sound (record { loopless = q .loopless; noneOpen = q .noneOpen; built = b }) (pricesOf ss) (analysed cells ss .numbers)
+      (λ l x h. numbers .exact combinational (set l (digit x)) h)
+
+  of-answer : (n : ℕ) → n ≤ 2 → (1 ≤ n) ↔ Qualifies cells ss → (n ≡ 2) ↔ (Qualifies cells ss × ReadOnce ss) → Says cells ss n
+  of-answer n few first both =
+      record {
+        most = few;
+        first = first;
+        both = both;
+        never = λ h. means (first .0 h);
+        exactly = λ h b. means (both .0 h .0) b .exactly (both .0 h .1);
+        stands = numbers;
+      }
+
   says : (w a r : Bool) → (w ≡ true) ↔ (Loopless ss × NoneOpen ss) → (a ≡ true) ↔ Built cells ss → (r ≡ true) ↔ ReadOnce ss
       → Says cells ss (pick (w && a) (pick r 2 1) 0)
   unfolding pick
   says true true true l b o =
       let q : Qualifies cells ss = record { loopless = l .0 refl .0; noneOpen = l .0 refl .1; built = b .0 refl } in
-      record { most = omega arith; first = (λ h. q, λ h. omega arith); both = (λ h. (q, o .0 refl), λ h. refl) }
+      of-answer 2 (omega arith) (λ h. q, λ h. omega arith) (λ h. (q, o .0 refl), λ h. refl)
   says true true false l b o =
       let q : Qualifies cells ss = record { loopless = l .0 refl .0; noneOpen = l .0 refl .1; built = b .0 refl } in
-      record {
-        most = omega arith;
-        first = (λ h. q, λ h. omega arith);
-        both = (λ h. absurd (omega (arith, h)), λ h. clash false (o .1 (h .1)) refl);
-      }
+      of-answer 1 (omega arith) (λ h. q, λ h. omega arith) (λ h. absurd (omega (arith, h)), λ h. clash false (o .1 (h .1)) refl)
   says true false r l b o =
-      record {
-        most = omega arith;
-        first = (λ h. absurd (omega (arith, h)), λ q. clash false (b .1 (q .built)) refl);
-        both = (λ h. absurd (omega (arith, h)), λ h. clash false (b .1 (h .0 .built)) refl);
-      }
+      of-answer 0 (omega arith) (λ h. absurd (omega (arith, h)), λ q. clash false (b .1 (q .built)) refl)
+      (λ h. absurd (omega (arith, h)), λ h. clash false (b .1 (h .0 .built)) refl)
   says false a r l b o =
-      record {
-        most = omega arith;
-        first = (λ h. absurd (omega (arith, h)), λ q. clash false (l .1 (q .loopless, q .noneOpen)) refl);
-        both = (λ h. absurd (omega (arith, h)), λ h. clash false (l .1 (h .0 .loopless, h .0 .noneOpen)) refl);
-      }
+      of-answer 0 (omega arith) (λ h. absurd (omega (arith, h)), λ q. clash false (l .1 (q .loopless, q .noneOpen)) refl)
+      (λ h. absurd (omega (arith, h)), λ h. clash false (l .1 (h .0 .loopless, h .0 .noneOpen)) refl)
 
 module _ (cells : List Cell) (ss : List Statement) (sound : BothSound cells ss) (rest : List ℕ) where
   abbrev library : List ℕ
@@ -99,8 +117,12 @@ qualifying-says {library} {netlist} {cells} {ss} h =
     let held : NetlistHolds netlist ss = record { past = h .past; words = h .statementsStand } in
     let gates : gatesHeld netlist ≡ gatesOf ss = ap gatesHeld (h .statementsStand) ∙ gates-held (h .sound .netlist) (h .past) (h .sound .library) in
     rw (gates, h .cellsStand)
-    (says cells ss (withoutLoops netlist) (allGenerated (libraryWords cells ++ h .behind) (gatesOf ss)) (readOnce netlist)
+    (says cells ss (h .sound) (withoutLoops netlist) (allGenerated (libraryWords cells ++ h .behind) (gatesOf ss)) (readOnce netlist)
     (without-loops (h .sound) held) (built cells ss (h .sound) (h .behind)) (read-once (h .sound) held))
+
+-- What the call promises follows from its answer.
+pub qualified : (library netlist : List ℕ) (n : ℕ) → n ≡ qualifying library netlist → Qualified library netlist n
+qualified library netlist n e = record { answers = e; says = λ cells ss h. rw e (qualifying-says h) }
 
 -- ---- for the reader: what stands behind the promise of every call that analyses
 

@@ -11,8 +11,12 @@ use Rattle.reading.specs.Choice.{pick}
 use Rattle.cell_library.specs.Cells.{Cell}
 use Rattle.netlist.specs.Netlist.{Gate, Statement}
 use Rattle.netlist.specs.Gates.{gatesHeld}
+use Rattle.calculation.specs.Calculation.{analysed}
+use Rattle.calculation.specs.Stored.{Holds}
+use Rattle.outcome.specs.Demands.{NumbersStand}
 use Rattle.behaviour.specs.Loops.{ReadOnce}
-use Rattle.behaviour.specs.Built.{Qualifies}
+use Rattle.behaviour.specs.Built.{Built, Qualifies, tablesOf}
+use Rattle.behaviour.specs.Never.{NeverMeans, NeverExactly}
 use Rattle.generated_cells.specs.Words.{generatedAt}
 use Rattle.loops.specs.Settling.{withoutLoops, readOnce}
 
@@ -26,13 +30,26 @@ unfoldable pub qualifying : List ℕ → List ℕ → ℕ
 qualifying library netlist =
     pick (withoutLoops netlist && allGenerated library (gatesHeld netlist)) (pick (readOnce netlist) 2 1) 0
 
--- What the answer says of the cells and statements that the tables hold.
+-- What the answer says of the cells and statements that the tables hold, and of the numbers of their analysis: `b` has the truth
+-- tables of the cells.
 pub record Says (cells : List Cell) (ss : List Statement) (said : ℕ) : Type 0 where
   pub most : said ≤ 2
-  -- "No setting of the inputs then gives a line a value whose CC number is never."
+  -- "a netlist without loops or open lines, built only of cells that K6 generates, constants among them"
   pub first : (1 ≤ said) ↔ Qualifies cells ss
-  -- "If besides each line is read by at most one pin, never stands exactly when no setting does."
+  -- "If besides each line is read by at most one pin"
   pub both : (said ≡ 2) ↔ (Qualifies cells ss × ReadOnce ss)
+  -- "No setting of the inputs then gives a line a value whose CC number is never."
+  pub never : 1 ≤ said → (b : Built cells ss) → NeverMeans ss (tablesOf (b .bits)) (analysed cells ss .numbers)
+  -- "never stands exactly when no setting does."
+  pub exactly : said ≡ 2 → (b : Built cells ss) → NeverExactly ss (tablesOf (b .bits)) (analysed cells ss .numbers)
+  -- Demands 2 and 3 of these numbers: never stands there exactly when there is no plan.
+  pub stands : NumbersStand cells ss (analysed cells ss .numbers)
+
+-- What the call promises: its answer by equation with the tables, whatever stands there, and what it says of the cells and
+-- statements that they hold.
+pub record Qualified (library netlist : List ℕ) (said : ℕ) : Type 0 where
+  pub answers : said ≡ qualifying library netlist
+  pub says : (cells : List Cell) (ss : List Statement) → Holds library netlist cells ss → Says cells ss said
 
 -- ---- cells that were judged before
 

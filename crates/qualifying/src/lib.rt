@@ -1,6 +1,6 @@
 // Of which netlists document 02, K8, speaks: whether what never says of the plans it also says of the chip.
-// specs/Qualifying.antt has what is answered, by the tables that an analysis leaves; proofs/Laws.antt what that
-// says of the cells and statements that were read.
+// specs/Qualifying.antt has what is answered, by the tables that an analysis leaves, and K8's theorems of the cells and
+// statements that they hold.
 //
 // Open to others: `qualifies`. It has no condition.
 use generated_cells::is_generated;
@@ -13,7 +13,7 @@ use table::word;
 ghost use mathlib.Core.Path.{_≡_};
 ghost use Rattle.generated_cells.specs.Words.{generatedAt};
 ghost use Rattle.netlist.specs.Gates.{gatesHeld};
-ghost use Rattle.qualifying.specs.Qualifying.{allGenerated, qualifying, Known, Judged};
+ghost use Rattle.qualifying.specs.Qualifying.{allGenerated, Known, Judged, Qualified};
 
 // Whether a cell is generated; one that was found to be is not looked at again.
 fn judge(library: &[u32], cell: u32, known: &mut [u32]) -> bool
@@ -48,7 +48,7 @@ fn all_generated(library: &[u32], netlist: &[u32]) -> bool
 
 // 0 where K8 says nothing of the netlist, 1 where its first theorem holds of it, 2 where both do.
 pub fn qualifies(library: &[u32], netlist: &[u32]) -> u32
-    ensures { λ r. ⌜ r ≡ qualifying (now (library .entry)) (now (netlist .entry)) ⌝ }
+    ensures { λ r. ⌜ Qualified (now (library .entry)) (now (netlist .entry)) r ⌝ }
 {
     if !without_loops(netlist) {
         return 0;

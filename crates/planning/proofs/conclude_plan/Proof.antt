@@ -18,7 +18,7 @@ returns c cells ss h =
     let n = c .before .before .before .before .before in
     let a = began n .args in
     let same = n .asked-number .ensures ∙ number-is (a .library .now) (a .netlist .now) (a .numbers .now) cells ss h (a .line) (a .value) (a .kind) in
-    ends-over cells ss (a .line) (a .value) (a .kind) (a .text .now) _ _ (omega (arith, same, c .before .before .before .before .if1 .taken)) (c .before .before .refuse .ensures)
+    ends-over cells ss (a .line) (a .value) (a .kind) (a .text .now) _ _ (h .holds .sound) (omega (arith, same, c .before .before .before .before .if1 .taken)) (c .before .before .refuse .ensures)
 
 put-cheapest-requires : tie.Need-put-cheapest-requires
 put-cheapest-requires c κs =
@@ -44,7 +44,7 @@ returns-2 c cells ss h =
     let a = began n .args in
     let same = n .asked-number .ensures ∙ number-is (a .library .now) (a .netlist .now) (a .numbers .now) cells ss h (a .line) (a .value) (a .kind) in
     let small : askedNumber (analysed cells ss .numbers) (a .line) (a .value) (a .kind) ≤ most = omega (arith, same, p .before .before .if1 .left) in
-    ends-written cells ss (a .line) (a .value) (a .kind) (a .text .now) _ _ small _ (p .put-cheapest .result)
+    ends-written cells ss (a .line) (a .value) (a .kind) (a .text .now) _ _ (h .holds .sound) small _ (p .put-cheapest .result)
     (plan-put cells ss (a .line) (a .value) (a .kind) (a .library .now) (a .netlist .now) (a .text .now) _ _ (p .put-cheapest .ensures) (h .holds) small)
     (q .close .ensures)
 

@@ -45,7 +45,7 @@ returns-3 : tie.Need-returns-3
 returns-3 c =
     let k = reads (c .before .before .before .before .before) in
     let a = begins k .args in
-    qualifies-accepted (now (a .lib)) (now (a .net)) _ _ (k .read-texts .result) (k .read-texts .ensures) (search needs) (c .qualifies .result) (c .qualifies .ensures)
+    qualifies-accepted (now (a .lib)) (now (a .net)) _ _ (k .read-texts .result) (k .read-texts .ensures) (search needs) (c .qualifies .result) (c .qualifies .ensures .answers)
 
 pub scoap-qualifies-spec : {M : Type 1} → statement M
 scoap-qualifies-spec =
