@@ -2,13 +2,17 @@
  * Goldstein's six numbers for every line of a netlist, for callers in C and C++.
  *
  * Link target/staticlib/libscoap_c.a, which 'rt staticlib scoap_c' builds. No call takes anything from the heap,
- * and each but scoap_plan takes less than SCOAP_STACK bytes of stack.
+ * and each but scoap_plan takes less than SCOAP_STACK bytes of stack. Nothing is kept from call to call, so that calls
+ * may be made from several threads at once, as long as none writes what another reads or writes.
  */
 #ifndef SCOAP_H
 #define SCOAP_H
 
 #include <stddef.h>
 #include <stdint.h>
+
+/* The version of the header and of what was installed with it. */
+#define SCOAP_VERSION "0.1.0"
 
 #ifdef __cplusplus
 extern "C" {

@@ -340,6 +340,16 @@ pub mod tests {
         );
     }
 
+    /// The registers that examples/built_in has by hand are those of the rule.
+    #[test]
+    fn registers_of_the_example() {
+        let library = include_str!("../../examples/built_in/lib.txt");
+        for (title, name) in [("$_DFF_P_", "DFF"), ("$_DFF_NP0_", "DFFR"), ("$_DLATCH_P_", "LATCH")] {
+            let Kind::Register(register) = yosys(title).unwrap().unwrap().kind else { panic!() };
+            assert!(library.contains(&register.entry().text(name)), "{name}");
+        }
+    }
+
     #[test]
     fn scan_register() {
         // D SE SI CK RN

@@ -18,6 +18,7 @@ mod c {
             entry: *mut u8,
             entry_len: usize,
         ) -> u64;
+        pub fn scoap_built_in(text: *mut u8, text_len: usize) -> u64;
         pub fn scoap_qualifies(
             lib: *const u8,
             lib_len: usize,
@@ -125,6 +126,11 @@ pub fn scoap_report(lib: &[u8], net: &[u8], report: &mut [u8]) -> u64 {
 pub fn scoap_cell(line: &[u8], entry: &mut [u8]) -> u64 {
     // Each slice is valid for its length, and the two do not overlap.
     unsafe { c::scoap_cell(line.as_ptr(), line.len(), entry.as_mut_ptr(), entry.len()) }
+}
+
+pub fn scoap_built_in(text: &mut [u8]) -> u64 {
+    // The slice is valid for its length.
+    unsafe { c::scoap_built_in(text.as_mut_ptr(), text.len()) }
 }
 
 pub fn scoap_plan(

@@ -118,9 +118,40 @@ pub fn cell(text: &[u8]) -> Result<String, Refusal> {
     Ok(entry(&String::from_utf8_lossy(title), pins, &output))
 }
 
+/// The built-in library: AND2 to AND4, then likewise NAND, OR, NOR, XOR and XNOR, and last NOT.
+pub fn built_in() -> String {
+    let kinds: [(&str, fn(u32, u32) -> bool); 6] = [
+        ("AND", |ones, pins| ones == pins),
+        ("NAND", |ones, pins| ones != pins),
+        ("OR", |ones, _| ones > 0),
+        ("NOR", |ones, _| ones == 0),
+        ("XOR", |ones, _| ones % 2 == 1),
+        ("XNOR", |ones, _| ones % 2 == 0),
+    ];
+    let mut text = String::new();
+    for (kind, output) in kinds {
+        for pins in 2..=4 {
+            let outputs = (0..1u32 << pins).map(|setting| output(setting.count_ones(), pins));
+            let outputs: Vec<bool> = outputs.collect();
+            text.push_str(&entry(&format!("{kind}{pins}"), pins, &outputs));
+        }
+    }
+    text.push_str(&entry("NOT", 1, &[true, false]));
+    text
+}
+
 /// The same with the effect on a lent buffer, in the form of the C entry.
+pub fn built_in_into(buffer: &mut [u8]) -> u64 {
+    text_into(Ok(built_in()), buffer)
+}
+
+/// The entry of a text of one line with the effect on a lent buffer, in the form of the C entry.
 pub fn cell_into(text: &[u8], buffer: &mut [u8]) -> u64 {
-    let made = cell(text).and_then(|entry| {
+    text_into(cell(text), buffer)
+}
+
+fn text_into(made: Result<String, Refusal>, buffer: &mut [u8]) -> u64 {
+    let made = made.and_then(|entry| {
         let fits = entry.len() <= buffer.len();
         fits.then_some(entry).ok_or(Refusal {
             number: REPORT_LONG,

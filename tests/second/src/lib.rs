@@ -14,6 +14,7 @@ pub mod damage;
 pub mod figures;
 pub mod generate;
 pub mod grow;
+pub mod kept;
 mod library;
 mod netlist;
 mod plan;

@@ -24,7 +24,7 @@ const ANALYSED: usize = 3;
 const CO: usize = 4;
 
 #[derive(Clone, Copy, Debug)]
-enum Call {
+pub enum Call {
     Advise,
     Rank,
 }
@@ -38,10 +38,16 @@ impl Call {
     }
 
     /// On both sides; `lending.read` is the list of forbidden lines.
-    fn check(self, all: &mut Comparison, label: &str, lending: &Lending) -> Said {
+    pub fn check(self, all: &mut Comparison, label: &str, lending: &Lending) -> Said {
         match self {
-            Call::Advise => all.check_numbers(label, lending, archive::scoap_advise, advise_into),
-            Call::Rank => all.check_numbers(label, lending, archive::scoap_rank, rank_into),
+            Call::Advise => all.keeping(
+                || lending.case("advise"),
+                |all| all.check_numbers(label, lending, archive::scoap_advise, advise_into),
+            ),
+            Call::Rank => all.keeping(
+                || lending.case("rank"),
+                |all| all.check_numbers(label, lending, archive::scoap_rank, rank_into),
+            ),
         }
     }
 }
@@ -252,7 +258,8 @@ impl Question {
     }
 }
 
-fn random(all: &mut Comparison, rng: &mut Random, tally: &mut Tally) {
+/// A random netlist with a list of forbidden lines.
+pub fn random(all: &mut Comparison, rng: &mut Random, tally: &mut Tally) {
     let question = Question::random(rng);
     note_netlist(tally, &question.made);
     let ranking = question.lending(Call::Rank);
@@ -416,10 +423,15 @@ fn fixed(all: &mut Comparison) {
     }
 }
 
+/// Counts what comes up in random netlists.
+pub fn tally() -> Tally {
+    Tally::of(&[&MET[..], &HAS[..]].concat())
+}
+
 /// All of it, and what must have come up in the random netlists.
 pub fn advice(all: &mut Comparison, rng: &mut Random) {
     fixed(all);
-    let mut tally = Tally::of(&[&MET[..], &HAS[..]].concat());
+    let mut tally = tally();
     let count = all.extent.count(NETLISTS);
     for _ in 0..count {
         random(all, rng, &mut tally);

@@ -9,6 +9,7 @@ use crate::numbered::{note_netlist, spoil, Lending, Said, Tally, HAS};
 use second::budget::{best_into, order, Value, BEST, BEST_LINE};
 use second::figures::*;
 use second::generate::{add_ranges, doubled, ladder, pair, Pair};
+use second::kept::Case;
 use second::random::Random;
 use second::refusal::TABLE_SHORT;
 use second::standing::{analysed, COSTS, STANDING, STANDING_NUMBERS};
@@ -90,13 +91,19 @@ fn changed(table: &[u32], larger: &[u32]) -> Option<String> {
         .map(|((value, ..), _)| format!("a larger budget changes {value:?}"))
 }
 
-fn check(all: &mut Comparison, label: &str, lending: &Lending, budget: u64) -> Said {
-    all.check_numbers(
-        label,
-        lending,
-        |lib, net, _, best| archive::scoap_best(lib, net, budget, best),
-        |lib, net, _, best| best_into(lib, net, budget, best),
-    )
+pub fn check(all: &mut Comparison, label: &str, lending: &Lending, budget: u64) -> Said {
+    let case = || Case {
+        words: vec![budget],
+        ..lending.case("best")
+    };
+    all.keeping(case, |all| {
+        all.check_numbers(
+            label,
+            lending,
+            |lib, net, _, best| archive::scoap_best(lib, net, budget, best),
+            |lib, net, _, best| best_into(lib, net, budget, best),
+        )
+    })
 }
 
 /// A netlist that is accepted at budgets that ascend, and what each answer must say.
@@ -173,7 +180,8 @@ fn random_netlist(rng: &mut Random) -> Pair {
     made
 }
 
-fn random(all: &mut Comparison, rng: &mut Random, tally: &mut Tally) {
+/// A random netlist at some budgets.
+pub fn random(all: &mut Comparison, rng: &mut Random, tally: &mut Tally) {
     let made = random_netlist(rng);
     note_netlist(tally, &made);
     let lending = Lending {
@@ -310,10 +318,15 @@ fn fixed(all: &mut Comparison) {
     }
 }
 
+/// Counts what comes up in random netlists.
+pub fn tally() -> Tally {
+    Tally::of(&[&MET[..], &HAS[..]].concat())
+}
+
 /// All of it, and what must have come up in the random netlists.
 pub fn budgets(all: &mut Comparison, rng: &mut Random) {
     fixed(all);
-    let mut tally = Tally::of(&[&MET[..], &HAS[..]].concat());
+    let mut tally = tally();
     let count = all.extent.count(NETLISTS);
     for _ in 0..count {
         random(all, rng, &mut tally);

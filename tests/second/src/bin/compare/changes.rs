@@ -7,7 +7,7 @@
 //! with the pads as outputs; its sweeps, where they went on, against a run by the scope paper's own rule.
 
 mod script;
-mod tally;
+pub mod tally;
 
 use crate::comparison::{answer_of, Comparison, ROOM};
 use crate::pads::calls::Lending;
@@ -55,7 +55,7 @@ fn random_pair(rng: &mut Random) -> Pair {
 }
 
 /// One random list.
-fn random_script(changes: &mut Changes, rng: &mut Random, other: &mut Vec<u32>) {
+pub fn random_script(changes: &mut Changes, rng: &mut Random, other: &mut Vec<u32>) {
     let made = random_pair(rng);
     let past = *rng.pick(&[0, 1, 40]);
     let table = (0..STANDING + past).map(|_| rng.next() as u32).collect();

@@ -3,6 +3,8 @@
 use crate::archive;
 use crate::extent::Extent;
 use crate::lent::{canary, Lent};
+use crate::watched::Watched;
+use second::kept::Case;
 use second::{analyse, plan_into, qualifies_code, report_into, Answer, Refusal, MOST_LINES};
 
 /// Every answer must come up at least so often among the random pairs.
@@ -18,6 +20,8 @@ pub const ANSWERS: [usize; 19] = [
     0, 2, 3, 4, 5, 6, 7, 8, 9, 10, 11, 12, 13, 14, 15, 17, 20, 21, 22,
 ];
 pub const HIGHEST: usize = 22;
+/// All refusal numbers, with 0 and the unused 16.
+pub const NUMBERS: usize = 25;
 
 /// What the reports of accepted pairs must have shown: at least so often in random pairs, and in
 /// ladders.
@@ -41,6 +45,12 @@ pub struct Comparison {
     pub plans: [u64; 2],
     /// Pairs of which K8 says nothing, its first sentence, both; and pairs that are refused.
     pub qualified: [u64; 4],
+    /// By refusal number, 0 for acceptance, over all calls of the run.
+    pub met: [u64; NUMBERS],
+    /// What the compared calls had, where that is counted.
+    pub watched: Option<Watched>,
+    /// Calls that this run has kept.
+    pub kept: usize,
     pub turn: usize,
     pub extent: Extent,
 }
@@ -66,8 +76,19 @@ impl Comparison {
             shown: [0; SHOWN.len()],
             plans: [0; 2],
             qualified: [0; 4],
+            met: [0; NUMBERS],
+            watched: None,
+            kept: 0,
             turn: 0,
             extent,
+        }
+    }
+
+    /// Counts a call's answer.
+    pub fn answered(&mut self, answer: u64) {
+        let number = (answer / 1_000_000) as usize;
+        if let Some(count) = self.met.get_mut(number) {
+            *count += 1;
         }
     }
 
@@ -108,6 +129,18 @@ impl Comparison {
     /// Lends both sides the same texts and a buffer of `room` bytes. `known` is the answer that the
     /// case was made for, where there is one.
     pub fn check(&mut self, label: &str, lib: &[u8], net: &[u8], room: usize, known: Option<u64>) {
+        let case = || Case::of("report", [lib, net], room);
+        self.keeping(case, |all| all.compare_report(label, lib, net, room, known));
+    }
+
+    fn compare_report(
+        &mut self,
+        label: &str,
+        lib: &[u8],
+        net: &[u8],
+        room: usize,
+        known: Option<u64>,
+    ) {
         self.turn += 1;
         let salt = self.turn as u8;
         let shift = self.turn % 8;
@@ -125,6 +158,8 @@ impl Comparison {
         let texts = [lent_lib.all.clone(), lent_net.all.clone()];
         let answer = archive::scoap_report(lent_lib.inner(), lent_net.inner(), got.inner_mut());
 
+        self.answered(answer);
+        self.watch(lib, net, answer == room as u64, false, false);
         self.answers[if answer < 1_000_000 {
             0
         } else {
@@ -173,7 +208,14 @@ impl Comparison {
 
     /// Of which netlists K8 speaks, by both sides.
     pub fn check_qualifies(&mut self, label: &str, lib: &[u8], net: &[u8]) -> u64 {
+        let case = || Case::of("qualifies", [lib, net], 0);
+        self.keeping(case, |all| all.compare_qualifies(label, lib, net))
+    }
+
+    fn compare_qualifies(&mut self, label: &str, lib: &[u8], net: &[u8]) -> u64 {
         let answer = archive::scoap_qualifies(lib, net);
+        self.answered(answer);
+        self.watch(lib, net, false, false, false);
         let expected = qualifies_code(lib, net);
         self.qualified[answer.min(3) as usize] += 1;
         let problem = (answer != expected).then(|| {
@@ -185,7 +227,21 @@ impl Comparison {
     }
 
     /// Lends both sides the same texts and a buffer of `room` bytes for a plan's text.
-    fn check_plan(&mut self, label: &str, pair: [&[u8]; 2], asked: [u64; 3], room: usize) -> u64 {
+    pub fn check_plan(
+        &mut self,
+        label: &str,
+        pair: [&[u8]; 2],
+        asked: [u64; 3],
+        room: usize,
+    ) -> u64 {
+        let case = || Case {
+            words: asked.to_vec(),
+            ..Case::of("plan", pair, room)
+        };
+        self.keeping(case, |all| all.compare_plan(label, pair, asked, room))
+    }
+
+    fn compare_plan(&mut self, label: &str, pair: [&[u8]; 2], asked: [u64; 3], room: usize) -> u64 {
         self.turn += 1;
         let salt = self.turn as u8;
         let [lib, net] = pair;
@@ -194,6 +250,8 @@ impl Comparison {
         let mut wanted = got.clone();
         let expected = plan_into(lib, net, line, value, kind, wanted.inner_mut());
         let answer = archive::scoap_plan(lib, net, line, value, kind, got.inner_mut());
+        self.answered(answer);
+        self.watch(lib, net, answer == room as u64, false, false);
         let problem = if answer != expected {
             Some(format!(
                 "plan of {asked:?}, {room} bytes: {} instead of {}",

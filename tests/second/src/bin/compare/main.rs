@@ -8,7 +8,8 @@
 //! Every entry of every lent slice is compared, canaries stand before and past it and around the
 //! texts. The last line counts: 'N passed, M failed'.
 //!
-//!     compare [SEED [PAIRS]]    another seed; another count of random pairs, and of the rest in proportion
+//!     compare [SEED [PAIRS]]          another seed; another count of random pairs, and of the rest in proportion
+//!     compare --fuzz SECONDS [SEED]   random calls alone, for so many seconds
 
 mod advice;
 #[path = "../../archive.rs"]
@@ -19,6 +20,8 @@ mod chips;
 mod comparison;
 mod extent;
 mod fixed;
+mod fuzz;
+mod kept;
 mod lent;
 mod numbered;
 mod pads;
@@ -26,6 +29,7 @@ mod pairs;
 mod plans;
 mod ranges;
 mod tables;
+mod watched;
 
 use comparison::Comparison;
 use extent::Extent;
@@ -33,13 +37,35 @@ use std::process::ExitCode;
 
 fn main() -> ExitCode {
     let words: Vec<String> = std::env::args().skip(1).collect();
-    let Some(extent) = Extent::of(&words) else {
-        eprintln!("usage: compare [SEED [PAIRS]]");
+    let asked = match &words[..] {
+        [word, seconds, seed @ ..] if word == "--fuzz" && seed.len() < 2 => seconds
+            .parse()
+            .ok()
+            .and_then(|seconds: u64| Some((Extent::of(seed)?, Some(seconds)))),
+        _ => Extent::of(&words).map(|extent| (extent, None)),
+    };
+    let Some((extent, seconds)) = asked else {
+        eprintln!("usage: compare [SEED [PAIRS]]\n       compare --fuzz SECONDS [SEED]");
         return ExitCode::FAILURE;
     };
     println!("seed {:#x}", extent.seed);
+    let all = match seconds {
+        Some(seconds) => fuzz::fuzz(seconds, extent),
+        None => whole(extent),
+    };
+    println!("{} passed, {} failed", all.passed, all.failed);
+    if all.failed == 0 {
+        ExitCode::SUCCESS
+    } else {
+        ExitCode::FAILURE
+    }
+}
+
+/// Every part in turn.
+fn whole(extent: Extent) -> Comparison {
     let mut rng = extent.random();
     let mut all = Comparison::of(extent);
+    kept::kept(&mut all);
     fixed::figures(&mut all);
     fixed::one_byte(&mut all);
     fixed::largest(&mut all, &mut rng);
@@ -68,10 +94,5 @@ fn main() -> ExitCode {
         let mut own = all.extent.random();
         part(&mut all, &mut own);
     }
-    println!("{} passed, {} failed", all.passed, all.failed);
-    if all.failed == 0 {
-        ExitCode::SUCCESS
-    } else {
-        ExitCode::FAILURE
-    }
+    all
 }

@@ -4,6 +4,7 @@ use crate::comparison::{answer_of, Comparison};
 use crate::lent::{canary, differ, Lent};
 use second::damage::{any_damage, overlong, scramble};
 use second::generate::Pair;
+use second::kept::Case;
 use second::random::Random;
 use second::refusal::{TABLE_SHORT, TEXT_LONG};
 
@@ -14,6 +15,16 @@ pub struct Lending {
     pub net: Vec<u8>,
     pub read: Vec<u32>,
     pub room: usize,
+}
+
+impl Lending {
+    /// A call over it, as it is kept.
+    pub fn case(&self, call: &str) -> Case {
+        Case {
+            numbers: self.read.clone(),
+            ..Case::of(call, [&self.lib, &self.net], self.room)
+        }
+    }
 }
 
 /// What the archive said, and the numbers after it.
@@ -92,6 +103,8 @@ impl Comparison {
         let mut wanted = got.clone();
         let expected = wanted.call(second);
         let answer = got.call(proved);
+        self.answered(answer);
+        self.watch(&lending.lib, &lending.net, false, false, false);
         let problem = if answer != expected {
             let (is, should) = (answer_of(answer), answer_of(expected));
             Some(format!("{is} instead of {should}"))

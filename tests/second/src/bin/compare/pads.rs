@@ -26,7 +26,7 @@ const LISTS: usize = 1_600;
 const STEPS: usize = 14;
 
 /// One random list.
-fn random_list(lists: &mut Lists, rng: &mut Random, other: &mut Vec<u32>) {
+pub fn random_list(lists: &mut Lists, rng: &mut Random, other: &mut Vec<u32>) {
     let gates = match rng.below(200) {
         0..=119 => 8,
         120..=179 => 40,

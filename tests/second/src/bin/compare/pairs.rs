@@ -11,7 +11,7 @@ use second::{analyse, Answer, Refusal, MOST_BYTES};
 const LADDERS: usize = 2_400;
 
 /// One random pair: of good form, damaged at a chosen place, or scrambled.
-fn random(all: &mut Comparison, rng: &mut Random) {
+pub fn random(all: &mut Comparison, rng: &mut Random) {
     let gates = match rng.below(200) {
         0..=119 => 8,
         120..=179 => 40,
@@ -122,23 +122,29 @@ fn random(all: &mut Comparison, rng: &mut Random) {
 pub fn ladders(all: &mut Comparison, rng: &mut Random) {
     let mut sizes = all.extent.random();
     let count = all.extent.count(LADDERS);
-    let mut check = |gates: usize| {
-        let made = ladder(rng, gates);
-        let (lib, net) = (made.lib.bytes(), made.net.bytes());
-        all.check("ladder", &lib, &net, ROOM, None);
-    };
     for gates in [63, 64, 65, 127, 128, 129, 960, 961, 998, 999, 999, 999] {
         for _ in 0..4 {
-            check(gates);
+            ladder_of(all, rng, gates);
         }
     }
     for _ in 0..count {
-        check(match sizes.below(200) {
-            0..=159 => sizes.within(1, 40),
-            160..=197 => sizes.within(41, 200),
-            _ => sizes.within(201, 999),
-        });
+        ladder_of(all, rng, any_size(&mut sizes));
     }
+}
+
+/// Of any size, most of them small.
+pub fn any_size(sizes: &mut Random) -> usize {
+    match sizes.below(200) {
+        0..=159 => sizes.within(1, 40),
+        160..=197 => sizes.within(41, 200),
+        _ => sizes.within(201, 999),
+    }
+}
+
+pub fn ladder_of(all: &mut Comparison, rng: &mut Random, gates: usize) {
+    let made = ladder(rng, gates);
+    let (lib, net) = (made.lib.bytes(), made.net.bytes());
+    all.check("ladder", &lib, &net, ROOM, None);
 }
 
 /// All random pairs, and the answers and reports that must have come up among them.

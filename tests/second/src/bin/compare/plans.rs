@@ -9,7 +9,7 @@ use second::random::Random;
 const PLAN_PAIRS: usize = 300;
 
 /// The largest line number of a netlist, at most 40.
-fn most_line(net: &[u8]) -> u64 {
+pub fn most_line(net: &[u8]) -> u64 {
     net.split(|b| !b.is_ascii_digit())
         .filter_map(|part| std::str::from_utf8(part).ok()?.parse().ok())
         .filter(|&line: &u64| line <= 40)

@@ -10,36 +10,50 @@ use second::random::Random;
 const RANGED: usize = 2_400;
 const PRICINGS: usize = 3;
 
-/// Netlists with ranges: both reports, and those at prices within the ranges, which the archive tells of ranges
+/// How many had two reports, two that differ, and a number that is never.
+#[derive(Default)]
+pub struct Shown {
+    two: u64,
+    apart: u64,
+    nevers: u64,
+}
+
+/// One netlist with ranges: both reports, and those at prices within the ranges, which the archive tells of ranges
 /// whose bounds are the same.
-pub fn ranges(all: &mut Comparison, rng: &mut Random) {
-    let (mut two, mut apart, mut nevers) = (0, 0, 0);
-    for turn in 0..all.extent.count(RANGED) {
-        let mut made = if turn % 3 == 0 {
-            ladder(rng, 1 + turn % 60)
-        } else {
-            pair(rng, 1 + turn % 60)
+pub fn random(all: &mut Comparison, rng: &mut Random, turn: usize, shown: &mut Shown) {
+    let mut made = if turn % 3 == 0 {
+        ladder(rng, 1 + turn % 60)
+    } else {
+        pair(rng, 1 + turn % 60)
+    };
+    add_ranges(rng, &mut made);
+    let (lib, net) = (made.lib.bytes(), made.net.bytes());
+    let whole = reports(all, &lib, &net);
+    all.check_rooms("ranges", &lib, &net);
+    let Some([low, high]) = parts(&whole) else {
+        return;
+    };
+    shown.two += 1;
+    shown.apart += u64::from(low != high);
+    shown.nevers += u64::from(low.windows(5).any(|part| part == b"never"));
+    for _ in 0..PRICINGS {
+        let some = at_some_prices(rng, &made);
+        let whole = reports(all, &some.lib.bytes(), &some.net.bytes());
+        let problem = match parts(&whole) {
+            Some([first, second]) if first == second => between([low, first, high]),
+            _ => Some("the same prices do not give the same report twice".to_string()),
         };
-        add_ranges(rng, &mut made);
-        let (lib, net) = (made.lib.bytes(), made.net.bytes());
-        let whole = reports(all, &lib, &net);
-        all.check_rooms("ranges", &lib, &net);
-        let Some([low, high]) = parts(&whole) else {
-            continue;
-        };
-        two += 1;
-        apart += u64::from(low != high);
-        nevers += u64::from(low.windows(5).any(|part| part == b"never"));
-        for _ in 0..PRICINGS {
-            let some = at_some_prices(rng, &made);
-            let whole = reports(all, &some.lib.bytes(), &some.net.bytes());
-            let problem = match parts(&whole) {
-                Some([first, second]) if first == second => between([low, first, high]),
-                _ => Some("the same prices do not give the same report twice".to_string()),
-            };
-            all.verdict("prices within the ranges", problem);
-        }
+        all.verdict("prices within the ranges", problem);
     }
+}
+
+/// All of them, and what must have come up.
+pub fn ranges(all: &mut Comparison, rng: &mut Random) {
+    let mut shown = Shown::default();
+    for turn in 0..all.extent.count(RANGED) {
+        random(all, rng, turn, &mut shown);
+    }
+    let Shown { two, apart, nevers } = shown;
     println!(
         "{} netlists with ranges, each at {PRICINGS} pricings within them",
         two

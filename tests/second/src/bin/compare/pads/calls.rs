@@ -3,6 +3,7 @@
 use crate::archive;
 use crate::lent::{canary, differ, Lent};
 use second::change::change_into;
+use second::kept::Case;
 use second::standing::{ask_into, commit_into, stand_into};
 
 /// Answers from here on are refusals.
@@ -79,6 +80,22 @@ impl Call {
             Call::Ask { .. } => 1,
             Call::Commit { .. } => 2,
             Call::Change => 3,
+        }
+    }
+
+    /// As it is kept.
+    pub fn case(self, lending: &Lending) -> Case {
+        let (words, room) = match self {
+            Call::Stand => (Vec::new(), lending.report),
+            Call::Ask { line } => (vec![line], lending.answer),
+            Call::Commit { line, count } => (vec![line, count], 0),
+            Call::Change => (Vec::new(), 0),
+        };
+        Case {
+            words,
+            new_lib: lending.new_lib.clone(),
+            numbers: lending.table.clone(),
+            ..Case::of(CALLS[self.index()], [&lending.lib, &lending.net], room)
         }
     }
 

@@ -94,34 +94,20 @@ impl<'a> Lists<'a> {
 
     /// One call on both sides.
     pub fn check(&mut self, label: &str, lending: &Lending, call: Call) -> Said {
-        self.all.turn += 1;
-        let mut got = Memory::of(lending, call, self.all.turn);
-        let mut wanted = got.clone();
-        let expected = call.second(&mut wanted);
-        let answer = call.proved(&mut got);
-        self.answers[call.index()][kind(answer)] += 1;
-        let problem = if answer != expected {
-            let (is, should) = (answer_of(answer), answer_of(expected));
-            Some(format!("{call:?}: {is} instead of {should}"))
-        } else {
-            got.differs(&wanted)
-                .map(|place| format!("{call:?}, {}: {place}", answer_of(answer)))
-        };
-        self.tell(label, lending, problem);
-        got.said(answer)
+        let answers = &mut self.answers;
+        self.all.keeping(
+            || call.case(lending),
+            |all| {
+                let said = all.check_call(label, lending, call);
+                answers[call.index()][kind(said.answer)] += 1;
+                said
+            },
+        )
     }
 
     /// A verdict with the texts behind it.
     pub fn tell(&mut self, label: &str, lending: &Lending, problem: Option<String>) {
-        let problem = problem.map(|problem| {
-            let cut =
-                |text: &[u8]| String::from_utf8_lossy(&text[..text.len().min(1_000)]).into_owned();
-            let head: Vec<u32> = lending.table.iter().copied().take(12).collect();
-            let (lib, net) = (cut(&lending.lib), cut(&lending.net));
-            let new_lib = cut(&lending.new_lib);
-            format!("{problem}\n  table {head:?}..\n  {lib:?}\n  {net:?}\n  {new_lib:?}")
-        });
-        self.all.verdict(label, problem);
+        self.all.verdict_standing(label, lending, problem);
     }
 
     /// An answer that the case was made for.
@@ -131,6 +117,44 @@ impl<'a> Lists<'a> {
             format!("{is} where {should} was meant")
         });
         self.all.verdict(label, problem);
+    }
+}
+
+impl Comparison {
+    /// One call on both sides.
+    fn check_call(&mut self, label: &str, lending: &Lending, call: Call) -> Said {
+        self.turn += 1;
+        let mut got = Memory::of(lending, call, self.turn);
+        let mut wanted = got.clone();
+        let expected = call.second(&mut wanted);
+        let answer = call.proved(&mut got);
+        self.answered(answer);
+        let accepted = answer < REFUSED;
+        let placed = accepted && matches!(call, Call::Commit { .. });
+        let changed = accepted && matches!(call, Call::Change);
+        self.watch(&lending.lib, &lending.net, false, placed, changed);
+        let problem = if answer != expected {
+            let (is, should) = (answer_of(answer), answer_of(expected));
+            Some(format!("{call:?}: {is} instead of {should}"))
+        } else {
+            got.differs(&wanted)
+                .map(|place| format!("{call:?}, {}: {place}", answer_of(answer)))
+        };
+        self.verdict_standing(label, lending, problem);
+        got.said(answer)
+    }
+
+    /// A verdict with the texts behind it.
+    fn verdict_standing(&mut self, label: &str, lending: &Lending, problem: Option<String>) {
+        let problem = problem.map(|problem| {
+            let cut =
+                |text: &[u8]| String::from_utf8_lossy(&text[..text.len().min(1_000)]).into_owned();
+            let head: Vec<u32> = lending.table.iter().copied().take(12).collect();
+            let (lib, net) = (cut(&lending.lib), cut(&lending.net));
+            let new_lib = cut(&lending.new_lib);
+            format!("{problem}\n  table {head:?}..\n  {lib:?}\n  {net:?}\n  {new_lib:?}")
+        });
+        self.verdict(label, problem);
     }
 }
 
