@@ -20,7 +20,7 @@ use Rattle.plans.proofs.Laws.{at-getD, least-bound}
 use Rattle.netlist.specs.Gates.{gateCell, gateLine, gateLines}
 use Rattle.netlist.proofs.HeldGates.{line-at}
 use Rattle.gates.specs.Tables.{readRow, groupColumns, gatePins, roleColumns, visitGroup, gateTied, gateVisit}
-use Rattle.gates.specs.Fits.{Gathered, GatherFits, GateFits, SumFits}
+use Rattle.gates.specs.Fits.{Gathered, GatherFits, GateFits, LeastFits}
 use Rattle.links.specs.Lines.{Highest, pinGate, pinLine, Chained}
 use Rattle.visits.proofs.Groups as Group
 use Rattle.queue.specs.Queue.{costAt, Queue, Put}
@@ -34,11 +34,8 @@ module _ (library netlist links numbers : List ℕ) (g e : ℕ) (fits : GateRead
   gate-fits : GateFits library netlist g
   gate-fits = fits .ready .tablesFit .gates g (fits .inside)
 
-  pub pins-few : pins ≤ Size.pins
-  pins-few = Group.lines-fit 0 (omega arith) library netlist g e gate-fits value lines pins group lines-are pins-are group-is .count
-
-  pub sum-fits : (costs : List ℕ) → length costs ≡ Size.columns → SumFits 0 library group costs
-  sum-fits = Group.sum-fits 0 (omega arith) library netlist g e gate-fits value lines pins group lines-are pins-are group-is
+  pub least-fits : (wired : Bool) (costs : List ℕ) → length costs ≡ Size.columns → LeastFits wired 0 library group pins costs
+  least-fits = Group.least-fits 0 (omega arith) library netlist g e gate-fits value lines pins group lines-are pins-are group-is
 
   pub gather-fits : (costs : List ℕ) → length costs ≡ Size.columns → GatherFits true 0 0 lines pins numbers costs
   gather-fits costs size =

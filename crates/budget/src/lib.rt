@@ -7,6 +7,7 @@
 // The values are the leaves of a queue (crate `queue`), each with what it is on offer for. A step takes the
 // front, and then asks the gates anew that read its line: crate `links` has them.
 use cost::NEVER;
+use cost::Spatial;
 use gates::cell_place;
 use gates::gather::column_costs;
 use gates::least_of;
@@ -19,7 +20,7 @@ use queue::front;
 use queue::put;
 use row_sums::kinds::COMBINATIONAL;
 use row_sums::kinds::wide;
-use row_sums::number_of;
+use row_sums::spatial_of;
 use starting::LOW;
 use starting::start;
 ghost use mathlib.Core.List.{List};
@@ -47,10 +48,10 @@ fn offer_of(
     numbers: &[u32; sizes::NUMBERS],
     gate: usize,
     value: usize,
-) -> u32
+) -> Spatial
     requires { ⌜ GateReady (now library) (now netlist) (now links) (now numbers) gate × (value ≤ 1) ⌝ }
     ensures { λ r.
-        ⌜ r ≡ gateOffer (now (library .entry)) (now (netlist .entry)) (now (numbers .entry)) gate
+        ⌜ r .0 ≡ gateOffer (now (library .entry)) (now (netlist .entry)) (now (numbers .entry)) gate
         value ⌝ }
 {
     let cell = cell_place(netlist, gate);
@@ -70,7 +71,7 @@ fn offer_of(
     let group = cell
         + sizes::GROUPS_AT
         + visit_group(SETTING, COMBINATIONAL, value) * sizes::GROUP_WORDS;
-    number_of(least_of(wired, COMBINATIONAL, library, group, &lines, pins, &costs))
+    spatial_of(least_of(wired, COMBINATIONAL, library, group, &lines, pins, &costs))
 }
 
 // The leaf of a gate's output at a value.
@@ -113,7 +114,7 @@ fn refresh_value(
         put(queue, leaf, NEVER);
     } else {
         let offer = offer_of(library, netlist, links, numbers, gate, value);
-        put(queue, leaf, offer);
+        put(queue, leaf, offer.0);
     }
 }
 

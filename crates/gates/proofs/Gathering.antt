@@ -142,11 +142,11 @@ group-wider {library} {group} {count} few f =
     }
 
 -- A row is read as columns that it has.
-pub read-narrow : (wired : Bool) (lines : List ℕ) (pins count : ℕ) → 2 * pins ≤ count → (c x : ℕ) → c < 2 ^ count → readRow wired lines pins c ≡ some x → x < 2 ^ count
+pub read-narrow : (wired : Bool) (lines : List ℕ) (pins count : ℕ) → count ≤ 32 → (c x : ℕ) → c < 2 ^ count → readRow wired lines pins c ≡ some x → x < 2 ^ count
 unfolding readRow pick
 read-narrow true lines pins count few c x h e = side (bothColumns lines pins c) e
   where
     side : (b : Bool) → pick b none (some (onceColumns lines pins c)) ≡ some x → x < 2 ^ count
     side true q = let z : _≡_ {A = ℕ} 0 1 = cc in absurd (omega arith)
-    side false q = let z : onceColumns lines pins c ≡ x = cc in omega (arith, z, once-few lines pins c, pow-mono few)
+    side false q = let z : onceColumns lines pins c ≡ x = cc in rw z at (once-few lines pins c count few h)
 read-narrow false lines pins count few c x h e = let z : c ≡ x = cc in rw z at h

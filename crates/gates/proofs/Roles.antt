@@ -10,6 +10,8 @@ use borrow.Author.Tests.{eq-eqb, ne-eqb}
 use Rattle.sizes.specs.Sizes as Size
 use Rattle.sizes.specs.Places.{settingPlace, observingPlace}
 use Rattle.reading.specs.Choice.{pick}
+use Rattle.row_sums.specs.Sums.{placeKind}
+use Rattle.row_sums.proofs.Sums.{setting-kind, observing-kind}
 use Rattle.gates.specs.Tables.{byRole, visitCount, visitGroup, visitPlace}
 use Rattle.gates.specs.Fits.{LinesFit}
 
@@ -48,3 +50,11 @@ module _ (role kind : ℕ) (lines : List ℕ) (pins i : ℕ) (kinds : kind ≤ 1
       by-role
       (λ h l. rw (role-set role own read h) (omega (arith, fit .least 0 (omega arith), fit .most 0 (omega arith))))
       (λ h l. rw (role-observed role own read h) (omega (arith, fit .least (i + 1) (omega arith), fit .most (i + 1) (omega arith))))
+
+  pub place-kind : placeKind (visitPlace role kind lines i) ≡ kind
+  place-kind =
+      let own = settingPlace kind (getD lines 0 0) i in
+      let read = observingPlace kind (getD lines (i + 1) 0) in
+      by-role
+      (λ h l. rw (role-set role own read h) (setting-kind kind (getD lines 0 0) i kinds (omega arith)))
+      (λ h l. rw (role-observed role own read h) (observing-kind kind (getD lines (i + 1) 0) kinds))

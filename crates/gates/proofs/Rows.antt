@@ -46,10 +46,11 @@ module _ (kind : ℕ) (lines : List ℕ) (pins : ℕ) where
 
 -- ---- the sum of one row, or never
 
-pub row-told : (costs : List ℕ) (depth : ℕ) (row : Option ℕ) {kind number : ℕ} {best sum : Sum}
-    → Summed kind never best → Summed (sumKind best) (lesserRow costs depth row (sumNumber best)) sum → number ≡ sumNumber sum
-    → number ≡ lesserRow costs depth row never
-row-told costs depth row n s e = e ∙ s .comesTo ∙ ap (lesserRow costs depth row) (n .comesTo)
+pub row-told : (costs : List ℕ) (depth : ℕ) (row : Option ℕ) {kind : ℕ} {best sum : Sum}
+    → Summed kind never best → Summed (sumKind best) (lesserRow costs depth row (sumNumber best)) sum
+    → Summed kind (lesserRow costs depth row never) sum
+row-told costs depth row n s =
+    record { ofKind = s .ofKind ∙ n .ofKind; comesTo = s .comesTo ∙ ap (lesserRow costs depth row) (n .comesTo) }
 
 -- ---- the least row sum, the rows taken from the last to the first
 
@@ -109,5 +110,5 @@ module _ (read : ℕ → Option ℕ) (library costs : List ℕ) (group : ℕ) wh
       )
 
   pub summed-all : {kind row : ℕ} {best : Sum} → row ≤ 0 → SummedFrom kind row best
-      → sumNumber best ≡ least costs (groupColumns read library group)
-  summed-all {row = row} h s = s .1 .comesTo ∙ rows-all row h
+      → Summed kind (least costs (groupColumns read library group)) best
+  summed-all {row = row} h s = record { ofKind = s .1 .ofKind; comesTo = s .1 .comesTo ∙ rows-all row h }

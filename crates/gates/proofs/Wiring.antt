@@ -53,6 +53,9 @@ module _ (k : Kind) (g : Gate) (c : Cell) (few : c .pins ≤ Size.pins) (r : Row
   plainly ns e ws = rw e
 
   module _ (stands : places x ≡ needs k g (named n (settingColumns n) x)) (within : x < 2 ^ (2 * n)) where
+    most : 2 * n ≤ 32
+    most = omega (arith, few)
+
     abbrev names : List Column
     names = named n (settingColumns n) x
 
@@ -63,12 +66,12 @@ module _ (k : Kind) (g : Gate) (c : Cell) (few : c .pins ≤ Size.pins) (r : Row
     setting-read true false p q ws = plainly (needs k g names) stands ws
     setting-read false false p q ws = plainly (needs k g names) stands ws
     setting-read false true p q ws =
-        rw (needs-untied g n lines pins-read x p (q refl), once-untied g n lines pins-read x p (q refl)) (plainly (needs k g names) stands ws)
-    setting-read true true p q ws = rw (← both-columns g n lines pins-read x) (side (bothColumns lines n x))
+        rw (needs-untied g n lines pins-read x most within p (q refl), once-untied g n lines pins-read x most within p (q refl)) (plainly (needs k g names) stands ws)
+    setting-read true true p q ws = rw (← both-columns g n lines pins-read x most within) (side (bothColumns lines n x))
       where
         once-stands : places (onceColumns lines n x) ≡ needs k g (once g [] names)
         once-stands =
-            setting-places k g n few (onceColumns lines n x) (once-few lines n x) ∙ ap (needs k g) (once-columns g n lines pins-read x)
+            setting-places k g n few (onceColumns lines n x) (once-few lines n x (2 * n) most within) ∙ ap (needs k g) (once-columns g n lines pins-read x most within)
 
         side : (b : Bool)
             → withWay (r .depth) places (pick b none (some (onceColumns lines n x))) ws
@@ -119,14 +122,14 @@ module _ (g : Gate) (c : Cell) (e : ℕ) (few : c .pins ≤ Size.pins) (r : Row)
 
   pub asking-few : (b : Bool) → asking b < 2 ^ (2 * c .pins)
   unfolding pick
-  asking-few true = once-few (gateLineWords g) (c .pins) (r .columns)
+  asking-few true = once-few (gateLineWords g) (c .pins) (r .columns) (2 * c .pins) (omega (arith, few)) within
   asking-few false = within
 
   asking-by : (s w : Bool) → sharesLine (gateLineWords g) (c .pins) ≡ s → (w ≡ true → bothValues (c .pins) (c .pins) (r .columns) ≡ false)
       → named (c .pins) (settingColumns (c .pins)) (asking (s && w)) ≡ pick w (once g [] all) all
   unfolding pick
-  asking-by true true p q = once-columns g (c .pins) (gateLineWords g) (pins-read combinational g c few r) (r .columns)
-  asking-by false true p q = sym (once-untied g (c .pins) (gateLineWords g) (pins-read combinational g c few r) (r .columns) p (q refl))
+  asking-by true true p q = once-columns g (c .pins) (gateLineWords g) (pins-read combinational g c few r) (r .columns) (omega (arith, few)) within
+  asking-by false true p q = sym (once-untied g (c .pins) (gateLineWords g) (pins-read combinational g c few r) (r .columns) (omega (arith, few)) within p (q refl))
   asking-by true false p q = refl
   asking-by false false p q = refl
 

@@ -1,7 +1,7 @@
 -- What the inner functions ask of the tables: that every place which they read or write is there. `calculate` shows it once,
 -- from accepted cells and statements, and no loop tests it.
 -- Assumes nothing.
-use mathlib.Core.Bool.{Bool, false}
+use mathlib.Core.Bool.{Bool, true, false}
 use mathlib.Core.List.{List}
 use mathlib.Core.Path.{_≡_}
 use Prim.Native.Nat.{ℕ, _+_, _*_, _^_, _≤_, _<_}
@@ -56,6 +56,17 @@ pub record SumFits (kind : ℕ) (library : List ℕ) (group : ℕ) (costs : List
   pub kindFits : kind ≤ 1
   pub groupFits : GroupFits library group Size.columns
   pub size : length costs ≡ Size.columns
+
+-- A row of a gate with so many pins. Where it is read as one of one wire, it names columns of the pins alone.
+pub record ReadFits (wired : Bool) (pins columns : ℕ) : Type 0 where
+  pub few : pins ≤ Size.pins
+  pub within : wired ≡ true → columns < 2 ^ (2 * pins)
+
+-- The rows of a group of such a gate, over the costs of its columns, of a kind.
+pub record LeastFits (wired : Bool) (kind : ℕ) (library : List ℕ) (group pins : ℕ) (costs : List ℕ) : Type 0 where
+  pub few : pins ≤ Size.pins
+  pub sumFits : SumFits kind library group costs
+  pub within : wired ≡ true → GroupFits library group (2 * pins)
 
 pub record GateFits (library netlist : List ℕ) (g : ℕ) : Type 0 where
   pub room : gatePlace g + Size.gateWords ≤ length netlist

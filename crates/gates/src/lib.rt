@@ -2,7 +2,7 @@
 // the least row sum of a group. Its cell and its lines are read by module `gates` of crate `netlist`.
 //
 // For the crates above, each with what it asks of the tables (specs/Fits.antt), since the loop of the
-// sweeps tests no bounds: `least_of`, `is_way`, `read_number`, `cell_place`, and modules `gather` and
+// sweeps tests no bounds: `least_of`, `is_way`, `read_sum`, `cell_place`, and modules `gather` and
 // `visits`.
 //
 // Rows are added up in crate `row_sums`. Here all goes by the kind's number, 0 combinational and 1
@@ -18,11 +18,9 @@ use row_sums::Sum;
 use row_sums::kinds::wide;
 use row_sums::lesser_row;
 use row_sums::no_sum;
-use row_sums::number_of;
 use wires::needs_both;
 use wires::once;
 ghost use mathlib.Core.Bool.{true};
-ghost use mathlib.Core.Option.{some};
 ghost use mathlib.Core.Path.{_≡_};
 ghost use Prim.Native.Nat.{_≤_, _<_};
 ghost use lib.ListN.{length};
@@ -33,25 +31,10 @@ ghost use Rattle.plans.specs.Sweep.{least};
 ghost use Rattle.row_sums.specs.Columns.{ColumnsFit};
 ghost use Rattle.row_sums.specs.Sums.{sumNumber, sumKind, Summed};
 ghost use Rattle.netlist.specs.Gates.{gateCell};
+ghost use Rattle.wires.specs.Wires.{SettingRow};
 ghost use Rattle.gates.specs.Tables.{readRow, hasWay, groupColumns};
 ghost use Rattle.gates.specs.Sums.{lesserRow};
-ghost use Rattle.gates.specs.Fits.{SumFits};
-
-// "the least row sum of its group", over the costs of the columns.
-fn least_sum(kind: usize, library: &[u32], group: usize, costs: &[u32; sizes::COLUMNS]) -> Sum
-    requires { ⌜ SumFits kind (now library) group (now costs) ⌝ }
-    ensures { λ r.
-        ⌜ sumNumber r ≡ least (now (costs .entry)) (groupColumns some (now (library .entry)) group) ⌝ }
-{
-    let mut best = no_sum(kind);
-    let mut row = wide(library[group]);
-    while 0 < row {
-        row -= 1;
-        let at = group + 1 + sizes::ROW_WORDS * row;
-        best = lesser_row(costs, library[at], library[at + 1], best);
-    }
-    best
-}
+ghost use Rattle.gates.specs.Fits.{ReadFits, LeastFits};
 
 // The lesser of a row's sum and of the best so far, the row read as one of one wire.
 fn lesser_wired(
@@ -62,7 +45,7 @@ fn lesser_wired(
     columns: u32,
     best: Sum,
 ) -> Sum
-    requires { ⌜ (pins ≤ Size.pins) × (length (now costs) ≡ Size.columns) ⌝ }
+    requires { ⌜ SettingRow pins columns × (length (now costs) ≡ Size.columns) ⌝ }
     ensures { λ r.
         ⌜ Summed (sumKind best) (lesserRow (now (costs .entry)) depth
         (readRow true (now (lines .entry)) pins columns) (sumNumber best)) r ⌝ }
@@ -73,9 +56,30 @@ fn lesser_wired(
     lesser_row(costs, depth, once(lines, pins, columns), best)
 }
 
+// The same, the row read as its gate's rows are.
+fn lesser_read(
+    wired: bool,
+    lines: &[u32; sizes::GATE_LINES],
+    pins: usize,
+    costs: &[u32; sizes::COLUMNS],
+    depth: u32,
+    columns: u32,
+    best: Sum,
+) -> Sum
+    requires { ⌜ ReadFits wired pins columns × ColumnsFit columns (now costs) ⌝ }
+    ensures { λ r.
+        ⌜ Summed (sumKind best) (lesserRow (now (costs .entry)) depth
+        (readRow wired (now (lines .entry)) pins columns) (sumNumber best)) r ⌝ }
+{
+    if wired {
+        return lesser_wired(lines, pins, costs, depth, columns, best);
+    }
+    lesser_row(costs, depth, columns, best)
+}
+
 // Whether a row is a way at its gate.
 pub fn is_way(wired: bool, lines: &[u32; sizes::GATE_LINES], pins: usize, columns: u32) -> bool
-    requires { ⌜ pins ≤ Size.pins ⌝ }
+    requires { ⌜ ReadFits wired pins columns ⌝ }
     ensures { λ r. ⌜ r ≡ hasWay (readRow wired (now (lines .entry)) pins columns) ⌝ }
 {
     if wired {
@@ -84,9 +88,8 @@ pub fn is_way(wired: bool, lines: &[u32; sizes::GATE_LINES], pins: usize, column
     true
 }
 
-// A row's sum as the number that it would be stored as, the row read as its gate's rows are; never
-// where it is no way.
-pub fn read_number(
+// A row's sum, of a kind, the row read as its gate's rows are; never where it is no way.
+pub fn read_sum(
     wired: bool,
     kind: usize,
     lines: &[u32; sizes::GATE_LINES],
@@ -94,43 +97,17 @@ pub fn read_number(
     costs: &[u32; sizes::COLUMNS],
     depth: u32,
     columns: u32,
-) -> u32
-    requires { ⌜ (kind ≤ 1) × (pins ≤ Size.pins) × ColumnsFit columns (now costs) ⌝ }
-    ensures { λ r.
-        ⌜ r ≡ lesserRow (now (costs .entry)) depth (readRow wired (now (lines .entry)) pins columns)
-        never ⌝ }
-{
-    if wired {
-        return number_of(lesser_wired(lines, pins, costs, depth, columns, no_sum(kind)));
-    }
-    number_of(lesser_row(costs, depth, columns, no_sum(kind)))
-}
-
-// The least row sum of a group whose rows are read as those of one wire.
-fn least_wired(
-    kind: usize,
-    library: &[u32],
-    group: usize,
-    lines: &[u32; sizes::GATE_LINES],
-    pins: usize,
-    costs: &[u32; sizes::COLUMNS],
 ) -> Sum
-    requires { ⌜ (pins ≤ Size.pins) × SumFits kind (now library) group (now costs) ⌝ }
+    requires { ⌜ (kind ≤ 1) × ReadFits wired pins columns × ColumnsFit columns (now costs) ⌝ }
     ensures { λ r.
-        ⌜ sumNumber r ≡ least (now (costs .entry)) (groupColumns
-        (readRow true (now (lines .entry)) pins) (now (library .entry)) group) ⌝ }
+        ⌜ Summed kind (lesserRow (now (costs .entry)) depth
+        (readRow wired (now (lines .entry)) pins columns) never) r ⌝ }
 {
-    let mut best = no_sum(kind);
-    let mut row = wide(library[group]);
-    while 0 < row {
-        row -= 1;
-        let at = group + 1 + sizes::ROW_WORDS * row;
-        best = lesser_wired(lines, pins, costs, library[at], library[at + 1], best);
-    }
-    best
+    lesser_read(wired, lines, pins, costs, depth, columns, no_sum(kind))
 }
 
-// The least row sum of a group of a gate. How its rows are read was decided for the gate, not here.
+// "the least row sum of its group", over the costs of the columns, of a kind. How the rows are read was
+// decided for the gate, not here.
 pub fn least_of(
     wired: bool,
     kind: usize,
@@ -140,15 +117,27 @@ pub fn least_of(
     pins: usize,
     costs: &[u32; sizes::COLUMNS],
 ) -> Sum
-    requires { ⌜ (pins ≤ Size.pins) × SumFits kind (now library) group (now costs) ⌝ }
+    requires { ⌜ LeastFits wired kind (now library) group pins (now costs) ⌝ }
     ensures { λ r.
-        ⌜ sumNumber r ≡ least (now (costs .entry)) (groupColumns
-        (readRow wired (now (lines .entry)) pins) (now (library .entry)) group) ⌝ }
+        ⌜ Summed kind (least (now (costs .entry)) (groupColumns
+        (readRow wired (now (lines .entry)) pins) (now (library .entry)) group)) r ⌝ }
 {
-    if wired {
-        return least_wired(kind, library, group, lines, pins, costs);
+    let mut best = no_sum(kind);
+    let mut row = wide(library[group]);
+    while 0 < row {
+        row -= 1;
+        let at = group + 1 + sizes::ROW_WORDS * row;
+        best = lesser_read(
+            wired,
+            lines,
+            pins,
+            costs,
+            library[at],
+            library[at + 1],
+            best,
+        );
     }
-    least_sum(kind, library, group, costs)
+    best
 }
 
 // Where a gate's cell starts in the library table.

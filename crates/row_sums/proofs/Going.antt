@@ -1,5 +1,5 @@
 -- The columns gone to are the bits that are set, lowest first. That they are the columns which a row of a cell names: `gone-named`
--- of crate `gates`.
+-- of gates/proofs/Going.antt.
 -- Assumes nothing.
 use mathlib.Core.List.{List, [], _∷_}
 use mathlib.Core.Path.{_≡_, sym, ap, _∙_}
@@ -11,7 +11,7 @@ use borrow.Author.Tests.{ne-eqb}
 use lib.Bits.{bitAnd, and-le-l}
 use lib.Count.{trailingZeros, ones}
 use Rattle.reading.specs.Choice.{pick}
-use Rattle.row_sums.specs.Columns.{columnPlaces}
+use Rattle.row_sums.specs.Columns.{columnPlaces, namedColumns}
 use Rattle.row_sums.specs.Gone.{goneFrom, columnsGone}
 use Rattle.row_sums.proofs.Columns.{no-places, lowest-first, rest-fewer, ones-most}
 
@@ -40,3 +40,16 @@ gone-set (suc more) columns h few =
 pub gone-places : (columns : ℕ) → columns < 2 ^ 32 → columnsGone columns ≡ columnPlaces (λ j. j) 32 0 columns
 unfolding columnsGone
 gone-places columns h = gone-set 32 columns h (ones-most 32 columns h)
+
+pub gone-columns : (columns : ℕ) → columns < 2 ^ 32 → columnsGone columns ≡ namedColumns columns
+unfolding namedColumns
+gone-columns = gone-places
+
+-- One column after the other.
+pub gone-none : columnsGone 0 ≡ []
+gone-none = gone-places 0 (omega arith) ∙ no-places (λ j. j) 32 0
+
+pub gone-next : (columns : ℕ) → 0 < columns → columns < 2 ^ 32 → columnsGone columns ≡ trailingZeros 32 columns ∷ columnsGone (bitAnd columns (columns - 1))
+gone-next columns some h =
+    gone-places columns h ∙ lowest-first (λ j. j) 32 0 columns some h
+    ∙ rw (zero-add (trailingZeros 32 columns), gone-places (bitAnd columns (columns - 1)) (omega (arith, and-le-l columns (columns - 1))))

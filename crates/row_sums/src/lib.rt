@@ -1,12 +1,13 @@
 // The sum of a row over the costs of its gate's columns, and the lesser of such sums, each in costs of its
 // own kind. Of tables, cells and gates it knows nothing.
 //
-// For the crates above: `Sum`, `no_sum`, `lesser_of`, `number_of`, `lesser_row`, which asks that the columns
-// have costs, and module `kinds`.
+// For the crates above: `Sum`, `sum_of`, `no_sum`, `lesser_of`, `is_lower` and `spatial_of`, which ask for a
+// kind, `number_of`, `lesser_row`, which asks that the columns have costs, and modules `bits` and `kinds`.
 //
-// Modules `spatial` and `temporal` add up rows, each in costs of its own kind. All that does not add
-// goes by the kind's number, 0 combinational and 1 sequential.
-mod bits;
+// Modules `spatial` and `temporal` add up rows and compare costs, each in costs of its own kind. What does
+// neither goes by the kind's number, 0 combinational and 1 sequential. Every sum that is answered has its
+// kind in the contract (`Summed`).
+pub mod bits;
 pub mod kinds;
 mod spatial;
 mod temporal;
@@ -17,7 +18,8 @@ use cost::Temporal;
 use kinds::COMBINATIONAL;
 ghost use mathlib.Core.Path.{_≡_};
 ghost use Prim.Native.Nat.{_≤_};
-ghost use Rattle.cost.specs.Cost.{never, lesser};
+ghost use lib.Dec.{ltb};
+ghost use Rattle.cost.specs.Cost.{never, counted, lesser};
 ghost use Rattle.row_sums.specs.Columns.{ColumnsFit};
 ghost use Rattle.row_sums.specs.Sums.{sumNumber, sumKind, Summed, rowSum};
 
@@ -27,25 +29,65 @@ pub enum Sum {
     Sequential(Temporal),
 }
 
+// A number as a sum of its kind.
+pub fn sum_of(kind: usize, number: u32) -> Sum
+    requires { ⌜ kind ≤ 1 ⌝ }
+    ensures { λ r. ⌜ Summed kind number r ⌝ }
+{
+    if kind == COMBINATIONAL {
+        Sum::Combinational(Spatial(number))
+    } else {
+        Sum::Sequential(Temporal(number))
+    }
+}
+
 // What the least of no sums is.
 pub fn no_sum(kind: usize) -> Sum
     requires { ⌜ kind ≤ 1 ⌝ }
     ensures { λ r. ⌜ Summed kind never r ⌝ }
 {
-    if kind == COMBINATIONAL {
-        Sum::Combinational(Spatial(NEVER))
-    } else {
-        Sum::Sequential(Temporal(NEVER))
-    }
+    sum_of(kind, NEVER)
 }
 
 // The lesser of a number of the table and a sum of the number's kind.
 pub fn lesser_of(number: u32, sum: Sum) -> Sum
-    ensures { λ r. ⌜ sumNumber r ≡ lesser number (sumNumber sum) ⌝ }
+    ensures { λ r. ⌜ Summed (sumKind sum) (lesser number (sumNumber sum)) r ⌝ }
 {
     match sum {
         Sum::Combinational(s) => Sum::Combinational(Spatial(number).lesser(s)),
         Sum::Sequential(s) => Sum::Sequential(Temporal(number).lesser(s)),
+    }
+}
+
+// Whether a sum is lower than another of its kind. Sums of two kinds are not compared.
+pub fn is_lower(sum: Sum, other: Sum) -> bool
+    requires { ⌜ sumKind sum ≡ sumKind other ⌝ }
+    ensures { λ r. ⌜ r ≡ ltb (counted (sumNumber sum)) (counted (sumNumber other)) ⌝ }
+{
+    match sum {
+        Sum::Combinational(s) => {
+            match other {
+                Sum::Combinational(o) => spatial::is_lower(s, o),
+                Sum::Sequential(_) => false,
+            }
+        }
+        Sum::Sequential(s) => {
+            match other {
+                Sum::Combinational(_) => false,
+                Sum::Sequential(o) => temporal::is_lower(s, o),
+            }
+        }
+    }
+}
+
+// A combinational sum as the cost that it is.
+pub fn spatial_of(sum: Sum) -> Spatial
+    requires { ⌜ sumKind sum ≡ 0 ⌝ }
+    ensures { λ r. ⌜ r .0 ≡ sumNumber sum ⌝ }
+{
+    match sum {
+        Sum::Combinational(s) => s,
+        Sum::Sequential(_) => Spatial(NEVER),
     }
 }
 

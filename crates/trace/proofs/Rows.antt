@@ -7,7 +7,8 @@ use mathlib.Core.Option.{Option, none, some}
 use mathlib.Core.Path.{_≡_, refl, sym, ap, _∙_}
 use Prim.Native.Nat.{ℕ, zero, suc, _+_, _*_, _-_, _^_, _≤_, _<_}
 use native.Mathlib.Omega.{arith}
-use borrow.Author.Tests.{le-leb, lt-leb}
+use borrow.Author.Tests.{le-leb, lt-leb, ltb-true, ltb-false}
+use lib.Dec.{ltb}
 use lib.ListN.{length, getD}
 use Rattle.sizes.specs.Sizes as Size
 use Rattle.reading.specs.Choice.{pick}
@@ -18,7 +19,8 @@ use Rattle.plans.specs.Sweep.{sums, way, least}
 use Rattle.plans.specs.Trace.{firstPlace}
 use Rattle.plans.proofs.Laws.{least-bound}
 use Rattle.row_sums.specs.Columns.{namedColumns}
-use Rattle.row_sums.specs.Sums.{rowSum}
+use Rattle.row_sums.specs.declared.Sum.{Sum}
+use Rattle.row_sums.specs.Sums.{sumNumber, Summed, rowSum}
 use Rattle.gates.specs.Tables.{rowPlaces, hasWay, withWay, rowWays, groupColumns, groupWays}
 use Rattle.gates.specs.Fits.{Gathered, GroupFits}
 use Rattle.gates.specs.Sums.{lesserRow}
@@ -136,57 +138,87 @@ module _ (read : ℕ → Option ℕ) (library costs : List ℕ) (group : ℕ) wh
 
 -- ---- what is kept of the rows from `row` on
 
-pub record Kept (read : ℕ → Option ℕ) (library costs : List ℕ) (group row number first : ℕ) : Type 0 where
+pub record Kept (read : ℕ → Option ℕ) (kind : ℕ) (library costs : List ℕ) (group row : ℕ) (best : Sum) (first : ℕ) : Type 0 where
   pub within : row ≤ getD library group 0
   pub few : first ≤ getD library group 0
-  pub numberIs : number ≡ leastFrom read library costs group row
+  pub some : leastFrom read library costs group row < never → first < getD library group 0
+  pub summed : Summed kind (leastFrom read library costs group row) best
   pub firstIs : first ≡ firstFrom read library costs group row
 
-module _ {read : ℕ → Option ℕ} {library costs : List ℕ} {group : ℕ} where
-  pub kept-none : {row : ℕ} → row ≡ getD library group 0 → Kept read library costs group row never row
-  kept-none {row} e =
-      record { within = omega (arith, e); few = omega (arith, e); numberIs = rows-none read library costs group row e; firstIs = first-none read library costs group row e }
+row-bound : (costs : List ℕ) (d : ℕ) (o : Option ℕ) → lesserRow costs d o never ≤ never
+unfolding lesserRow lesser counted
+row-bound costs d none = omega arith
+row-bound costs d (some x) = omega arith
 
-  module _ {row number first : ℕ} (k : Kept read library costs group row number first) (b : 0 < row) (fit : GroupFits library group Size.columns) where
+module _ {read : ℕ → Option ℕ} {kind : ℕ} {library costs : List ℕ} {group : ℕ} where
+  pub kept-none : {row : ℕ} {best : Sum} → row ≡ getD library group 0 → Summed kind never best → Kept read kind library costs group row best row
+  kept-none {row} e s =
+      record {
+        within = omega (arith, e);
+        few = omega (arith, e);
+        some = λ l. absurd (omega (arith, rows-none read library costs group row e));
+        summed = record { ofKind = s .ofKind; comesTo = s .comesTo ∙ rows-none read library costs group row e };
+        firstIs = first-none read library costs group row e;
+      }
+
+  module _ {row first : ℕ} {best : Sum} (k : Kept read kind library costs group row best first) (b : 0 < row) (fit : GroupFits library group Size.columns) where
     abbrev rowAt : ℕ
     rowAt = group + 1 + Size.rowWords * (row - 1)
 
     abbrev comesTo : ℕ
     comesTo = lesserRow costs (getD library rowAt 0) (read (getD library (rowAt + 1) 0)) never
 
-    pub kept-here : {way : Bool} {n : ℕ} → way ≡ hasWay (read (getD library (rowAt + 1) 0)) → way ≡ true → n ≡ comesTo → n ≤ number
-        → Kept read library costs group (row - 1) n (row - 1)
-    kept-here w t e h =
-        let l = rw (e, k .numberIs) at h in
-        record {
-          within = omega (arith, k .within);
-          few = omega (arith, k .within);
-          numberIs = e ∙ least-here read library costs group row b (k .within) fit l;
-          firstIs = first-here read library costs group row b (k .within) fit l (sym w ∙ t);
-        }
+    -- How the row's sum stands to the best so far.
+    module _ {sum : Sum} {lower : Bool} (s : Summed kind comesTo sum) (e : lower ≡ ltb (counted (sumNumber best)) (counted (sumNumber sum))) where
+      test : lower ≡ ltb (counted (leastFrom read library costs group row)) (counted comesTo)
+      test = e ∙ rw (k .summed .comesTo, s .comesTo)
 
-    pub kept-later : {n : ℕ} → n ≡ comesTo → number < n → Kept read library costs group (row - 1) number first
-    kept-later e h =
-        let l = rw (e, k .numberIs) at h in
-        record {
-          within = omega (arith, k .within);
-          few = k .few;
-          numberIs = k .numberIs ∙ least-later read library costs group row b (k .within) fit l;
-          firstIs = k .firstIs ∙ first-later read library costs group row b (k .within) fit l;
-        }
+      abbrev bounds : (leastFrom read library costs group row ≤ never) × (comesTo ≤ never)
+      bounds = (least-bound costs (rowsFrom read library costs group row), row-bound costs (getD library rowAt 0) (read (getD library (rowAt + 1) 0)))
 
-    pub kept-past : {way : Bool} → way ≡ hasWay (read (getD library (rowAt + 1) 0)) → way ≡ false → Kept read library costs group (row - 1) number first
+      pub kept-here : {way : Bool} → way ≡ hasWay (read (getD library (rowAt + 1) 0)) → way ≡ true → lower ≡ false
+          → Kept read kind library costs group (row - 1) sum (row - 1)
+      unfolding counted
+      kept-here w t h =
+          let l : comesTo ≤ leastFrom read library costs group row = omega (arith, bounds, ltb-false (counted (leastFrom read library costs group row)) (counted comesTo) (sym test ∙ h)) in
+          record {
+            within = omega (arith, k .within);
+            few = omega (arith, k .within);
+            some = λ j. omega (arith, k .within);
+            summed = record { ofKind = s .ofKind; comesTo = s .comesTo ∙ least-here read library costs group row b (k .within) fit l };
+            firstIs = first-here read library costs group row b (k .within) fit l (sym w ∙ t);
+          }
+
+      pub kept-later : lower ≡ true → Kept read kind library costs group (row - 1) best first
+      unfolding counted
+      kept-later h =
+          let l : leastFrom read library costs group row < comesTo = omega (arith, bounds, ltb-true (counted (leastFrom read library costs group row)) (counted comesTo) (sym test ∙ h)) in
+          record {
+            within = omega (arith, k .within);
+            few = k .few;
+            some = rw (← least-later read library costs group row b (k .within) fit l) (k .some);
+            summed = record { ofKind = k .summed .ofKind; comesTo = k .summed .comesTo ∙ least-later read library costs group row b (k .within) fit l };
+            firstIs = k .firstIs ∙ first-later read library costs group row b (k .within) fit l;
+          }
+
+    pub kept-past : {way : Bool} → way ≡ hasWay (read (getD library (rowAt + 1) 0)) → way ≡ false → Kept read kind library costs group (row - 1) best first
     kept-past w t =
         record {
           within = omega (arith, k .within);
           few = k .few;
-          numberIs = k .numberIs ∙ least-past read library costs group row b (k .within) fit (sym w ∙ t);
+          some = rw (← least-past read library costs group row b (k .within) fit (sym w ∙ t)) (k .some);
+          summed = record { ofKind = k .summed .ofKind; comesTo = k .summed .comesTo ∙ least-past read library costs group row b (k .within) fit (sym w ∙ t) };
           firstIs = k .firstIs ∙ first-past read library costs group row b (k .within) fit (sym w ∙ t);
         }
 
-  pub kept-all : {row number first : ℕ} → row ≤ 0 → Kept read library costs group row number first → LeastOf read library group costs (record { number = number; row = first })
+  pub kept-all : {row first : ℕ} {best : Sum} → row ≤ 0 → Kept read kind library costs group row best first → LeastOf read kind library group costs (record { sum = best; row = first })
   kept-all {row} h k =
-      record { number = k .numberIs ∙ rows-all read library costs group row h; row = k .firstIs ∙ first-all read library costs group row h; few = k .few }
+      record {
+        sum = record { ofKind = k .summed .ofKind; comesTo = k .summed .comesTo ∙ rows-all read library costs group row h };
+        row = k .firstIs ∙ first-all read library costs group row h;
+        few = k .few;
+        some = rw (k .summed .comesTo) (k .some);
+      }
 
 -- ---- the same over the numbers
 

@@ -11,7 +11,7 @@ use native.Mathlib.Decide.{decLt}
 use Rattle.sizes.specs.Sizes as Size
 use Rattle.sizes.specs.Places.{settingPlace, markPlace}
 use Rattle.plans.specs.System.{Visit}
-use Rattle.plans.specs.Sweep.{lower, sweep, Rests, Inside}
+use Rattle.plans.specs.Sweep.{lower, sweep, Rests, Inside, Bounded}
 use Rattle.plans.specs.Trace.{Mark, Trace, markAt, traceSweep, traceSweeps, untraced}
 use Rattle.plans.proofs.Laws.{traced-numbers}
 use Rattle.cell_library.specs.Cells.{Cell}
@@ -20,7 +20,8 @@ use Rattle.netlist.proofs.Places.{netlist-count}
 use Rattle.calculation.specs.Prices.{pricesOf}
 use Rattle.calculation.specs.Nodes.{Kind, kindNumber}
 use Rattle.calculation.specs.Calculation.{start}
-use Rattle.calculation.proofs.Placing.{start-length}
+use Rattle.calculation.proofs.Placing.{start-length, start-bounded}
+use Rattle.calculation.proofs.Pricing.{own-figures}
 use Rattle.gates.proofs.Bridge.{tables-fit}
 use Rattle.gates.specs.Fits.{TablesFit}
 use Rattle.sweep.specs.Order.{sweepVisits}
@@ -93,6 +94,12 @@ module _ (kind : ℕ) (library netlist : List ℕ) where
     pub few-gates : getD netlist 0 0 ≤ Size.gates
     few-gates = rw (h .statementsStand, netlist-count ss (h .past)) (h .sound .netlist .few)
 
+    starts : linesStart false netlist Size.lines 1 ≡ start ss
+    starts = rw (h .statementsStand) (start-is cells ss (h .sound) (h .behind) (h .past) false)
+
+    pub starts-bounded : Bounded (linesStart false netlist Size.lines 1)
+    starts-bounded = rw starts (start-bounded (pricesOf ss) ss (own-figures (h .sound)))
+
   module _ (k : Kind) (cells : List Cell) (ss : List Statement) (e : kindNumber k ≡ kind) (h : Holds library netlist cells ss) where
     pub count-is : getD netlist 0 0 ≡ length (gatesOf ss)
     count-is = rw (h .statementsStand) (netlist-count ss (h .past))
@@ -101,7 +108,7 @@ module _ (kind : ℕ) (library netlist : List ℕ) where
     visits-are = rw (← e, h .cellsStand, h .statementsStand) (setting-sweep cells ss (h .sound) (h .behind) (h .past) k)
 
     start-are : linesStart false netlist Size.lines 1 ≡ start ss
-    start-are = rw (h .statementsStand) (start-is cells ss (h .sound) (h .behind) (h .past) false)
+    start-are = starts cells ss h
 
     all-is : after (2 * getD netlist 0 0 + 1) ≡ settingTrace k cells ss
     all-is = rw (visits-are, start-are, count-is) (sym (trace-lower cells ss (h .sound) k))

@@ -22,7 +22,7 @@ use Rattle.trace.proofs.Tracing.{trace-append, trace-time}
 module _ (kind : ℕ) (library netlist : List ℕ) where
   pub traced-none : (clock : ℕ) (numbers marks : List ℕ) → Traced kind library netlist [] clock numbers marks numbers marks false
   unfolding traceSweep
-  traced-none clock numbers marks = record { stands = λ t q s. s; still = λ q. refl; long = refl; marksLong = refl }
+  traced-none clock numbers marks = record { stands = λ t q s. s; still = λ q. refl; long = refl; bounded = λ b. b; marksLong = refl }
 
   both-still : (a b : Bool) {xs ys zs : List ℕ} → (a ≡ false → ys ≡ xs) → (b ≡ false → zs ≡ ys) → (a || b) ≡ false → zs ≡ xs
   both-still true b f g e = let z : _≡_ {A = ℕ} 0 1 = cc in absurd (omega arith)
@@ -38,6 +38,7 @@ module _ (kind : ℕ) (library netlist : List ℕ) where
             (g .stands (traceSweep lower us t) (trace-time lower us t ∙ ap (λ (x : ℕ). x + length us) q ∙ sym e) (f .stands t q s));
         still = both-still a b (f .still) (g .still);
         long = g .long ∙ f .long;
+        bounded = λ b. g .bounded (f .bounded b);
         marksLong = g .marksLong ∙ f .marksLong;
       }
 

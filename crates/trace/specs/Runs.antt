@@ -8,11 +8,13 @@ use Prim.Native.Nat.{ℕ, _+_, _*_, _^_, _≤_, _<_}
 use lib.ListN.{length, getD, replicate}
 use Rattle.sizes.specs.Sizes as Size
 use Rattle.plans.specs.System.{Visit}
-use Rattle.plans.specs.Sweep.{least, lower}
+use Rattle.cost.specs.Cost.{never}
+use Rattle.plans.specs.Sweep.{least, lower, Bounded}
 use Rattle.plans.specs.Trace.{firstPlace, Trace, traceSweep}
 use Rattle.cell_library.specs.Cells.{Cell}
 use Rattle.netlist.specs.Netlist.{Statement}
 use Rattle.calculation.specs.Nodes.{Kind, kindNumber}
+use Rattle.row_sums.specs.Sums.{sumNumber, Summed}
 use Rattle.gates.specs.Tables.{groupColumns, gateVisit}
 use Rattle.gates.specs.Fits.{TablesFit}
 use Rattle.links.specs.Lines.{Links}
@@ -21,12 +23,13 @@ use Rattle.trace.specs.declared.Least.{Least}
 use Rattle.trace.specs.Lowered.{settingTrace}
 use Rattle.trace.specs.Marks.{wayRow, AllNoted, Stands}
 
--- The least row sum of a group over the costs of its columns, and the first row that comes to it; the rows are read as those of
--- the gate.
-pub record LeastOf (read : ℕ → Option ℕ) (library : List ℕ) (group : ℕ) (costs : List ℕ) (said : Least) : Type 0 where
-  pub number : said .number ≡ least costs (groupColumns read library group)
+-- The least row sum of a group over the costs of its columns, of a kind, and the first row that comes to it; the rows are read
+-- as those of the gate.
+pub record LeastOf (read : ℕ → Option ℕ) (kind : ℕ) (library : List ℕ) (group : ℕ) (costs : List ℕ) (said : Least) : Type 0 where
+  pub sum : Summed kind (least costs (groupColumns read library group)) (said .sum)
   pub row : said .row ≡ wayRow read library (getD library group 0) (group + 1) (firstPlace costs (groupColumns read library group))
   pub few : said .row ≤ getD library group 0
+  pub some : sumNumber (said .sum) < never → said .row < getD library group 0
 
 -- The tables, the links and the arrays beside them.
 pub record Fits (kind : ℕ) (library netlist links numbers marks : List ℕ) : Type 0 where
@@ -34,6 +37,7 @@ pub record Fits (kind : ℕ) (library netlist links numbers marks : List ℕ) : 
   pub tablesFit : TablesFit library netlist
   pub linked : Links library netlist links
   pub size : length numbers ≡ Size.numbers
+  pub bounded : Bounded numbers
   pub marksSize : length marks ≡ Size.marks
 
 -- The visit of a gate's output at a value, of the visits by turn.
@@ -46,6 +50,7 @@ pub record Traced (kind : ℕ) (library netlist : List ℕ) (vs : List Visit) (c
       → Stands kind library netlist (traceSweep lower vs t) numbers′ marks′
   pub still : said ≡ false → numbers′ ≡ numbers
   pub long : length numbers′ ≡ length numbers
+  pub bounded : Bounded numbers → Bounded numbers′
   pub marksLong : length marks′ ≡ length marks
 
 -- The tables hold accepted cells and statements, and nothing is marked.

@@ -7,11 +7,10 @@
 // This run stands by itself, so that the sweeps of an analysis, which need no marks, pay nothing for them. It goes gate
 // by gate in netlist order. A visit that does not lower its number leaves it: where lines are set that comes to the same
 // as "becomes the least row sum" (`traces-agree` of crate `plans`).
-use cost::NEVER;
 use gates::cell_place;
 use gates::gather::column_costs;
 use gates::is_way;
-use gates::read_number;
+use gates::read_sum;
 use gates::visits::SETTING;
 use gates::visits::visit_group;
 use gates::visits::visit_place;
@@ -19,10 +18,15 @@ use links::is_tied;
 use links::link;
 use netlist::gates::place_of;
 use netlist::gates::unchecked;
+use row_sums::Sum;
+use row_sums::is_lower;
 use row_sums::kinds::wide;
+use row_sums::lesser_of;
+use row_sums::no_sum;
 use starting::LOW;
 use starting::start;
 use table::word;
+use visits::store;
 use wires::once;
 ghost use mathlib.Core.List.{List, [], _∷_};
 ghost use mathlib.Core.Path.{_≡_};
@@ -34,7 +38,7 @@ ghost use Rattle.sizes.specs.Places.{markPlace};
 ghost use Rattle.cell_library.specs.Cells.{Cell};
 ghost use Rattle.netlist.specs.Netlist.{Statement};
 ghost use Rattle.calculation.specs.Nodes.{Kind, kindNumber};
-ghost use Rattle.gates.specs.Fits.{SumFits};
+ghost use Rattle.gates.specs.Fits.{ReadFits, LeastFits};
 ghost use Rattle.gates.specs.Tables.{readRow};
 ghost use Rattle.sweep.specs.Order.{sweepVisits};
 ghost use Rattle.calculation.specs.Stored.{Holds};
@@ -42,9 +46,9 @@ ghost use Rattle.trace.specs.Lowered.{settingTrace};
 ghost use Rattle.trace.specs.Marks.{asWritten, askingColumns, AllNoted};
 ghost use Rattle.trace.specs.Runs.{LeastOf, Fits, turnVisit, Traced, Traceable};
 
-// The least row sum of a group, and the first of its rows, from 0, that comes to it.
+// The least row sum of a group, in its kind, and the first of its rows, from 0, that comes to it.
 pub struct Least {
-    pub number: u32,
+    pub sum: Sum,
     pub row: usize,
 }
 
@@ -58,12 +62,12 @@ fn least_row(
     pins: usize,
     costs: &[u32; sizes::COLUMNS],
 ) -> Least
-    requires { ⌜ (pins ≤ Size.pins) × SumFits kind (now library) group (now costs) ⌝ }
+    requires { ⌜ LeastFits wired kind (now library) group pins (now costs) ⌝ }
     ensures { λ r.
-        ⌜ LeastOf (readRow wired (now (lines .entry)) pins) (now (library .entry)) group
+        ⌜ LeastOf (readRow wired (now (lines .entry)) pins) kind (now (library .entry)) group
         (now (costs .entry)) r ⌝ }
 {
-    let mut number = NEVER;
+    let mut best = no_sum(kind);
     let mut first = wide(library[group]);
     let mut row = first;
     while 0 < row {
@@ -72,14 +76,17 @@ fn least_row(
         let depth = library[at];
         let columns = library[at + 1];
         if is_way(wired, lines, pins, columns) {
-            let sum = read_number(wired, kind, lines, pins, costs, depth, columns);
-            if sum <= number {
-                number = sum;
+            let sum = read_sum(wired, kind, lines, pins, costs, depth, columns);
+            if !is_lower(best, sum) {
+                best = sum;
                 first = row;
             }
         }
     }
-    Least { number, row: first }
+    Least {
+        sum: best,
+        row: first,
+    }
 }
 
 // Notes the visit of a line at a value, with the row that it took as it is written, the columns by which
@@ -118,7 +125,7 @@ fn as_written(heading: u32, depth: u32, columns: u32) -> u32
 
 // The columns by which a row asks that is a way.
 fn asking_columns(wired: bool, lines: &[u32; sizes::GATE_LINES], pins: usize, columns: u32) -> u32
-    requires { ⌜ pins ≤ Size.pins ⌝ }
+    requires { ⌜ ReadFits wired pins columns ⌝ }
     ensures { λ r. ⌜ r ≡ askingColumns wired (now (lines .entry)) pins columns ⌝ }
 {
     if wired {
@@ -156,10 +163,11 @@ fn visit(
     let place = visit_place(SETTING, kind, &lines, pins, value);
     let wired = is_tied(links, gate);
     let least = least_row(wired, kind, library, group, &lines, pins, &costs);
-    if numbers[place] <= least.number {
+    let lowest = least.sum;
+    let sum = lesser_of(numbers[place], lowest);
+    if !store(numbers, place, sum) {
         return false;
     }
-    numbers[place] = least.number;
     let row = group + 1 + sizes::ROW_WORDS * least.row;
     let columns = word(library, row + 1);
     let written = as_written(

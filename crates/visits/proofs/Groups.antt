@@ -13,7 +13,7 @@ use Rattle.reading.specs.Choice.{pick}
 use Rattle.plans.specs.Sweep.{least}
 use Rattle.netlist.specs.Gates.{gateCell, gateLines}
 use Rattle.gates.specs.Tables.{readRow, groupColumns, gatePins, byRole, roleColumns, visitGroup, visitPlace, gateTied, visitWired, groupVisit, gateVisit}
-use Rattle.gates.specs.Fits.{LinesFit, Gathered, GatherFits, GroupFits, GateFits, SumFits}
+use Rattle.gates.specs.Fits.{LinesFit, Gathered, GatherFits, GroupFits, GateFits, LeastFits}
 use Rattle.gates.proofs.Gathering.{group-same, group-wider, read-narrow}
 use Rattle.visits.proofs.Visits.{visit-is}
 use Rattle.visits.proofs.Turning.{gather-first, rows-same}
@@ -32,8 +32,14 @@ module _ (kind : ℕ) (kind-fits : kind ≤ 1) (library netlist : List ℕ) (g e
   unfolding byRole pick
   rows-fit = rows-same 0 group-is pins-are (gate-fits .groups 0 kind e (omega arith) kind-fits (omega arith))
 
-  pub sum-fits : (costs : List ℕ) → length costs ≡ Size.columns → SumFits kind library group costs
-  sum-fits costs size = record { kindFits = kind-fits; groupFits = group-wider few-columns rows-fit; size = size }
+  pub least-fits : (wired : Bool) (costs : List ℕ) → length costs ≡ Size.columns → LeastFits wired kind library group pins costs
+  unfolding byRole pick
+  least-fits wired costs size =
+      record {
+        few = lines-fit .count;
+        sumFits = record { kindFits = kind-fits; groupFits = group-wider few-columns rows-fit; size = size };
+        within = λ w. rows-fit;
+      }
 
   pub gather-fits : (numbers costs : List ℕ) → length numbers ≡ Size.numbers → length costs ≡ Size.columns → GatherFits true 0 kind lines pins numbers costs
   gather-fits numbers costs size columns = gather-first 0 kind-fits lines-fit size columns
@@ -52,7 +58,7 @@ module _ (kind : ℕ) (kind-fits : kind ≤ 1) (library netlist : List ℕ) (g e
 
     pub narrow : (c x : ℕ) → c < 2 ^ roleColumns 0 pins → read c ≡ some x → x < 2 ^ roleColumns 0 pins
     unfolding byRole pick
-    narrow = read-narrow wired lines pins (2 * pins) (omega arith)
+    narrow = read-narrow wired lines pins (2 * pins) (omega (arith, lines-fit .count))
 
     -- and the least over the costs of the columns is the least over the numbers.
     pub columns-least : (numbers costs : List ℕ) → Gathered (roleColumns 0 pins) kind lines pins numbers costs

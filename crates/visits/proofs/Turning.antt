@@ -13,7 +13,8 @@ use Rattle.plans.specs.System.{Way, Visit}
 use Rattle.plans.specs.Sweep.{at, lower}
 use Rattle.plans.proofs.Laws.{at-getD, lower-stores}
 use Rattle.calculation.proofs.Sweeping.{unaltered}
-use Rattle.gates.specs.Tables.{roleColumns}
+use Rattle.row_sums.specs.Sums.{placeKind}
+use Rattle.gates.specs.Tables.{byRole, roleColumns}
 use Rattle.gates.specs.Fits.{LinesFit, Gathered, GatherFits, GroupFits}
 use Rattle.gates.proofs.Gathering.{group-wider}
 use Rattle.gates.proofs.Rows.{observe-column}
@@ -28,12 +29,13 @@ columns-few role {lines} {pins} f = go (ℕ-discrete role 0)
     go (yes e) = rw (role-set role (2 * pins) (2 * pins + 3) e) (omega (arith, f .count))
     go (no e) = rw (role-observed role (2 * pins) (2 * pins + 3) e) (omega (arith, f .count))
 
-columns-wide : (role pins : ℕ) → 2 * pins ≤ roleColumns role pins
-columns-wide role pins = go (ℕ-discrete role 0)
+-- Rows are read as those of one wire only where lines are set.
+pub wired-setting : (role : ℕ) (tied : Bool) → byRole role tied false ≡ true → role ≡ 0
+wired-setting role tied e = go (ℕ-discrete role 0)
   where
-    go : Dec (role ≡ 0) → 2 * pins ≤ roleColumns role pins
-    go (yes e) = rw (role-set role (2 * pins) (2 * pins + 3) e) (omega arith)
-    go (no e) = rw (role-observed role (2 * pins) (2 * pins + 3) e) (omega arith)
+    go : Dec (role ≡ 0) → role ≡ 0
+    go (yes z) = z
+    go (no z) = absurd (true≢false (sym e ∙ role-observed role tied false z))
 
 -- The rows of a group that stands there.
 pub rows-same : (role : ℕ) {library : List ℕ} {group place pins count : ℕ} → group ≡ place → pins ≡ count
@@ -67,17 +69,22 @@ module _ (role : ℕ) {kind : ℕ} {lines : List ℕ} {pins : ℕ} (kinds : kind
 
   -- At a turn the costs are those of the present numbers `ys`.
   module _ {library : List ℕ} {group : ℕ} (rows : GroupFits library group (roleColumns role pins)) {ys costs : List ℕ} (n : length ys ≡ Size.numbers) (g : Gathered (roleColumns role pins) kind lines pins ys costs) where
-    pub visit-fits : {place : ℕ} → place < Size.numbers → VisitFits kind library group costs ys place pins
-    visit-fits inside =
+    pub visit-fits : {wired : Bool} {place : ℕ} → (wired ≡ true → role ≡ 0) → place < Size.numbers → placeKind place ≡ kind → VisitFits wired kind library group costs ys place pins
+    visit-fits w inside k =
         record {
-          sumFits = record { kindFits = kinds; groupFits = group-wider (columns-few role fit) rows; size = g .size };
+          leastFits =
+              record {
+                few = fit .count;
+                sumFits = record { kindFits = kinds; groupFits = group-wider (columns-few role fit) rows; size = g .size };
+                within = λ t. rw (role-set role (2 * pins) (2 * pins + 3) (w t)) at rows;
+              };
           size = n;
           placeFits = inside;
-          pinsFit = fit .count;
+          ofKind = k;
         }
 
     pub costs-of : CostsOf kind library group lines pins ys costs
-    costs-of = record { count = roleColumns role pins; few = columns-few role fit; wide = columns-wide role pins; gathered = g; groupFits = rows }
+    costs-of = record { count = roleColumns role pins; few = columns-few role fit; gathered = g; groupFits = rows }
 
     -- A visit that changes nothing leaves the costs as they are.
     pub gather-next : {v : Visit} {zs : List ℕ} {b : Bool} → Renewed v ys zs b → length zs ≡ Size.numbers → GatherFits b role kind lines pins zs costs

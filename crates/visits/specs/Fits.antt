@@ -1,26 +1,34 @@
 -- What visits ask of the tables and the numbers (specs/Fits.antt of crate `gates`).
 -- Assumes nothing.
+use mathlib.Core.Bool.{Bool}
 use mathlib.Core.List.{List}
 use mathlib.Core.Path.{_≡_}
-use Prim.Native.Nat.{ℕ, _*_, _≤_, _<_}
+use Prim.Native.Nat.{ℕ, _≤_, _<_}
 use lib.ListN.{length, getD}
 use Rattle.sizes.specs.Sizes as Size
+use Rattle.row_sums.specs.declared.Sum.{Sum}
+use Rattle.row_sums.specs.Sums.{sumKind, placeKind}
 use Rattle.links.specs.Lines.{Chained, Driven, Links}
-use Rattle.gates.specs.Fits.{Gathered, GroupFits, SumFits, TablesFit}
+use Rattle.gates.specs.Fits.{Gathered, GroupFits, LeastFits, TablesFit}
 use Rattle.visits.specs.Waking.{NeedsByLine}
 
--- One visit: a group, the costs of its columns, the place of its number, and the pins of its cell.
-pub record VisitFits (kind : ℕ) (library : List ℕ) (group : ℕ) (costs numbers : List ℕ) (place pins : ℕ) : Type 0 where
-  pub sumFits : SumFits kind library group costs
+-- A sum may be stored at a place of the numbers: one whose kind is the sum's.
+pub record StoreFits (place : ℕ) (sum : Sum) (numbers : List ℕ) : Type 0 where
+  pub inside : place < Size.numbers
+  pub size : length numbers ≡ Size.numbers
+  pub ofKind : sumKind sum ≡ placeKind place
+
+-- One visit: a group, the costs of its columns, the place of its number, which is of the kind, and the pins of its cell.
+pub record VisitFits (wired : Bool) (kind : ℕ) (library : List ℕ) (group : ℕ) (costs numbers : List ℕ) (place pins : ℕ) : Type 0 where
+  pub leastFits : LeastFits wired kind library group pins costs
   pub size : length numbers ≡ Size.numbers
   pub placeFits : place < Size.numbers
-  pub pinsFit : pins ≤ Size.pins
+  pub ofKind : placeKind place ≡ kind
 
 -- Costs are those of the columns which the rows of a group name, at a gate with these lines.
 pub record CostsOf (kind : ℕ) (library : List ℕ) (group : ℕ) (lines : List ℕ) (pins : ℕ) (numbers costs : List ℕ) : Type 0 where
   pub count : ℕ
   pub few : count ≤ Size.columns
-  pub wide : 2 * pins ≤ count
   pub gathered : Gathered count kind lines pins numbers costs
   pub groupFits : GroupFits library group count
 

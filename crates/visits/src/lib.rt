@@ -1,8 +1,8 @@
 // One gate's turn in a sweep, document 01, "Sweeps": the visits of the gate, each of which renews one
 // number, and the gates that a changed number wakes.
 //
-// For the crates above: `visit_gate`, with what it asks of the tables (specs/Fits.antt), since the loop of
-// the sweeps tests no bounds; and `either`, of two answers whether a number changed.
+// For the crates above: `visit_gate` and `store`, with what they ask of the tables (specs/Fits.antt), since the
+// loop of the sweeps tests no bounds; and `either`, of two answers whether a number changed.
 //
 // All goes by a role's number, 0 setting (CC, SC) and 1 observing (CO, SO), and by a kind's number,
 // 0 combinational (CC, CO) and 1 sequential (SC, SO).
@@ -18,9 +18,12 @@ use gates::visits::visit_group;
 use gates::visits::visit_place;
 use links::is_tied;
 use netlist::gates::unchecked;
+use row_sums::Sum;
+use row_sums::is_lower;
 use row_sums::kinds::wide;
 use row_sums::lesser_of;
 use row_sums::number_of;
+use row_sums::sum_of;
 ghost use mathlib.Core.Path.{_≡_};
 ghost use mathlib.Core.Bool.{true, _||_};
 ghost use mathlib.Core.List.{List};
@@ -28,9 +31,10 @@ ghost use Prim.Native.Nat.{ℕ, _+_, _*_, _≤_, _<_};
 ghost use lib.ListN.{length, getD};
 ghost use Rattle.sizes.specs.Sizes as Size;
 ghost use Rattle.cost.specs.Cost.{never};
+ghost use Rattle.row_sums.specs.Sums.{sumNumber};
 ghost use Rattle.gates.specs.Tables.{visitWired, groupVisit};
 ghost use Rattle.links.specs.Lines.{Chained, Driven, Tied};
-ghost use Rattle.visits.specs.Fits.{VisitFits, CostsOf, WakeFits, GateVisitsFit};
+ghost use Rattle.visits.specs.Fits.{StoreFits, VisitFits, CostsOf, WakeFits, GateVisitsFit};
 ghost use Rattle.visits.specs.Order.{gateVisits};
 ghost use Rattle.visits.specs.Renewed.{Stored, Led, Renewed, Swept};
 ghost use Rattle.visits.specs.Waking.{visitLine, LineWoken, ChangesWoken, DrivenOnce};
@@ -41,11 +45,12 @@ pub fn either(a: bool, b: bool) -> bool
     if a { true } else { b }
 }
 
-// Stores a number, and says whether another stood there.
-fn store(numbers: &mut [u32; sizes::NUMBERS], place: usize, number: u32) -> bool
-    requires { ⌜ (place < Size.numbers) × (length (now numbers) ≡ Size.numbers) ⌝ }
-    ensures { λ r. ⌜ Stored place number (now (numbers .entry)) (now (numbers .exit)) r ⌝ }
+// Stores a sum at a place of its kind, and says whether another number stood there.
+pub fn store(numbers: &mut [u32; sizes::NUMBERS], place: usize, sum: Sum) -> bool
+    requires { ⌜ StoreFits place sum (now numbers) ⌝ }
+    ensures { λ r. ⌜ Stored place (sumNumber sum) (now (numbers .entry)) (now (numbers .exit)) r ⌝ }
 {
+    let number = number_of(sum);
     if numbers[place] == number {
         return false;
     }
@@ -54,8 +59,9 @@ fn store(numbers: &mut [u32; sizes::NUMBERS], place: usize, number: u32) -> bool
 }
 
 // Whether no row sum is below a number: where lines are observed, the cost of the gate's output observed
-// is a term of each.
-fn lowest_already(role: usize, number: u32, observed: u32) -> bool
+// is a term of each. A raw number above never is no cost yet: its visit makes one of it.
+fn lowest_already(role: usize, kind: usize, number: u32, observed: u32) -> bool
+    requires { ⌜ kind ≤ 1 ⌝ }
     ensures { λ r. ⌜ (r ≡ true → (role ≡ 0 → ⊥) × (number ≤ observed) × (number ≤ never)) ⌝ }
 {
     if role == SETTING {
@@ -64,10 +70,7 @@ fn lowest_already(role: usize, number: u32, observed: u32) -> bool
     if NEVER < number {
         return false;
     }
-    if number <= observed {
-        return true;
-    }
-    false
+    !is_lower(sum_of(kind, observed), sum_of(kind, number))
 }
 
 // Renews the number at a place by the row sums of a group, over the costs of its columns; whether it
@@ -84,7 +87,7 @@ fn visit(
     place: usize,
     pins: usize,
 ) -> bool
-    requires { ⌜ VisitFits kind (now library) group (now costs) (now numbers) place pins ⌝ }
+    requires { ⌜ VisitFits wired kind (now library) group (now costs) (now numbers) place pins ⌝ }
     ensures { λ r.
         ⌜ (CostsOf kind (now (library .entry)) group (now (lines .entry)) pins
         (now (numbers .entry)) (now (costs .entry))
@@ -94,12 +97,12 @@ fn visit(
         (groupVisit wired kind (now (lines .entry)) pins (now (library .entry)) group place)
         (now (numbers .entry)) (now (numbers .exit)) r) ⌝ }
 {
-    if lowest_already(role, numbers[place], costs[2 * pins + 2]) {
+    if lowest_already(role, kind, numbers[place], costs[2 * pins + 2]) {
         return false;
     }
     let least = least_of(wired, kind, library, group, lines, pins, costs);
     let sum = lesser_of(numbers[place], least);
-    store(numbers, place, number_of(sum))
+    store(numbers, place, sum)
 }
 
 // The line whose number a visit renews.

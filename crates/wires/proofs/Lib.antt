@@ -1,4 +1,5 @@
 pub mod Any
 pub mod Masks
+pub mod Gone
 pub mod Reading
 pub mod Cells

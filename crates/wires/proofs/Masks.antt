@@ -1,15 +1,19 @@
--- A number put together bit by bit.
+-- A number by its bits.
 -- Assumes nothing.
 use mathlib.Core.Bool.{Bool, true, false}
-use mathlib.Core.Path.{_≡_, refl, sym, ap, _∙_}
+use mathlib.Core.Path.{_≡_, sym, ap, _∙_}
 use Prim.Native.Nat.{ℕ, zero, suc, _+_, _*_, _-_, _/_, _%_, _^_, _≤_, _<_}
 use native.Mathlib.Nat.{pow-suc, div-one}
 use native.Mathlib.Omega.{arith}
 use lib.Dec.{eqb}
-use lib.Pow.{pow-mono, shr-shr}
+use lib.Pow.{shr-shr, field, mod-mod-pow}
 use Rattle.reading.specs.Choice.{pick}
 use Rattle.cell_library.specs.Cells.{bit}
-use Rattle.wires.specs.Wires.{masked}
+
+-- So many bits, from bit `first` on.
+unfoldable pub masked : (ℕ → Bool) → ℕ → ℕ → ℕ
+masked p zero first = 0
+masked p (suc count) first = pick (p first) 1 0 + 2 * masked p count (suc first)
 
 -- A bit as a number.
 one-zero : (b : Bool) → pick b 1 0 ≤ 1
@@ -22,11 +26,6 @@ module _ (p : ℕ → Bool) where
   unfolding masked
   masked-few zero first = omega arith
   masked-few (suc count) first = omega (arith, masked-few count (suc first), one-zero (p first), pow-suc 2 count)
-
-  -- One bit more, below the others.
-  pub masked-next : (count first : ℕ) → pick (p first) 1 0 + 2 * masked p count (first + 1) ≡ masked p (suc count) first
-  unfolding masked
-  masked-next count first = let e : first + 1 ≡ suc first = omega arith in rw e
 
   pub masked-bit : (count first j : ℕ) → j < count → bit (masked p count first) j ≡ p (first + j)
   unfolding masked bit pick
@@ -46,17 +45,15 @@ module _ (p : ℕ → Bool) where
       let f : first + suc j ≡ suc first + j = omega arith in
       rw (e, f) (masked-bit count (suc first) j (omega arith))
 
-  -- The same from the highest bit down, where the numbers are small.
-  pub masked-back : (n column left r : ℕ) → n ≤ 16 → 0 < column → column ≤ n → left ≡ masked p (n - column) column → r ≡ pick (p (column - 1)) 1 0
-      → (2 * left + r ≡ masked p (n - (column - 1)) (column - 1)) × (2 * left + r < 2 ^ 16)
-  masked-back n column left r most some few e h =
-      let c : column - 1 + 1 ≡ column = omega arith in
-      let k : n - (column - 1) ≡ suc (n - column) = omega arith in
-      let s : pick (p (column - 1)) 1 0 + 2 * masked p (n - column) column ≡ masked p (suc (n - column)) (column - 1) =
-      rw c at (masked-next (n - column) (column - 1)) in
-      let t : 2 * left + r ≡ masked p (n - (column - 1)) (column - 1) = rw (k, e, h) (omega (arith, s)) in
-      (t, omega (arith, t, masked-few (n - (column - 1)) (column - 1), pow-mono {i = n - (column - 1)} {j = 16} (omega arith)))
-
-  pub masked-none : (n : ℕ) → 0 ≡ masked p (n - n) n
-  unfolding masked
-  masked-none n = let e : n - n ≡ 0 = omega arith in rw e
+-- The bits below a bit are those of what is left there.
+pub bit-below : (x i j : ℕ) → i < j → bit (x % 2 ^ j) i ≡ bit x i
+unfolding bit
+bit-below x i j h =
+    let a : j ≡ j - i + i = omega arith in
+    let b : j - i ≡ j - i - 1 + 1 = omega arith in
+    let e : x % 2 ^ j / 2 ^ i % 2 ≡ x / 2 ^ i % 2 =
+    ap (λ (k : ℕ). x % 2 ^ k / 2 ^ i % 2) a
+    ∙ ap (λ (y : ℕ). y % 2) (field x (j - i) i)
+    ∙ ap (λ (k : ℕ). x / 2 ^ i % 2 ^ k % 2) b
+    ∙ mod-mod-pow (x / 2 ^ i) (j - i - 1) 1 in
+    ap (λ (y : ℕ). eqb y 1) e

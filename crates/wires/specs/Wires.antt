@@ -3,13 +3,14 @@
 -- `proofs/Reading.antt` shows that rows so read are those of specs/Ways.antt of crate `calculation`.
 -- Assumes nothing.
 use mathlib.Core.Bool.{Bool, false, not, _&&_, _||_}
-use mathlib.Core.List.{List}
-use Prim.Native.Nat.{ℕ, zero, suc, _+_, _*_, _-_, _/_, _%_}
+use mathlib.Core.List.{List, [], _∷_}
+use Prim.Native.Nat.{ℕ, zero, suc, _+_, _*_, _-_, _/_, _%_, _^_, _≤_, _<_}
 use lib.Dec.{eqb}
 use lib.ListN.{getD}
 use Rattle.sizes.specs.Sizes as Size
 use Rattle.reading.specs.Choice.{pick}
-use Rattle.cell_library.specs.Cells.{bit}
+use Rattle.row_sums.specs.Gone.{columnsGone}
+use Rattle.cell_library.specs.Library.{anyOf}
 use Rattle.calculation.specs.Ways.{bothValues}
 
 -- Whether one of the numbers below `count` passes.
@@ -19,40 +20,39 @@ anyBelow p (suc i) = p i || anyBelow p i
 
 -- ---- a row
 
+-- A CC or SC row of a cell with so many pins: it names columns of the pins alone ("7 a row with a bit above its columns").
+pub record SettingRow (pins columns : ℕ) : Type 0 where
+  pub few : pins ≤ Size.pins
+  pub within : columns < 2 ^ (2 * pins)
+
+abbrev pub columnValue : ℕ → ℕ
+columnValue j = 1 - j % 2
+
 module _ (lines : List ℕ) (n : ℕ) where
   abbrev pub columnLine : ℕ → ℕ
   columnLine j = getD lines (n - j / 2) 0
 
-  abbrev pub columnValue : ℕ → ℕ
-  columnValue j = 1 - j % 2
+  -- Whether column j asks for line l at v.
+  unfoldable pub asksFor : ℕ → ℕ → ℕ → Bool
+  asksFor l v j = eqb (columnLine j) l && eqb (columnValue j) v
 
-  -- Whether a row names column j and asks by it for line l at v.
-  unfoldable pub asksAt : ℕ → ℕ → ℕ → ℕ → Bool
-  asksAt columns l v j = bit columns j && (eqb (columnLine j) l && eqb (columnValue j) v)
-
-  -- Whether a column below j asks for column j's line at v.
+  -- Whether one of the columns that a row names below column j asks for column j's line at v. They are gone to "from one named
+  -- column straight to the next by counting trailing zeros" (02, K4), as all columns here.
   unfoldable pub askedBelow : ℕ → ℕ → ℕ → Bool
-  askedBelow columns v j = anyBelow (asksAt columns (columnLine j) v) j
+  askedBelow columns v j = anyOf (asksFor (columnLine j) v) (columnsGone (columns % 2 ^ j))
 
-  -- "once, at its lowest column": column j is named, and no lower one asks for the same.
-  unfoldable pub keeps : ℕ → ℕ → Bool
-  keeps columns j = bit columns j && not (askedBelow columns (columnValue j) j)
+-- A number by its bits: those of a list that pass.
+unfoldable pub bitsOf : (ℕ → Bool) → List ℕ → ℕ
+bitsOf p [] = 0
+bitsOf p (j ∷ js) = pick (p j) (2 ^ j) 0 + bitsOf p js
 
-  -- Column j is named, and a lower one asks for the other value of its line.
-  unfoldable pub opposed : ℕ → ℕ → Bool
-  opposed columns j = bit columns j && askedBelow columns (1 - columnValue j) j
-
--- A number by its bits: so many, from bit `first` on.
-unfoldable pub masked : (ℕ → Bool) → ℕ → ℕ → ℕ
-masked p zero first = 0
-masked p (suc count) first = pick (p first) 1 0 + 2 * masked p count (suc first)
-
--- The columns of a CC or SC row that are left where each line is asked for once; whether the row needs 0 and 1 of one line.
+-- The columns of a CC or SC row that are left where each line is asked for "once, at its lowest column": those below which none
+-- asks for the same. Whether the row "needs 0 and 1 of one line": a column below one of its columns asks for the other value.
 unfoldable pub onceColumns : List ℕ → ℕ → ℕ → ℕ
-onceColumns lines n columns = masked (keeps lines n columns) (2 * n) 0
+onceColumns lines n columns = bitsOf (λ j. not (askedBelow lines n columns (columnValue j) j)) (columnsGone columns)
 
 unfoldable pub bothColumns : List ℕ → ℕ → ℕ → Bool
-bothColumns lines n columns = anyBelow (opposed lines n columns) (2 * n)
+bothColumns lines n columns = anyOf (λ j. askedBelow lines n columns (1 - columnValue j) j) (columnsGone columns)
 
 -- ---- a gate
 

@@ -2,125 +2,128 @@
 // SC rows are read.
 //
 // For the crates above: `tied`, whether a gate's rows are read so, which is asked once for each gate;
-// `needs_both` and `once`, of a row of such a gate; `cell_both`, whether a cell is none of one wire.
+// `needs_both` and `once`, of a row of such a gate, which go "from one named column straight to the next by
+// counting trailing zeros" (02, K4); `cell_both`, whether a cell is none of one wire.
 // specs/Wires.antt says what each answers.
-ghost use mathlib.Core.Bool.{_&&_};
+ghost use mathlib.Core.Bool.{not, _&&_};
 ghost use mathlib.Core.Path.{_≡_};
 ghost use Prim.Native.Nat.{_+_, _*_, _^_, _≤_, _<_};
 ghost use lib.ListN.{length, getD};
 ghost use Rattle.sizes.specs.Sizes as Size;
 ghost use Rattle.reading.specs.Choice.{pick};
+ghost use Rattle.row_sums.specs.Gone.{columnsGone};
 ghost use Rattle.cell_library.specs.Cells.{bit};
+ghost use Rattle.cell_library.specs.Library.{anyOf};
 ghost use Rattle.calculation.specs.Ways.{bothValues};
-ghost use Rattle.wires.specs.Wires.{anyBelow, asksAt, keeps, opposed, onceColumns, bothColumns};
+ghost use Rattle.wires.specs.Wires.{SettingRow, columnValue, asksFor, askedBelow, onceColumns, bothColumns};
 ghost use Rattle.wires.specs.Wires.{readBefore, sharesLine, groupBoth, cellBoth, tiedAt};
+use row_sums::bits::lowest;
+use row_sums::kinds::wide;
 use table::word;
 
-// Whether a row names a column.
-fn names(columns: u32, column: usize) -> bool
-    requires { ⌜ column < 32 ⌝ }
-    ensures { λ r. ⌜ r ≡ bit columns column ⌝ }
-{
-    (columns >> column) % 2 == 1
-}
-
-// Whether a row asks by a column for a line at a value.
+// Whether a column asks for a line at a value.
 fn asks(
     lines: &[u32; sizes::GATE_LINES],
     pins: usize,
-    columns: u32,
     line: u32,
     value: usize,
     column: usize,
 ) -> bool
     requires { ⌜ (pins ≤ Size.pins) × (column < 2 * pins) ⌝ }
-    ensures { λ r. ⌜ r ≡ asksAt (now (lines .entry)) pins columns line value column ⌝ }
+    ensures { λ r. ⌜ r ≡ asksFor (now (lines .entry)) pins line value column ⌝ }
 {
-    if !names(columns, column) {
-        return false;
-    }
     if lines[pins - column / 2] != line {
         return false;
     }
     1 - column % 2 == value
 }
 
-// Whether one of the columns below `end` asks for a line at a value.
+// Whether one of the columns that a row names asks for a line at a value.
 fn any_asks(
     lines: &[u32; sizes::GATE_LINES],
     pins: usize,
     columns: u32,
     line: u32,
     value: usize,
-    end: usize,
 ) -> bool
-    requires { ⌜ (pins ≤ Size.pins) × (end ≤ 2 * pins) ⌝ }
-    ensures { λ r. ⌜ r ≡ anyBelow (asksAt (now (lines .entry)) pins columns line value) end ⌝ }
+    requires { ⌜ SettingRow pins columns ⌝ }
+    ensures { λ r. ⌜ r ≡ anyOf (asksFor (now (lines .entry)) pins line value) (columnsGone columns) ⌝ }
 {
-    let mut i = 0;
-    while i < end {
-        if asks(lines, pins, columns, line, value, i) {
+    let mut rest = columns;
+    while rest != 0 {
+        let column = wide(lowest(rest));
+        if asks(lines, pins, line, value, column) {
             return true;
         }
-        i += 1;
+        rest = rest & (rest - 1);
     }
     false
+}
+
+// A column by its bit.
+fn bit_of(column: usize) -> u32
+    requires { ⌜ column < 32 ⌝ }
+    ensures { λ r. ⌜ r ≡ 2 ^ column ⌝ }
+{
+    1u32 << column
+}
+
+// Whether one of the columns that a row names below a column asks for that column's line at a value.
+fn asked_below(
+    lines: &[u32; sizes::GATE_LINES],
+    pins: usize,
+    columns: u32,
+    value: usize,
+    column: usize,
+) -> bool
+    requires { ⌜ (pins ≤ Size.pins) × (column < 2 * pins) ⌝ }
+    ensures { λ r. ⌜ r ≡ askedBelow (now (lines .entry)) pins columns value column ⌝ }
+{
+    let line = lines[pins - column / 2];
+    any_asks(lines, pins, columns % bit_of(column), line, value)
 }
 
 // The bit of a column that is left, "once, at its lowest column".
 fn kept(lines: &[u32; sizes::GATE_LINES], pins: usize, columns: u32, column: usize) -> u32
     requires { ⌜ (pins ≤ Size.pins) × (column < 2 * pins) ⌝ }
-    ensures { λ r. ⌜ r ≡ pick (keeps (now (lines .entry)) pins columns column) 1 0 ⌝ }
+    ensures { λ r.
+        ⌜ r ≡ pick (not (askedBelow (now (lines .entry)) pins columns (columnValue column) column))
+        (2 ^ column) 0 ⌝ }
 {
-    if !names(columns, column) {
+    if asked_below(lines, pins, columns, 1 - column % 2, column) {
         return 0;
     }
-    let line = lines[pins - column / 2];
-    if any_asks(lines, pins, columns, line, 1 - column % 2, column) {
-        return 0;
-    }
-    1
+    bit_of(column)
 }
 
 // The columns of a row that are left: "the same value of the same line through several pins is paid
 // and written out once, at its lowest column".
 pub fn once(lines: &[u32; sizes::GATE_LINES], pins: usize, columns: u32) -> u32
-    requires { ⌜ pins ≤ Size.pins ⌝ }
+    requires { ⌜ SettingRow pins columns ⌝ }
     ensures { λ r. ⌜ r ≡ onceColumns (now (lines .entry)) pins columns ⌝ }
 {
     let mut left = 0;
-    let mut column = 2 * pins;
-    while 0 < column {
-        column -= 1;
-        left = 2 * left + kept(lines, pins, columns, column);
+    let mut rest = columns;
+    while rest != 0 {
+        let column = wide(lowest(rest));
+        left = left + kept(lines, pins, columns, column);
+        rest = rest & (rest - 1);
     }
     left
 }
 
-// Whether a lower column asks for the other value of a column's line.
-fn opposes(lines: &[u32; sizes::GATE_LINES], pins: usize, columns: u32, column: usize) -> bool
-    requires { ⌜ (pins ≤ Size.pins) × (column < 2 * pins) ⌝ }
-    ensures { λ r. ⌜ r ≡ opposed (now (lines .entry)) pins columns column ⌝ }
-{
-    if !names(columns, column) {
-        return false;
-    }
-    let line = lines[pins - column / 2];
-    any_asks(lines, pins, columns, line, column % 2, column)
-}
-
 // Whether a row "needs 0 and 1 of one line".
 pub fn needs_both(lines: &[u32; sizes::GATE_LINES], pins: usize, columns: u32) -> bool
-    requires { ⌜ pins ≤ Size.pins ⌝ }
+    requires { ⌜ SettingRow pins columns ⌝ }
     ensures { λ r. ⌜ r ≡ bothColumns (now (lines .entry)) pins columns ⌝ }
 {
-    let end = 2 * pins;
-    let mut column = 0;
-    while column < end {
-        if opposes(lines, pins, columns, column) {
+    let mut rest = columns;
+    while rest != 0 {
+        let column = wide(lowest(rest));
+        if asked_below(lines, pins, columns, column % 2, column) {
             return true;
         }
-        column += 1;
+        rest = rest & (rest - 1);
     }
     false
 }
@@ -153,6 +156,14 @@ fn shares_line(lines: &[u32; sizes::GATE_LINES], pins: usize) -> bool
         p += 1;
     }
     false
+}
+
+// Whether a row names a column.
+fn names(columns: u32, column: usize) -> bool
+    requires { ⌜ column < 32 ⌝ }
+    ensures { λ r. ⌜ r ≡ bit columns column ⌝ }
+{
+    (columns >> column) % 2 == 1
 }
 
 // Whether a row names a column and the one above it.

@@ -9,7 +9,7 @@ use Rattle.reading.specs.Choice.{pick}
 use Rattle.netlist.specs.Gates.{gateCell}
 use Rattle.gates.specs.Tables.{gatePins, byRole, visitGroup, gateTied}
 use Rattle.gates.specs.Fits.{GateFits}
-use Rattle.budget.proofs.Offers.{pins-few, sum-fits, gather-fits, offer-is}
+use Rattle.budget.proofs.Offers.{least-fits, gather-fits, offer-is}
 use Rattle.budget.proofs.offer_of.Statement.{statement}
 use Rattle.budget.proofs.offer_of.Tie as tie
 
@@ -56,12 +56,9 @@ least-of-requires c κs =
     let g = c .before .before in
     let x = lined (g .before) in
     let s = began x in
-    let a = s .args in (
-      pins-few (a .library .now) (a .netlist .now) (a .links .now) (a .numbers .now) (a .gate) (a .value) (s .pre .0) (s .pre .1) (x .lines-of .result) (x .before .wide .result) (groupAt g)
-          (x .lines-of .ensures) (pins-are x) (group-stands g),
-      sum-fits (a .library .now) (a .netlist .now) (a .links .now) (a .numbers .now) (a .gate) (a .value) (s .pre .0) (s .pre .1) (x .lines-of .result) (x .before .wide .result) (groupAt g)
-          (x .lines-of .ensures) (pins-are x) (group-stands g) _ (g .before .column-costs .ensures .size),
-    )
+    let a = s .args in
+    least-fits (a .library .now) (a .netlist .now) (a .links .now) (a .numbers .now) (a .gate) (a .value) (s .pre .0) (s .pre .1) (x .lines-of .result) (x .before .wide .result) (groupAt g)
+    (x .lines-of .ensures) (pins-are x) (group-stands g) _ _ (g .before .column-costs .ensures .size)
 
 returns : tie.Need-returns
 returns c =
@@ -71,8 +68,8 @@ returns c =
     let x = t .before in
     let s = began x in
     let a = s .args in
-    c .number-of .ensures
-    ∙ l .least-of .ensures
+    c .spatial-of .ensures
+    ∙ l .least-of .ensures .comesTo
     ∙ offer-is (a .library .now) (a .netlist .now) (a .links .now) (a .numbers .now) (a .gate) (a .value) (s .pre .0) (s .pre .1) (x .lines-of .result) (x .before .wide .result) (groupAt g)
     (x .lines-of .ensures) (pins-are x) (group-stands g) (t .is-tied .result) (tied-is t) _ (g .before .column-costs .ensures)
 
@@ -98,5 +95,5 @@ offer-of-spec =
     (λ c. omega (arith, group-few c))
     (λ c. let f = gate-fits (began (lined (c .before))) in omega (arith, group-few c))
     least-of-requires
-    (λ c κs. search needs)
+    (λ c κs. c .least-of .ensures .ofKind)
     returns)

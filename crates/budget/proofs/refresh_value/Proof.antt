@@ -43,7 +43,7 @@ returns-2 c =
     let a = s .args in
     put-same (l .leaf-of .ensures)
     (open-bid (a .library .now) (a .netlist .now) (a .numbers .now) (a .gate) (a .value) (l .leaf-of .result) (k .leaf-place .result)
-    (s .pre .0 .size) (stands s) (s .pre .1) (l .leaf-of .ensures) (k .leaf-place .ensures .0) (t .if1 .left) (o .offer-of .result) (o .offer-of .ensures))
+    (s .pre .0 .size) (stands s) (s .pre .1) (l .leaf-of .ensures) (k .leaf-place .ensures .0) (t .if1 .left) (o .offer-of .result .0) (o .offer-of .ensures))
     (c .put2 .ensures)
 
 pub refresh-value-spec : {M : Type 1} → statement M

@@ -23,4 +23,4 @@ unfolding readRow hasWay
 returns-2 c = rw (c .if1 .left)
 
 pub is-way-spec : {M : Type 1} → statement M
-is-way-spec = tie.close (tie.spec (λ c κs. search needs) returns returns-2)
+is-way-spec = tie.close (tie.spec (λ c κs. let p = c .before .pre in record { few = p .few; within = p .within (c .if1 .taken) }) returns returns-2)

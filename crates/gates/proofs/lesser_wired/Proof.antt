@@ -19,8 +19,12 @@ returns c = record { ofKind = refl; comesTo = rw (sym (c .before .needs-both .en
 lesser-row-requires : tie.Need-lesser-row-requires
 lesser-row-requires c κs =
     let s = c .before .before .before in
-    let n : 2 * s .args .pins ≤ Size.columns = omega arith in
-    record { size = s .pre .1; few = omega (arith, c .once .ensures, once-few (s .args .lines .now) (s .args .pins) (s .args .columns), pow-mono n) }
+    let a = s .args in
+    let n : 2 * a .pins ≤ Size.columns = omega (arith, s .pre .0 .few) in
+    record {
+      size = s .pre .1;
+      few = rw (c .once .ensures) (once-few (a .lines .now) (a .pins) (a .columns) Size.columns (omega arith) (omega (arith, s .pre .0 .within, pow-mono n)));
+    }
 
 returns-2 : tie.Need-returns-2
 unfolding readRow pick lesserRow

@@ -10,7 +10,7 @@ unfolding sumKind sumNumber
 returns c =
     let s = c .before .before in
     let a = s .before .before .before .before .args in
-    row-lesser (a .costs .now) (a .depth) (a .columns) (s .before .before .best .given .1)
+    row-lesser (a .costs .now) (a .depth) (a .columns) (s .before .before .before .before .pre) (s .before .before .best .given .1)
     (s .columns-sum .ensures) (c .before .plus .ensures) refl (c .lesser .ensures)
 
 returns-2 : tie.Need-returns-2
@@ -18,7 +18,7 @@ unfolding sumKind sumNumber
 returns-2 c =
     let s = c .before .before in
     let a = s .before .before .before .before .args in
-    row-lesser (a .costs .now) (a .depth) (a .columns) (s .before .before .best2 .given .1)
+    row-lesser (a .costs .now) (a .depth) (a .columns) (s .before .before .before .before .pre) (s .before .before .best2 .given .1)
     (s .columns-sum2 .ensures) (c .before .plus2 .ensures) refl (c .lesser2 .ensures)
 
 pub lesser-row-spec : {M : Type 1} → statement M

@@ -16,4 +16,4 @@ unfolding askingColumns pick
 returns-2 c = rw (c .if1 .left) refl
 
 pub asking-columns-spec : {M : Type 1} → statement M
-asking-columns-spec = tie.close (tie.spec (λ c κs. search needs) returns returns-2)
+asking-columns-spec = tie.close (tie.spec (λ c κs. let p = c .before .pre in record { few = p .few; within = p .within (c .if1 .taken) }) returns returns-2)

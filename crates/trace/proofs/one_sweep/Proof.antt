@@ -37,7 +37,7 @@ visit-requires c κs =
     let w = l .before .before in
     let s = began w in
     let f = s .pre .0 in (
-      record { kindFits = f .kindFits; tablesFit = f .tablesFit; linked = f .linked; size = l .before .loop .inv .2; marksSize = l .before .loop .inv .3 },
+      record { kindFits = f .kindFits; tablesFit = f .tablesFit; linked = f .linked; size = l .before .loop .inv .2; bounded = l .before .loop .inv .1 .bounded (f .bounded); marksSize = l .before .loop .inv .3 },
       omega (arith, w .count .ensures),
       omega arith,
       omega (arith, few w, s .pre .1),

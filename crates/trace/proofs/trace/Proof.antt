@@ -5,10 +5,11 @@ use Prim.Native.Nat.{ℕ, suc, _+_, _*_, _-_, _≤_}
 use native.Mathlib.Omega.{arith}
 use lib.ListN.{length, getD, length-replicate}
 use Rattle.sizes.specs.Sizes as Size
+use Rattle.plans.specs.Sweep.{Bounded}
 use Rattle.sweep.proofs.Calculating.{room, link-fits}
 use Rattle.starting.proofs.Starting.{laid-length}
 use Rattle.trace.specs.Marks.{Stands}
-use Rattle.trace.proofs.Running.{after, begins, one-more, tables, few-gates, ends-all, ends-early}
+use Rattle.trace.proofs.Running.{after, begins, starts-bounded, one-more, tables, few-gates, ends-all, ends-early}
 use Rattle.trace.proofs.trace.Statement.{statement}
 use Rattle.trace.proofs.trace.Tie as tie
 
@@ -20,6 +21,7 @@ Inv-loop kind library netlist marks₀ gates links numbers₀ clock₀ left₀ m
     × Stands kind library netlist (after kind library netlist (2 * gates + 1 - left)) numbers marks
     × (length numbers ≡ Size.numbers)
     × (length marks ≡ Size.marks)
+    × Bounded numbers
 
 abbrev μ-loop : tie.MeasureT-loop
 μ-loop kind library netlist marks₀ gates links numbers₀ clock₀ left₀ marks numbers clock left = left
@@ -51,8 +53,15 @@ loop-holds c =
     let s = began c in
     let a = s .args in
     let none : 2 * counted c .count .result + 1 - (2 * counted c .count .result + 1) ≡ 0 = omega arith in
-    let b = begins (a .kind) (a .library .now) (a .netlist .now) _ _ (c .start .ensures) (s .pre .unmarked) in
-    (omega arith, omega arith, rw none (b .1), rw none (b .0), ap length (c .start .ensures) ∙ laid-length false (a .netlist .now) Size.lines 1, ap length (s .pre .unmarked) ∙ length-replicate {A = ℕ} Size.marks 0)
+    let b = begins (a .kind) (a .library .now) (a .netlist .now) _ _ (c .start .ensures) (s .pre .unmarked) in (
+      omega arith,
+      omega arith,
+      rw none (b .1),
+      rw none (b .0),
+      ap length (c .start .ensures) ∙ laid-length false (a .netlist .now) Size.lines 1,
+      ap length (s .pre .unmarked) ∙ length-replicate {A = ℕ} Size.marks 0,
+      rw (c .start .ensures) (starts-bounded (a .kind) (a .library .now) (a .netlist .now) (s .pre .cells) (s .pre .statements) (s .pre .holds)),
+    )
 
 one-sweep-requires : tie.Need-one-sweep-requires Inv-loop μ-loop
 one-sweep-requires c κs =
@@ -65,6 +74,7 @@ one-sweep-requires c κs =
         tablesFit = tables (a .kind) (a .library .now) (a .netlist .now) (s .pre .cells) (s .pre .statements) (s .pre .holds);
         linked = linked (started l) .link .ensures;
         size = i .4;
+        bounded = i .6;
         marksSize = i .5;
       },
       omega (arith, few (started l)),
@@ -93,7 +103,7 @@ loop-again c =
     let i = l .before .loop .inv in
     let m = more o in
     let n : 2 * counted b .count .result + 1 - (l .before .loop .left - 1) ≡ suc (2 * counted b .count .result + 1 - l .before .loop .left) = omega arith in
-    (omega arith, omega (arith, few b), rw n (m .1 ∙ omega (arith, counted b .count .ensures)), rw n (m .0), o .one-sweep .ensures .long ∙ i .4, o .one-sweep .ensures .marksLong ∙ i .5)
+    (omega arith, omega (arith, few b), rw n (m .1 ∙ omega (arith, counted b .count .ensures)), rw n (m .0), o .one-sweep .ensures .long ∙ i .4, o .one-sweep .ensures .marksLong ∙ i .5, o .one-sweep .ensures .bounded (i .6))
 
 untrue : (b : Bool) → not b ≡ true → b ≡ false
 untrue true e = let z : _≡_ {A = ℕ} 0 1 = cc in absurd (omega arith)

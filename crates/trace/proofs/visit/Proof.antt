@@ -1,11 +1,12 @@
 -- `visit` gathers the costs of the gate's columns, and lowers the number where the least row sum is below it. Assumes nothing.
 use mathlib.Core.Bool.{Bool}
 use mathlib.Core.List.{List}
-use mathlib.Core.Path.{_≡_, refl, ap, ap₂, _∙_}
+use mathlib.Core.Path.{_≡_, refl, sym, ap, ap₂, _∙_}
 use Prim.Native.Nat.{ℕ, _+_, _*_, _^_, _≤_, _<_}
 use native.Mathlib.Omega.{arith}
 use lib.ListN.{length, getD}
 use borrow.Author.Needs.{needs}
+use borrow.Author.Tests.{not-true, not-false}
 use Rattle.sizes.specs.Sizes as Size
 use Rattle.sizes.specs.Places.{groupPlace}
 use Rattle.reading.specs.Choice.{pick}
@@ -13,7 +14,7 @@ use Rattle.netlist.specs.Gates.{gateCell}
 use Rattle.gates.specs.Tables.{gatePins, byRole, visitGroup, gateTied}
 use Rattle.gates.specs.Fits.{LinesFit, GateFits}
 use Rattle.trace.specs.Marks.{asWritten, askingColumns}
-use Rattle.trace.proofs.Visits.{lines-fit, rows-room, sum-fits, gather-fits, place-inside, traced-still, traced-lowered}
+use Rattle.trace.proofs.Visits.{lines-fit, rows-room, least-fits, gather-fits, place-inside, place-kind, row-fits, traced-still, traced-lowered}
 use Rattle.trace.proofs.visit.Statement.{statement}
 use Rattle.trace.proofs.visit.Tie as tie
 
@@ -118,14 +119,15 @@ wired-is c =
 
 returns : tie.Need-returns
 returns c =
-    let k = c .before .before .before in
+    let k = c .before .before .before .before .before in
     let p = placed k in
     let g = grouped p in
     let x = lined (gathered g) in
     let s = began x in
     let a = s .args in
     traced-still (a .kind) (a .library .now) (a .netlist .now) (a .links .now) (a .numbers .now) (a .marks .now) (s .pre .0) (a .gate) (a .value) (s .pre .1) (s .pre .2) (x .lines-of .result) (x .before .wide .result) (groupAt g)
-    (x .lines-of .ensures) (pins-are x) (group-stands g) (p .visit-place .result) (p .visit-place .ensures) _ (wired-is k) _ (gathered g .column-costs .ensures) (k .least-row .result) (k .least-row .ensures) (a .clock) (search needs)
+    (x .lines-of .ensures) (pins-are x) (group-stands g) (p .visit-place .result) (p .visit-place .ensures) _ (wired-is k) _ (gathered g .column-costs .ensures) (k .least-row .result) (k .least-row .ensures)
+    (c .before .before .before .lesser-of .ensures .comesTo) (c .before .store .ensures) (a .clock) (not-true _ (c .if1 .taken))
 
 written-same : {h h′ d d′ c c′ : ℕ} → h ≡ h′ → d ≡ d′ → c ≡ c′ → asWritten h d c ≡ asWritten h′ d′ c′
 written-same p q r = rw (p, q, r) refl
@@ -135,18 +137,18 @@ asking-same p q r s = rw (p, q, r, s) refl
 
 -- The columns of the row that was found.
 columns-are : (c : tie.After-word) → c .word .result
-    ≡ getD (began (lined (gathered (grouped (placed (c .before .before .before .before .before))))) .args .library .now)
-    (groupPlace (gateCell (began (lined (gathered (grouped (placed (c .before .before .before .before .before))))) .args .netlist .now) (began (lined (gathered (grouped (placed (c .before .before .before .before .before))))) .args .gate))
-    (visitGroup 0 (began (lined (gathered (grouped (placed (c .before .before .before .before .before))))) .args .kind) (began (lined (gathered (grouped (placed (c .before .before .before .before .before))))) .args .value)) + 1 + 2 * c .before .before .before .before .before .least-row .result .row + 1) 0
+    ≡ getD (began (lined (gathered (grouped (placed (c .before .before .before .before .before .before .before))))) .args .library .now)
+    (groupPlace (gateCell (began (lined (gathered (grouped (placed (c .before .before .before .before .before .before .before))))) .args .netlist .now) (began (lined (gathered (grouped (placed (c .before .before .before .before .before .before .before))))) .args .gate))
+    (visitGroup 0 (began (lined (gathered (grouped (placed (c .before .before .before .before .before .before .before))))) .args .kind) (began (lined (gathered (grouped (placed (c .before .before .before .before .before .before .before))))) .args .value)) + 1 + 2 * c .before .before .before .before .before .before .before .least-row .result .row + 1) 0
 columns-are c =
-    let k = c .before .before .before .before .before in
+    let k = c .before .before .before .before .before .before .before in
     let g = grouped (placed k) in
     c .word .ensures ∙ ap (λ (n : ℕ). getD (began (lined (gathered g)) .args .library .now) (n + 1 + 2 * k .least-row .result .row + 1) 0) (group-stands g)
 
 returns-2 : tie.Need-returns-2
 unfolding byRole pick
 returns-2 c =
-    let k = c .before .before .before .before .before .before .before .before .before .before .before .before .before in
+    let k = c .before .before .before .before .before .before .before .before .before .before .before .before .before .before .before in
     let w = c .before .before .before .before .before .before .before .before in
     let p = placed k in
     let g = grouped p in
@@ -156,14 +158,45 @@ returns-2 c =
     let cols = columns-are w in
     traced-lowered (a .kind) (a .library .now) (a .netlist .now) (a .links .now) (a .numbers .now) (a .marks .now) (s .pre .0) (a .gate) (a .value) (s .pre .1) (s .pre .2) (x .lines-of .result) (x .before .wide .result) (groupAt g)
     (x .lines-of .ensures) (pins-are x) (group-stands g) (p .visit-place .result) (p .visit-place .ensures) _ (wired-is k) _ (gathered g .column-costs .ensures) (k .least-row .result) (k .least-row .ensures)
+    (c .before .before .before .before .before .before .before .before .before .before .before .before .before .lesser-of .ensures .comesTo) (c .before .before .before .before .before .before .before .before .before .before .before .store .ensures) (not-false _ (c .before .before .before .before .before .before .before .before .before .before .if1 .left))
     _ (a .clock) _ _ _ refl
     (c .before .before .before .before .before .as-written .ensures
     ∙ written-same (c .before .before .before .before .before .before .before .word2 .ensures ∙ ap (λ (n : ℕ). getD (a .library .now) (n + Size.headingAt) 0) (celled x .cell-place .ensures))
     (c .before .before .before .before .before .before .word3 .ensures ∙ ap (λ (n : ℕ). getD (a .library .now) (n + 1 + 2 * k .least-row .result .row) 0) (group-stands g)) cols)
     (c .before .before .before .asking-columns .ensures ∙ asking-same (wired-is k) (x .lines-of .ensures) (pins-are x) cols)
     (ap₂ (λ (n m : ℕ). n + 1 + m) (c .before .place-of .ensures) (pins-are x))
-    (omega (arith, c .before .before .before .before .before .before .before .before .before .before .if1 .left))
     _ (c .note .ensures)
+
+-- The sum is of the kind of its place.
+store-requires : tie.Need-store-requires
+store-requires c κs =
+    let k = c .before .before .before in
+    let p = placed k in
+    let g = grouped p in
+    let x = lined (gathered g) in
+    let s = began x in
+    let a = s .args in
+    record {
+      inside = low p;
+      size = s .pre .0 .size;
+      ofKind =
+          c .before .lesser-of .ensures .ofKind ∙ k .least-row .ensures .sum .ofKind
+          ∙ sym (place-kind (a .kind) (a .library .now) (a .netlist .now) (a .links .now) (a .numbers .now) (a .marks .now) (s .pre .0) (a .gate) (a .value) (s .pre .1) (s .pre .2) (x .lines-of .result) (x .before .wide .result) (groupAt g)
+          (x .lines-of .ensures) (pins-are x) (group-stands g) (p .visit-place .result) (p .visit-place .ensures));
+    }
+
+asking-columns-requires : tie.Need-asking-columns-requires
+asking-columns-requires c κs =
+    let k = c .before .before .before .before .before .before .before .before .before .before .before in
+    let p = placed k in
+    let g = grouped p in
+    let x = lined (gathered g) in
+    let s = began x in
+    let a = s .args in
+    rw (c .before .before .before .before .word .ensures)
+    (row-fits (a .kind) (a .library .now) (a .netlist .now) (a .links .now) (a .numbers .now) (a .marks .now) (s .pre .0) (a .gate) (a .value) (s .pre .1) (s .pre .2) (x .lines-of .result) (x .before .wide .result) (groupAt g)
+    (x .lines-of .ensures) (pins-are x) (group-stands g) (p .visit-place .result) (p .visit-place .ensures) _ (wired-is k) _ (gathered g .column-costs .ensures) (k .least-row .result) (k .least-row .ensures)
+    (c .before .before .before .before .before .before .before .before .before .lesser-of .ensures .comesTo) (c .before .before .before .before .before .before .before .store .ensures) (not-false _ (c .before .before .before .before .before .before .if1 .left)))
 
 pub visit-spec : {M : Type 1} → statement M
 visit-spec =
@@ -193,31 +226,29 @@ visit-spec =
     let g = grouped (c .before .before .before) in
     let x = lined (gathered g) in
     let s = began x in
-    let a = s .args in (
-      fit x .count,
-      sum-fits (a .kind) (a .library .now) (a .netlist .now) (a .links .now) (a .numbers .now) (a .marks .now) (s .pre .0) (a .gate) (a .value) (s .pre .1) (s .pre .2) (x .lines-of .result) (x .before .wide .result) (groupAt g)
-          (x .lines-of .ensures) (pins-are x) (group-stands g) _ (gathered g .column-costs .ensures .size),
-    ))
+    let a = s .args in
+    least-fits (a .kind) (a .library .now) (a .netlist .now) (a .links .now) (a .numbers .now) (a .marks .now) (s .pre .0) (a .gate) (a .value) (s .pre .1) (s .pre .2) (x .lines-of .result) (x .before .wide .result) (groupAt g)
+    (x .lines-of .ensures) (pins-are x) (group-stands g) _ _ (gathered g .column-costs .ensures .size))
     (λ c. omega (arith, low (placed c)))
     (λ c. low (placed c))
+    (λ c κs. tt)
+    store-requires
     returns
-    (λ c. omega (arith, low (placed (c .before .before .before))))
-    (λ c. low (placed (c .before .before .before)))
-    (λ c. omega (arith, room (c .before .before .before)))
-    (λ c. omega (arith, room (c .before .before .before .before)))
-    (λ c. omega (arith, room (c .before .before .before .before)))
-    (λ c. omega (arith, room (c .before .before .before .before)))
-    (λ c κs. search needs)
     (λ c. omega (arith, room (c .before .before .before .before .before)))
+    (λ c. omega (arith, room (c .before .before .before .before .before .before)))
+    (λ c. omega (arith, room (c .before .before .before .before .before .before)))
+    (λ c. omega (arith, room (c .before .before .before .before .before .before)))
+    (λ c κs. search needs)
+    (λ c. omega (arith, room (c .before .before .before .before .before .before .before)))
     (λ c κs. search needs)
     (λ c κs. search needs)
     (λ c κs. search needs)
-    (λ c κs. small (c .before .before .before .before .before .before .before .before .before) .1)
+    asking-columns-requires
     (λ c. search needs)
-    (λ c. omega (arith, began (lined (gathered (grouped (placed (c .before .before .before .before .before .before .before .before .before .before .before))))) .pre .3))
-    (λ c κs. omega (arith, small (c .before .before .before .before .before .before .before .before .before .before .before)))
-    (λ c. omega (arith, small (c .before .before .before .before .before .before .before .before .before .before .before .before), c .place-of .ensures))
-    (λ c. omega (arith, small (c .before .before .before .before .before .before .before .before .before .before .before .before), c .place-of .ensures))
-    (λ c. omega (arith, small (c .before .before .before .before .before .before .before .before .before .before .before .before), c .place-of .ensures))
-    (λ c κs. let x = lined (gathered (grouped (placed (c .before .before .before .before .before .before .before .before .before .before .before .before)))) in (fit x .most 0 (omega arith), began x .pre .2, began x .pre .0 .marksSize))
+    (λ c. omega (arith, began (lined (gathered (grouped (placed (c .before .before .before .before .before .before .before .before .before .before .before .before .before))))) .pre .3))
+    (λ c κs. omega (arith, small (c .before .before .before .before .before .before .before .before .before .before .before .before .before)))
+    (λ c. omega (arith, small (c .before .before .before .before .before .before .before .before .before .before .before .before .before .before), c .place-of .ensures))
+    (λ c. omega (arith, small (c .before .before .before .before .before .before .before .before .before .before .before .before .before .before), c .place-of .ensures))
+    (λ c. omega (arith, small (c .before .before .before .before .before .before .before .before .before .before .before .before .before .before), c .place-of .ensures))
+    (λ c κs. let x = lined (gathered (grouped (placed (c .before .before .before .before .before .before .before .before .before .before .before .before .before .before)))) in (fit x .most 0 (omega arith), began x .pre .2, began x .pre .0 .marksSize))
     returns-2)

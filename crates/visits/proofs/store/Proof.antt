@@ -1,4 +1,4 @@
--- `store` leaves the number at its place, and its answer compares it with the one that stood there. Assumes nothing.
+-- `store` leaves the sum's number at its place, and its answer compares it with the one that stood there. Assumes nothing.
 use mathlib.Core.Path.{_≡_, refl, sym, _∙_, ap}
 use native.Mathlib.Omega.{arith}
 use lib.ListN.{getD, set}
@@ -12,22 +12,26 @@ use Rattle.visits.proofs.store.Tie as tie
 
 returns : tie.Need-returns
 returns c =
-    let a = c .before .before .args in
-    let e : a .number ≡ at (a .numbers .now) (a .place) = sym (c .if1 .taken) ∙ sym (at-getD (a .numbers .now) (a .place) 0 (omega arith)) in
-    record {
+    let n = c .before .before in
+    let a = n .before .args in
+    let e : n .number-of .result ≡ at (a .numbers .now) (a .place) = sym (c .if1 .taken) ∙ sym (at-getD (a .numbers .now) (a .place) 0 (omega arith)) in
+    rw (← n .number-of .ensures)
+    (record {
       numbers = sym (ap (set (a .numbers .now) (a .place)) (sym (c .if1 .taken)) ∙ set-getD (a .numbers .now) (a .place) 0);
-      flag = rw (eq-eqb (a .number) (at (a .numbers .now) (a .place)) e);
-    }
+      flag = rw (eq-eqb (n .number-of .result) (at (a .numbers .now) (a .place)) e);
+    })
 
 returns-2 : tie.Need-returns-2
 returns-2 c =
-    let a = c .before .before .args in
-    record {
+    let n = c .before .before in
+    let a = n .before .args in
+    rw (← n .number-of .ensures)
+    (record {
       numbers = refl;
-      flag = rw (at-getD (a .numbers .now) (a .place) 0 (omega arith), ne-eqb (a .number) (getD (a .numbers .now) (a .place) 0) (λ e. c .if1 .left (sym e)));
-    }
+      flag = rw (at-getD (a .numbers .now) (a .place) 0 (omega arith), ne-eqb (n .number-of .result) (getD (a .numbers .now) (a .place) 0) (λ e. c .if1 .left (sym e)));
+    })
 
 pub store-spec : {M : Type 1} → statement M
 store-spec =
     tie.close
-    (tie.spec (λ c. search needs) (λ c. search needs) returns (λ c. search needs) (λ c. search needs) returns-2)
+    (tie.spec (λ c κs. tt) (λ c. search needs) (λ c. search needs) returns (λ c. search needs) (λ c. search needs) returns-2)

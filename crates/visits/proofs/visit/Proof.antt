@@ -1,5 +1,5 @@
 -- `visit` stores the lesser of the number and the least row sum. Assumes nothing.
-use mathlib.Core.Path.{refl, _∙_}
+use mathlib.Core.Path.{refl, sym, _∙_}
 use Prim.Native.Nat.{_<_}
 use native.Mathlib.Omega.{arith}
 use lib.ListN.{length}
@@ -14,10 +14,10 @@ abbrev began : tie.After-lowest-already → tie.Start
 began c = c .before .before .before .before
 
 abbrev summed : tie.After-store → tie.After-least-of
-summed c = c .before .before .before .before .before
+summed c = c .before .before .before .before
 
 abbrev renewed : tie.After-store → tie.After-lesser-of
-renewed c = c .before .before .before
+renewed c = c .before .before
 
 -- No sum can be below the number.
 returns : tie.Need-returns
@@ -35,10 +35,17 @@ returns-2 c o led =
     let a = s .args in
     let inside : a .place < length (a .numbers .now) = rw (s .pre .size) (s .pre .placeFits) in
     let sum =
-    group-same (o .gathered) (readRow (a .wired) (a .lines .now) (a .pins)) (read-narrow (a .wired) (a .lines .now) (a .pins) (o .count) (o .wide))
+    group-same (o .gathered) (readRow (a .wired) (a .lines .now) (a .pins)) (read-narrow (a .wired) (a .lines .now) (a .pins) (o .count) (omega (arith, o .few)))
     (a .library .now) (a .group) (o .few) (o .groupFits) in
     visited (groupVisit (a .wired) (a .kind) (a .lines .now) (a .pins) (a .library .now) (a .group) (a .place)) (a .numbers .now) inside (c .store .ensures)
-    (c .before .number-of .ensures ∙ renewed c .lesser-of .ensures ∙ rw (summed c .least-of .ensures, sum))
+    (renewed c .lesser-of .ensures .comesTo ∙ rw (summed c .least-of .ensures .comesTo, sum))
+
+-- The sum is of the kind of its place.
+store-requires : tie.Need-store-requires
+store-requires c κs =
+    let l = c .before .before .before in
+    let p = began (l .before .before) .pre in
+    record { inside = p .placeFits; size = p .size; ofKind = c .before .lesser-of .ensures .ofKind ∙ l .least-of .ensures .ofKind ∙ sym (p .ofKind) }
 
 pub visit-spec : {M : Type 1} → statement M
 visit-spec =
@@ -46,16 +53,15 @@ visit-spec =
     (tie.spec
     (λ c. search needs)
     (λ c. search needs)
-    (λ c. omega (arith, c .before .before .pre .pinsFit))
-    (λ c. omega (arith, c .before .before .pre .pinsFit))
-    (λ c. omega (arith, c .before .before .pre .pinsFit))
-    (λ c. omega (arith, c .before .before .pre .pinsFit))
-    (λ c κs. search needs)
+    (λ c. omega (arith, c .before .before .pre .leastFits .few))
+    (λ c. omega (arith, c .before .before .pre .leastFits .few))
+    (λ c. omega (arith, c .before .before .pre .leastFits .few))
+    (λ c. omega (arith, c .before .before .pre .leastFits .few))
+    (λ c κs. c .before .before .before .pre .leastFits .sumFits .kindFits)
     returns
-    (λ c κs. let p = began (c .before) .pre in (p .pinsFit, p .sumFits))
+    (λ c κs. began (c .before) .pre .leastFits)
     (λ c. search needs)
     (λ c. search needs)
     (λ c κs. search needs)
-    (λ c κs. search needs)
-    (λ c κs. search needs)
+    store-requires
     returns-2)

@@ -9,14 +9,14 @@ use Rattle.sizes.specs.Sizes as Size
 use Rattle.sizes.specs.Places.{groupPlace}
 use Rattle.links.specs.Lines.{Chained, Driven}
 use Rattle.netlist.specs.Gates.{gateCell, gateLines}
-use Rattle.gates.specs.Tables.{gatePins, roleColumns, visitCount, visitGroup, visitWired, gateVisit}
+use Rattle.gates.specs.Tables.{gatePins, roleColumns, visitCount, visitGroup, gateTied, visitWired, gateVisit}
 use Rattle.gates.specs.Fits.{LinesFit, GroupFits, GatherFits, GateFits}
-use Rattle.gates.proofs.Roles.{visit-low, group-low, place-inside}
+use Rattle.gates.proofs.Roles.{visit-low, group-low, place-inside, place-kind}
 use Rattle.visits.specs.Order.{firstVisits}
 use Rattle.plans.specs.Idle.{inTurn}
 use Rattle.visits.specs.Renewed.{Renewed, Swept}
 use Rattle.visits.specs.Waking.{visitLine, DrivenOnce, ChangesWoken}
-use Rattle.visits.proofs.Turning.{rows-same, gather-first, led, visit-fits, costs-of, gather-next}
+use Rattle.visits.proofs.Turning.{wired-setting, rows-same, gather-first, led, visit-fits, costs-of, gather-next}
 use Rattle.visits.proofs.Waking.{line-inside, visit-few, woken-same, changes-none, changes-on}
 use Rattle.visits.proofs.Visits.{swept-none, swept-one, swept-length, next-turn, visit-is}
 use Rattle.visits.proofs.visit_gate.Statement.{statement}
@@ -135,8 +135,11 @@ visit-requires c κs =
     let s = began d in
     let a = s .args in
     visit-fits (a .role) (s .pre .linksFit .kindFits) (lines-fit d) (rows-fit g) (numbers-length l) (g .before .column-costs .ensures)
+    (λ t. wired-setting (a .role) (gateTied (a .library .now) (a .netlist .now) (a .gate)) (sym (wired-are l) ∙ t))
     (rw (p .visit-place .ensures)
     (place-inside (a .role) (a .kind) (d .before .lines-of .result) (d .before .before .wide .result) (l .before .loop .i) (s .pre .linksFit .kindFits) (lines-fit d) (turn l)))
+    (rw (p .visit-place .ensures)
+    (place-kind (a .role) (a .kind) (d .before .lines-of .result) (d .before .before .wide .result) (l .before .loop .i) (s .pre .linksFit .kindFits) (lines-fit d) (turn l)))
 
 -- The visit that was made.
 made : (v : tie.After-visit Inv-loop μ-loop)

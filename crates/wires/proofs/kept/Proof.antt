@@ -1,37 +1,25 @@
--- `kept` is 1 where the column is named and no lower one asks for the same. Assumes nothing.
+-- `kept` is the column's bit where no lower column asks for the same. Assumes nothing.
 use mathlib.Core.Path.{_≡_, sym, _∙_}
+use native.Mathlib.Omega.{arith}
 use borrow.Author.Needs.{needs}
-use borrow.Author.Tests.{not-true, not-false}
 use Rattle.reading.specs.Choice.{pick}
-use Rattle.cell_library.specs.Cells.{bit}
-use Rattle.wires.specs.Wires.{askedBelow, keeps}
 use Rattle.wires.proofs.kept.Statement.{statement}
 use Rattle.wires.proofs.kept.Tie as tie
 
 returns : tie.Need-returns
-unfolding keeps pick
-returns c = rw (sym (c .before .names .ensures) ∙ not-true _ (c .if1 .taken))
+unfolding pick
+returns c = rw (sym (c .before .asked-below .ensures) ∙ c .if1 .taken)
 
 returns-2 : tie.Need-returns-2
-unfolding keeps askedBelow pick
-returns-2 c =
-    rw (sym (c .before .before .before .before .names .ensures) ∙ not-false _ (c .before .before .before .if1 .left), sym (c .before .any-asks .ensures) ∙ c .if2 .taken)
-
-returns-3 : tie.Need-returns-3
-unfolding keeps askedBelow pick
-returns-3 c =
-    rw (sym (c .before .before .before .before .names .ensures) ∙ not-false _ (c .before .before .before .if1 .left), sym (c .before .any-asks .ensures) ∙ c .if2 .left)
+unfolding pick
+returns-2 c = rw (sym (c .before .before .asked-below .ensures) ∙ c .before .if1 .left) (c .bit-of .ensures)
 
 pub kept-spec : {M : Type 1} → statement M
 kept-spec =
     tie.close
     (tie.spec
+    (λ c. search needs)
     (λ c κs. search needs)
     returns
-    (λ c. search needs)
-    (λ c. search needs)
-    (λ c. search needs)
-    (λ c. search needs)
-    (λ c κs. search needs)
-    returns-2
-    returns-3)
+    (λ c κs. omega arith)
+    returns-2)
