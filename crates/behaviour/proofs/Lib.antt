@@ -2,7 +2,6 @@ pub mod Descending
 pub mod Giving
 mod Parting
 mod Telling
-mod Naming
 mod Rows
 mod Example
 mod Planned

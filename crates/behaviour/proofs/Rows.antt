@@ -1,54 +1,30 @@
 -- What the rows of a generated cell tell of its truth table: the fact of crate `truth_tables`, by the columns that a row names.
 -- Assumes nothing.
 use mathlib.Core.Bool.{Bool, true, false}
-use mathlib.Core.List.{List, [], _∷_, _++_, map, List·Memᴰ, List·Memᴰ·head, List·Memᴰ·tail, List·Memᴰ·not-nil, Memᴰ·map, Memᴰ·of-map, List·Memᴰ·append-cases}
+use mathlib.Core.List.{List, _∷_, map, List·Memᴰ, List·Memᴰ·head, Memᴰ·map, Memᴰ·of-map, List·Memᴰ·append-cases}
 use mathlib.Core.Logic.{⊎-elim}
 use mathlib.Core.Option.{Option, none, some}
 use mathlib.Core.Path.{_≡_, refl, sym, subst, ap, _∙_}
 use Prim.Native.Nat.{ℕ, zero, suc, _+_, _*_, _-_, _≤_, _<_}
 use native.Mathlib.Omega.{arith}
-use lib.Dec.{eqb}
 use lib.ListN.{length, getD}
-use borrow.Author.Tests.{eqb-true, eqb-false}
-use Rattle.reading.specs.Choice.{pick}
-use Rattle.reading.proofs.Laws.{by-test, clash}
-use Rattle.cell_library.specs.Cells.{Row, Cell, Column, pin, bitOf, bit, named, pinColumns, settingColumns}
+use borrow.Author.Tests.{eqb-true}
+use Rattle.reading.proofs.Laws.{clash}
+use Rattle.cell_library.specs.Cells.{Row, Cell, pin, bitOf, bit, settingColumns}
 use Rattle.cell_library.specs.Library.{wordGroups}
+use Rattle.cell_library.proofs.Columns.{named-bit, named-listed, pin-column}
 use Rattle.calculation.specs.Nodes.{combinational}
 use Rattle.calculation.specs.Ways.{setting, wordOf, groupIndex, groupOf, columnsOf, namedBy}
-use Rattle.calculation.proofs.Visiting.{MayName, named-may, named-listed}
+use Rattle.calculation.proofs.Visiting.{MayName, named-may}
 use Rattle.truth_tables.specs.Tables.{Term, Setting, digit, output, meets, terms, prime, primes, gives}
 use Rattle.truth_tables.specs.Entries.{termColumns, settingRow, settingGroup, settingGroups}
 use Rattle.truth_tables.proofs.Lists.{any-member, any-found, kept}
+use Rattle.truth_tables.proofs.Columns.{says, term-bit, meets-said, said-meets}
 use Rattle.truth_tables.proofs.Covering.{setting-fact}
 use Rattle.truth_tables.specs.Generated.{Generated}
 use Rattle.behaviour.proofs.Telling.{Met, Tells}
-use Rattle.behaviour.proofs.Naming.{says, term-bit, meets-said, said-meets}
 
 -- ---- the columns of a row
-
-named-bit : (n : ℕ) (cs : List Column) (x : ℕ) (c : Column) → List·Memᴰ c (named n cs x) → bit x (bitOf n c) ≡ true
-unfolding named pick
-named-bit n [] x c m = absurd (List·Memᴰ·not-nil m)
-named-bit n (d ∷ cs) x c m = side (bit x (bitOf n d)) refl (named-bit n cs x c) m
-  where
-    side : (b : Bool) → bit x (bitOf n d) ≡ b → (List·Memᴰ c (named n cs x) → bit x (bitOf n c) ≡ true) → List·Memᴰ c (pick b (d ∷ named n cs x) (named n cs x)) → bit x (bitOf n c) ≡ true
-    side true h r (List·Memᴰ·head e) = subst (λ (t : Column). bit x (bitOf n t) ≡ true) (sym e) h
-    side true h r (List·Memᴰ·tail i) = r i
-    side false h r i = r i
-
-pin-listed : (n j v : ℕ) → j < n → v ≤ 1 → List·Memᴰ (pin (suc j) v) (pinColumns n)
-unfolding pinColumns
-pin-listed zero j v h b = absurd (omega arith)
-pin-listed (suc n) j v h b =
-    by-test (eqb j n)
-    (λ t. here v b (ap suc (eqb-true j n t)))
-    (λ t. List·Memᴰ·tail (List·Memᴰ·tail (pin-listed n j v (omega (arith, eqb-false j n t)) b)))
-  where
-    here : (v : ℕ) → v ≤ 1 → suc j ≡ suc n → List·Memᴰ (pin (suc j) v) (pin (suc n) 1 ∷ pin (suc n) 0 ∷ pinColumns n)
-    here zero b e = List·Memᴰ·tail (List·Memᴰ·head (ap (λ (i : ℕ). pin i 0) e))
-    here (suc zero) b e = List·Memᴰ·head (ap (λ (i : ℕ). pin i 1) e)
-    here (suc (suc v)) b e = absurd (omega arith)
 
 term-length : (n : ℕ) (t : Term) → List·Memᴰ t (terms n) → length t ≡ n
 unfolding terms
@@ -82,7 +58,7 @@ module _ (c : Cell) (e : ℕ) (t : Term) (size : length t ≡ c .pins) where
   says-named j v h b k =
       let place : 2 * (c .pins - suc j) + (1 - v) ≡ 2 * (length t - suc j) + (1 - v) = omega (arith, size) in
       named-listed (c .pins) (settingColumns (c .pins)) (termColumns t) (pin (suc j) v)
-      (ap (bit (termColumns t)) place ∙ term-bit t j v h b ∙ k) (pin-listed (c .pins) j v (omega (arith, size)) b)
+      (ap (bit (termColumns t)) place ∙ term-bit t j v h b ∙ k) (pin-column (c .pins) j v (omega (arith, size)) b)
 
   pub meets-met : (xs : List Bool) → meets t xs ≡ true
       → (i v : ℕ) → List·Memᴰ (pin i v) (namedBy c (setting e) row) → digit (getD xs (i - 1) false) ≡ v

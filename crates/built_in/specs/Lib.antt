@@ -1,2 +1,1 @@
-pub mod BuiltIn
 pub mod Written

@@ -1,23 +1,27 @@
 // The built-in library of document 02, K6: AND2 to AND4, then likewise NAND, OR, NOR, XOR and XNOR, and last NOT.
-// specs/BuiltIn.antt has its text, and the truth tables of which it is what the generator prints (crate `cell_figures`).
+// It is what the generator prints of 19 truth tables: crate `cell_figures` has these, and its text as a figure.
 //
 // Open to others: `put_built_in`, which has no condition.
 use writer::Written;
 use writer::put_bytes;
+ghost use mathlib.Core.Logic.{_↔_};
 ghost use mathlib.Core.Path.{_≡_};
+ghost use Prim.Native.Nat.{_<_};
 ghost use lib.ListN.{length};
-ghost use Rattle.text.specs.Bytes.{text};
-ghost use Rattle.writer.specs.Buffer.{Writes};
-ghost use Rattle.built_in.specs.BuiltIn.{builtIn};
+ghost use Rattle.reading.specs.Numbers as No;
+ghost use Rattle.reading.specs.Refusal.{refused, read};
+ghost use Rattle.writer.specs.Buffer.{lengthRead, writtenRead, Writes};
+ghost use Rattle.cell_figures.specs.BuiltIn.{entries, tables};
 ghost use Rattle.built_in.specs.Written.{builtInWithin};
 
 // How long the text is.
 pub const BYTES: usize = 2044;
 
-// The text in the front of a lent buffer; 17 where the buffer is too short, which is then zero.
+// The text in the front of a lent buffer; 17 exactly where the buffer is shorter than the text, and it is then zero.
 pub fn put_built_in(buffer: &mut [u8]) -> Written
     ensures writes { λ r. ⌜ Writes (builtInWithin (length (now (buffer .entry)))) (now (buffer .entry)) (now (buffer .exit)) r ⌝ }
-    ensures long { λ r. do ⌜ (← ⟦BYTES⟧ .entry) ≡ length (text builtIn) ⌝ }
+    ensures long { λ r. do ⌜ lengthRead (entries tables) ≡ read (← ⟦BYTES⟧ .entry) ⌝ }
+    ensures shorter { λ r. do ⌜ (writtenRead r ≡ refused No.reportLong 0) ↔ (length (now (buffer .entry)) < (← ⟦BYTES⟧ .entry)) ⌝ }
 {
     let end = put_bytes(
         buffer,

@@ -11,6 +11,7 @@ use lib.ListN.{length, getD}
 use Rattle.reading.specs.Choice.{pick}
 use Rattle.plans.specs.System.{Way, Visit, Offers}
 use Rattle.cell_library.specs.Cells.{Row, Group, Cell, Column, pin, output, observe, bitOf, pinColumns, settingColumns, observingColumns, bit, named}
+use Rattle.cell_library.proofs.Columns.{named-from, named-listed}
 use Rattle.netlist.specs.Netlist.{Gate}
 use Rattle.calculation.specs.Nodes.{Kind, node}
 use Rattle.calculation.specs.Ways.{
@@ -242,27 +243,6 @@ module _ {has : Cell → Role → Type 0} {k : Kind} {cells : List Cell} {gs : L
       Memᴰ·of-map (λ (c : Column). node k (asked (o .gate) c)) (asks (o .gate) (cellOf cells (o .gate)) (o .role) (o .row)) (rw (offer-needs o) at i)
 
 -- ---- columns
-
--- A column that a row names is one of the columns ..
-named-from : (n : ℕ) (cs : List Column) (x : ℕ) (c : Column) → List·Memᴰ c (named n cs x) → List·Memᴰ c cs
-unfolding named pick
-named-from n [] x c m = m
-named-from n (d ∷ cs) x c m = side (bit x (bitOf n d)) (named-from n cs x c) m
-  where
-    side : (b : Bool) → (List·Memᴰ c (named n cs x) → List·Memᴰ c cs) → List·Memᴰ c (pick b (d ∷ named n cs x) (named n cs x)) → List·Memᴰ c (d ∷ cs)
-    side true r (List·Memᴰ·head e) = List·Memᴰ·head e
-    side true r (List·Memᴰ·tail i) = List·Memᴰ·tail (r i)
-    side false r i = List·Memᴰ·tail (r i)
-
--- .. and a column whose bit is set is named.
-pub named-listed : (n : ℕ) (cs : List Column) (x : ℕ) (c : Column) → bit x (bitOf n c) ≡ true → List·Memᴰ c cs → List·Memᴰ c (named n cs x)
-unfolding named pick
-named-listed n (d ∷ cs) x c h (List·Memᴰ·head e) = rw (ap (λ (t : Column). bit x (bitOf n t)) (sym e) ∙ h) (List·Memᴰ·head e)
-named-listed n (d ∷ cs) x c h (List·Memᴰ·tail m) = side (bit x (bitOf n d)) (named-listed n cs x c h m)
-  where
-    side : (b : Bool) → List·Memᴰ c (named n cs x) → List·Memᴰ c (pick b (d ∷ named n cs x) (named n cs x))
-    side true i = List·Memᴰ·tail i
-    side false i = i
 
 -- What a row of a cell of n pins may name: one of its pins at 0 or 1, and where it observes, the output too.
 abbrev pub MayName : ℕ → Role → Column → Type 0

@@ -1,18 +1,11 @@
 -- The figures of document 02, K6: lines in, entries out, by computation over the definitions. They are one theorem.
 -- Assumes nothing.
-use mathlib.Core.List.{List, [], _∷_, _++_}
+use mathlib.Core.List.{[], _∷_}
 use mathlib.Core.Path.{_≡_, refl}
-use Prim.Native.Nat.{ℕ}
-use Prim.Native.String.{String}
 use Rattle.text.specs.Bytes.{text, bytes-open}
-use Rattle.reading.specs.Refusal.{Read, refused, read, _>>=_}
+use Rattle.reading.specs.Refusal.{read}
 use Rattle.generator.specs.Generated.{generated, generated-open}
-use Rattle.built_in.specs.BuiltIn.{tables, builtIn}
-
--- What the generator prints of each line, one entry behind the other.
-unfoldable pub entries : List String → Read (List ℕ)
-entries [] = read []
-entries (t ∷ ts) = generated (text (t ∷ [])) >>= λ entry. entries ts >>= λ others. read (entry ++ others)
+use Rattle.cell_figures.specs.BuiltIn.{entries, tables, builtIn}
 
 -- "For three-input NOR, named C1130, the result is the entry in document 01."
 abbrev pub NorFigure : Type 0

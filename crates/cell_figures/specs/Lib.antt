@@ -1,1 +1,2 @@
+pub mod BuiltIn
 pub mod Figures

@@ -4,17 +4,17 @@
 use mathlib.Core.Bool.{Bool, true, _&&_}
 use mathlib.Core.List.{List, [], _∷_, _++_}
 use mathlib.Core.Path.{_≡_}
-use Prim.Native.Nat.{ℕ, zero, suc, _+_, _*_, _≤_}
-use lib.Dec.{eqb}
+use Prim.Native.Nat.{ℕ, zero, suc, _+_, _*_, _≤_, _<_}
+use lib.Dec.{leb, eqb}
 use lib.ListN.{length, getD, replicate, drop}
-use Rattle.sizes.specs.Places.{cellPlace}
+use Rattle.sizes.specs.Places.{cellPlace, pinsPlace}
 use Rattle.sizes.specs.Sizes as Size
 use Rattle.table.specs.Blocks.{fitted, blocks}
 use Rattle.reading.specs.Choice.{pick}
 use Rattle.reading.specs.Each.{Each}
 use Rattle.reading.specs.Refusal.{Read, refused, read}
 use Rattle.cell_library.specs.Cells.{Heading, plain, deep, Row, Group, Cell}
-use Rattle.cell_library.specs.Library.{Word, CC, CO, SC, SO}
+use Rattle.cell_library.specs.Library.{Word, CC, CO, SC, SO, cellNamed}
 
 -- Two numbers a row, the depth apart from the columns; a group has its count of rows first, then its rows.
 unfoldable pub rowWords : Row → List ℕ
@@ -92,3 +92,53 @@ foundFrom name table k (suc left) = pick (nameAt name table k) k (foundFrom name
 -- The place of a name among the cells that a table counts, from 0; their count where it is not among them.
 unfoldable pub foundAt : List ℕ → List ℕ → ℕ
 foundAt name table = foundFrom name table 0 (getD table 0 0)
+
+-- ---- what any table tells
+
+-- Cells of which a table tells all that a netlist asks: how many they are, where each name stands among them, and the pins of
+-- each, at most as many as the layout has space for.
+pub record CellsTold (table : List ℕ) (cells : List Cell) : Type 0 where
+  pub count : getD table 0 0 ≡ length cells
+  pub named : (name : List ℕ) → foundAt name table ≡ cellNamed name cells
+  pub pins : (k : ℕ) → k < length cells → (d : Cell) → getD table (pinsPlace k) 0 ≡ (getD cells k d) .pins
+  pub narrow : Each FewPins cells
+
+-- So many numbers of a table from a place on; 0 past its end.
+unfoldable pub wordsFrom : List ℕ → (at left : ℕ) → List ℕ
+wordsFrom table at zero = []
+wordsFrom table at (suc left) = getD table at 0 ∷ wordsFrom table (suc at) left
+
+-- The cell at a place of any table, as far as a netlist asks: its name and its pins.
+unfoldable pub cellIn : List ℕ → ℕ → Cell
+cellIn table k =
+    record {
+      name = wordsFrom table (cellPlace k + 1) (getD table (cellPlace k) 0);
+      pins = getD table (pinsPlace k) 0;
+      heading = plain;
+      cc = [];
+      co = [];
+      sc = [];
+      so = [];
+    }
+
+unfoldable pub cellsFrom : List ℕ → (k left : ℕ) → List Cell
+cellsFrom table k zero = []
+cellsFrom table k (suc left) = cellIn table k ∷ cellsFrom table (suc k) left
+
+-- Whether each of so many cells from cell k on has at most 8 pins.
+unfoldable pub narrowFrom : List ℕ → (k left : ℕ) → Bool
+narrowFrom table k zero = true
+narrowFrom table k (suc left) = leb (getD table (pinsPlace k) 0) Size.pins && narrowFrom table (suc k) left
+
+-- Whether a table counts at most 32 cells, each with at most 8 pins.
+unfoldable pub cellsFit : List ℕ → Bool
+cellsFit table = leb (getD table 0 0) Size.cells && narrowFrom table 0 (getD table 0 0)
+
+-- The cells of any table: those that it counts, and none where these are more, or have more pins, than cells of a library.
+unfoldable pub cellsIn : List ℕ → List Cell
+cellsIn table = pick (cellsFit table) (cellsFrom table 0 (getD table 0 0)) []
+
+-- A part of a table that tells of the table's cells: of any table of those above, and of a table that holds cells of these.
+pub record TellsCells (table part : List ℕ) : Type 0 where
+  pub any : CellsTold part (cellsIn table)
+  pub holds : (cells : List Cell) → LibraryHolds table cells → CellsTold part cells

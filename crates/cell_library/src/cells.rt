@@ -3,7 +3,7 @@ ghost use mathlib.Core.Path.{_≡_};
 ghost use Prim.Native.Nat.{_+_};
 ghost use lib.ListN.{getD};
 ghost use Rattle.sizes.specs.Places.{cellPlace, pinsPlace, headingPlace};
-ghost use Rattle.cell_library.specs.Layout.{bytesAt, nameAt, foundAt};
+ghost use Rattle.cell_library.specs.Layout.{bytesAt, nameAt, foundAt, cellsFit, TellsCells};
 use table::word;
 
 // Where a cell starts in the table.
@@ -73,4 +73,32 @@ pub fn pins_of(table: &[u32], cell: u32) -> u32
     ensures { λ r. ⌜ r ≡ getD (now (table .entry)) (pinsPlace cell) 0 ⌝ }
 {
     word(table, cell_place(cell) + sizes::PINS_AT)
+}
+
+// Whether the table counts no more cells, and no more pins of any, than a library has.
+fn fit(table: &[u32]) -> bool
+    ensures { λ r. ⌜ r ≡ cellsFit (now (table .entry)) ⌝ }
+{
+    let n = count(table);
+    if sizes::CELLS < n as usize {
+        return false;
+    }
+    let mut k: u32 = 0;
+    while k < n {
+        if sizes::PINS < pins_of(table, k) as usize {
+            return false;
+        }
+        k += 1;
+    }
+    true
+}
+
+// A part of any table that tells of its cells: the table, or where it counts what no library has its empty front.
+pub fn told(table: &[u32]) -> &[u32]
+    ensures { λ r. ⌜ TellsCells (now (table .entry)) (now r) ⌝ }
+{
+    if fit(table) {
+        return table;
+    }
+    &table[..0]
 }

@@ -98,7 +98,7 @@ module _ (net library before table : List ℕ) (fits : AgainFits net library bef
   lines-read : (cells : List Cell) → HoldsCells library cells → ReadsAs (netlist New cells net) before v after
   unfolding ReadsNetlist ReadsFrom
   lines-read cells h =
-      rw (passes (length net) (length library) (length before) (fits .brief) (library-long library cells h) (fits .wide)) at ensures cells (cells-hold library cells h)
+      (rw (passes (length net) (length library) (length before) (fits .brief) (library-long library cells h) (fits .wide)) at ensures) .holds cells (cells-hold library cells h)
 
   pub again-stopped : (r : Refusal) → v ≡ Refused r → (cells : List Cell) → HoldsCells library cells → ReadAgain net library cells table after (verdictRead v)
   unfolding verdictRead

@@ -3,27 +3,28 @@
 use mathlib.Core.Bool.{true, _&&_}
 use mathlib.Core.List.{List, [], _∷_, map}
 use mathlib.Core.Option.{Option, none, some}
-use mathlib.Core.Path.{_≡_, refl}
-use Prim.Native.Nat.{ℕ, _≤_}
+use mathlib.Core.Path.{_≡_, refl, sym}
+use Prim.Native.Nat.{ℕ, _≤_, _<_}
 use native.Mathlib.Omega.{arith}
 use lib.Dec.{ltb}
 use lib.ListN.{length}
-use borrow.Author.Tests.{le-ltb, ltb-false}
+use borrow.Author.Tests.{le-ltb, ltb-true, ltb-false}
 use Rattle.sizes.specs.Sizes as Size
 use Rattle.reading.specs.Choice.{pick}
 use Rattle.reading.specs.Numbers as No
-use Rattle.reading.specs.Refusal.{_>>=_, _>>_, weigh, form}
-use Rattle.reading.proofs.Laws.{by-test, and-left}
+use Rattle.reading.specs.Refusal.{Read, refused, read, _>>=_, _>>_, weigh, form}
+use Rattle.reading.proofs.Laws.{by-test, and-left, refused-read}
 use Rattle.text.specs.Lines.{lines}
 use Rattle.text.specs.Numeral.{decimal, nameForm}
 use Rattle.cell_library.specs.Library.{Fields}
-use Rattle.writer.specs.Buffer.{textWithin}
+use Rattle.writer.specs.declared.Written.{Written}
+use Rattle.writer.specs.Buffer.{textWithin, lengthRead, writtenRead, Writes}
 use Rattle.truth_tables.specs.Entries.{cellOf, entryBytes}
 use Rattle.truth_tables.specs.Tables.{allOf}
 use Rattle.truth_tables.proofs.Lengths.{longestEntry, entry-short}
 use Rattle.prime_rows.specs.Masks.{isBit, isOne}
 use Rattle.generator.specs.Generated.{TableLine, withPins, tableLine, tableAfter, ended, oneLine, wrongCount, entryOf, judged, generated, generatedInto}
-use Rattle.generator.specs.Bounded.{Bounded}
+use Rattle.generator.specs.Bounded.{Bounded, LongBelow}
 
 -- ---- a line that is read has a name
 
@@ -84,28 +85,48 @@ room-enough text room h =
 
 -- ---- the bounds of what a text comes to
 
-entry-bounded : (room : ℕ) (t : TableLine) → nameForm (t .name) ≡ true → Bounded (entryOf t >>= textWithin No.reportLong room)
+-- A refusal that is not 17.
+other : (room number line : ℕ) → 1 ≤ number → number < No.reportLong → line ≤ 1 → Bounded room (refused number line)
+unfolding Bounded
+other room number line h k l = (h, omega arith, l, λ e. absurd (omega arith))
+
+entry-bounded : (room : ℕ) (t : TableLine) → nameForm (t .name) ≡ true → Bounded room (entryOf t >>= textWithin No.reportLong room)
 unfolding entryOf weigh pick _>>_ _>>=_ textWithin Bounded
 entry-bounded room t f =
     by-test (wrongCount t)
-    (λ e. rw e (omega arith, omega arith, omega arith))
+    (λ e. rw e (other room _ _ (omega arith) (omega arith) (omega arith)))
     (λ e. by-test (ltb 4 (t .pins))
-    (λ q. rw (e, q) (omega arith, omega arith, omega arith))
+    (λ q. rw (e, q) (other room _ _ (omega arith) (omega arith) (omega arith)))
     (λ q.
     let few : t .pins ≤ 4 = ltb-false 4 (t .pins) q in
     let made = entryBytes (cellOf (t .name) (t .pins) (map isOne (t .bits))) in
+    let short : length made ≤ longestEntry = entry-short (t .name) (t .pins) (map isOne (t .bits)) f few in
     by-test (ltb room (length made))
-    (λ z. rw (e, q, z) (omega arith, omega arith, omega arith))
-    (λ z. rw (e, q, z) (omega (arith, entry-short (t .name) (t .pins) (map isOne (t .bits)) f few)))))
+    (λ z. let less : room < length made = ltb-true room (length made) z in rw (e, q, z) (omega arith, omega arith, omega arith, λ x. omega arith))
+    (λ z. rw (e, q, z) (omega arith))))
 
-judged-bounded : (room : ℕ) (o : Option TableLine) → ((t : TableLine) → o ≡ some t → nameForm (t .name) ≡ true) → Bounded (judged o >>= textWithin No.reportLong room)
-unfolding judged form _>>=_ Bounded
-judged-bounded room none f = (omega arith, omega arith, omega arith)
+judged-bounded : (room : ℕ) (o : Option TableLine) → ((t : TableLine) → o ≡ some t → nameForm (t .name) ≡ true) → Bounded room (judged o >>= textWithin No.reportLong room)
+unfolding judged form _>>=_
+judged-bounded room none f = other room _ _ (omega arith) (omega arith) (omega arith)
 judged-bounded room (some t) f = entry-bounded room t (f t refl)
 
-pub bounded : (text : List ℕ) (room : ℕ) → Bounded (generatedInto text room)
-unfolding generatedInto generated weigh pick _>>_ _>>=_ Bounded
+pub bounded : (text : List ℕ) (room : ℕ) → Bounded room (generatedInto text room)
+unfolding generatedInto generated weigh pick _>>_ _>>=_
 bounded text room =
     by-test (ltb Size.textBytes (length text))
-    (λ e. rw e (omega arith, omega arith, omega arith))
+    (λ e. rw e (other room _ _ (omega arith) (omega arith) (omega arith)))
     (λ e. rw e (judged-bounded room (oneLine (lines text)) (text-name (lines text))))
+
+bounded-long : (room : ℕ) (o : Read (List ℕ)) → Bounded room o → LongBelow room (lengthRead o)
+unfolding Bounded lengthRead
+bounded-long room (refused number line) b at e = let same : number ≡ No.reportLong = cc in b .3 same
+bounded-long room (read entry) b at e = refused-read (sym e)
+
+-- A call that writes what a text comes to.
+module _ (text before after : List ℕ) (said : Written) where
+  pub writes-long : Writes (generatedInto text (length before)) before after said
+      → Writes (generatedInto text (length before)) before after said × LongBelow (length before) (writtenRead said)
+  writes-long w = (
+    w,
+    rw (w .answers) (bounded-long (length before) (generatedInto text (length before)) (bounded text (length before))),
+  )

@@ -24,9 +24,9 @@ ghost use Rattle.reading.specs.Choice.{pick};
 ghost use Rattle.text.specs.Numeral.{decimal, nameForm, numeralRead};
 ghost use Rattle.truth_tables.specs.Tables.{allOf};
 ghost use Rattle.prime_rows.specs.Masks.{isBit};
-ghost use Rattle.writer.specs.Buffer.{leftBy, shown, Writes, Prints};
+ghost use Rattle.writer.specs.Buffer.{leftBy, shown, writtenRead, Writes, Prints};
 ghost use Rattle.generator.specs.Generated.{tableLine, judgedInto, generated, generatedInto};
-ghost use Rattle.generator.specs.Bounded.{entryRoom};
+ghost use Rattle.generator.specs.Bounded.{entryRoom, LongBelow};
 
 const MOST_PINS: u32 = 4;
 
@@ -82,9 +82,11 @@ fn generate(entry: &mut [u8], formed: bool, name: &[u8], digits: &[u8], bits: &[
     writer::close(entry, end, reading::REPORT_LONG)
 }
 
-// The entry of a truth table, in the front of a lent buffer. Refusal 2 leaves the buffer as it was, every other one all zero.
+// The entry of a truth table, in the front of a lent buffer. Refusal 2 leaves the buffer as it was, every other one all zero; 17
+// needs a buffer of less than ENTRY_BYTES bytes.
 pub fn put_entry(text: &[u8], entry: &mut [u8]) -> Written
-    ensures { λ r. ⌜ Writes (generatedInto (now (text .entry)) (length (now (entry .entry)))) (now (entry .entry)) (now (entry .exit)) r ⌝ }
+    ensures writes { λ r. ⌜ Writes (generatedInto (now (text .entry)) (length (now (entry .entry)))) (now (entry .entry)) (now (entry .exit)) r ⌝ }
+    ensures long { λ r. ⌜ LongBelow (length (now (entry .entry))) (writtenRead r) ⌝ }
 {
     if sizes::TEXT_BYTES < text.len() {
         return Written::Refused(Refusal {

@@ -22,7 +22,7 @@ use Rattle.reading.specs.Each.{Each}
 use Rattle.reading.specs.Numbers as No
 use Rattle.reading.proofs.Laws.{by-test, clash, or-left, or-right}
 use Rattle.cell_library.specs.Cells.{Cell}
-use Rattle.cell_library.specs.Layout.{FewPins, Fits}
+use Rattle.cell_library.specs.Layout.{FewPins}
 use Rattle.netlist.specs.declared.RawStatement.{RawStatement}
 use Rattle.netlist.specs.Lowest.{lowest}
 use Rattle.netlist.specs.Netlist.{
@@ -284,14 +284,14 @@ module _ (cells : List Cell) {table : List ℕ} {ss : List Statement} (holds : N
       count : getD table 0 0 ≡ length (gatesOf ss)
       count = rw (holds .words) (netlist-count ss (holds .past))
 
-      pub gate-admitted : (p : RawStatement) → IsGate g p → Fits cells → Sound cells ss
+      pub gate-admitted : (p : RawStatement) → IsGate g p → Each FewPins cells → Sound cells ss
           → Decided cells ss (some (gate g)) (holds .past) 0 (gateAdded (getD table 0 0) p table)
       unfolding refusalOf gateAdded gateStored gateWords pick
-      gate-admitted p is fits so =
+      gate-admitted p is few so =
           let n = length (g .pins) in
           let space : length (gatesOf ss) < Size.gates = gate-space cells ss g so (unfold linesOf in whole .lines) free-before in
           let one : (length (gatesOf ss) + 1) % 4294967296 ≡ length (gatesOf ss) + 1 = omega (arith, space) in
-          let narrow : n ≤ Size.pins = rw (whole .count) (pinsAt-few cells (g .cell) (fits .narrow)) in
+          let narrow : n ≤ Size.pins = rw (whole .count) (pinsAt-few cells (g .cell) few) in
           let all : min (p .count) Size.pins ≡ n = omega (arith, is .count) in
           let pins : take (min (p .count) Size.pins) (p .pins) ≡ g .pins =
           rw (all, is .pins) (take-fitted n Size.pins (g .pins) narrow refl)

@@ -14,7 +14,7 @@ ghost use Rattle.sizes.specs.Places.{gatePlace, mentionPlace};
 ghost use Rattle.sizes.specs.Sizes as Size;
 ghost use Rattle.reading.specs.Numbers as No;
 ghost use Rattle.cell_library.specs.Cells.{Cell};
-ghost use Rattle.cell_library.specs.Layout.{LibraryHolds};
+ghost use Rattle.cell_library.specs.Layout.{CellsTold};
 ghost use Rattle.netlist.specs.Lowest.{lowest};
 ghost use Rattle.netlist.specs.Netlist.{Gate, Mark, Statement, mark, gate, priced, lineBad, priceBad, boundsBad};
 ghost use Rattle.netlist.specs.Admitting.{IsGate, StandsFor, gateCause, Admits, markPlace, markNumber, markValue, mentionAll, gateStored, rangeStored, oneMore, gateAdded, wordsUndeclared, someUndeclared, someRanged};
@@ -213,7 +213,7 @@ fn admit_range(table: &mut [u32], l: u32, low: u32, high: u32) -> u32
 
 // Why a gate is refused by its own numbers: 11 to 13, or 0. The count of pins of an unknown cell does not matter.
 fn gate_cause(library: &[u32], s: RawStatement) -> u32
-    ensures { λ r. ⌜ ((cells : List Cell) (g : Gate) → LibraryHolds (now (library .entry)) cells → IsGate g s
+    ensures { λ r. ⌜ ((cells : List Cell) (g : Gate) → CellsTold (now (library .entry)) cells → IsGate g s
         → r ≡ gateCause cells g) ⌝ }
 {
     let bad = line_bad(s.line) | s.bad;
@@ -252,7 +252,7 @@ fn store_gate(table: &mut [u32], g: u32, s: RawStatement)
 }
 
 fn admit_gate(table: &mut [u32], library: &[u32], s: RawStatement) -> u32
-    ensures { λ r. ⌜ ((cells : List Cell) (g : Gate) → LibraryHolds (now (library .entry)) cells → IsGate g s
+    ensures { λ r. ⌜ ((cells : List Cell) (g : Gate) → CellsTold (now (library .entry)) cells → IsGate g s
         → Admits cells (some (gate g)) (now (table .entry)) r (now (table .exit))) ⌝ }
 {
     let cause = gate_cause(library, s);
@@ -270,7 +270,7 @@ fn admit_gate(table: &mut [u32], library: &[u32], s: RawStatement) -> u32
 // Checks one statement after those that the table holds, and admits it: 0, or the lowest number that
 // refuses it, 10 to 15, 21 or 22, with the table as it was. A kind that is not known is bad form, 10.
 pub fn admit(table: &mut [u32], library: &[u32], s: RawStatement) -> u32
-    ensures { λ r. ⌜ ((cells : List Cell) (w : Option Statement) → LibraryHolds (now (library .entry)) cells
+    ensures { λ r. ⌜ ((cells : List Cell) (w : Option Statement) → CellsTold (now (library .entry)) cells
         → StandsFor s w → Admits cells w (now (table .entry)) r (now (table .exit))) ⌝ }
 {
     let form = s.form;

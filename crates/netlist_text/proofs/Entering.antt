@@ -16,7 +16,7 @@ use Rattle.reading.specs.declared.Verdict.{Verdict}
 use Rattle.reading.specs.declared.Verdict.the-variants.{Accepted, Refused}
 use Rattle.reading.proofs.Laws.{or-right, weigh-one}
 use Rattle.cell_library.specs.Cells.{Cell}
-use Rattle.cell_library.specs.Layout.{LibraryHolds}
+use Rattle.cell_library.specs.Layout.{CellsTold, TellsCells}
 use Rattle.netlist.specs.declared.Rules.{Rules}
 use Rattle.netlist.specs.Netlist.{netlist}
 use Rattle.netlist_text.specs.Reading.{netlistEntry, ReadsAs, ReadsFrom, ReadsNetlist}
@@ -48,7 +48,9 @@ module _ (rules : Rules) (text library before : List ℕ) (v : Verdict)
   unshut q = sym enters ∙ rw q
 
   pub behind : v ≡ Accepted → (w : Verdict) (after : List ℕ)
-      → ((cells : List Cell) → LibraryHolds library cells → ReadsAs (netlist rules cells text) before w after)
+      → (part : List ℕ) → TellsCells library part
+      → ((cells : List Cell) → CellsTold part cells → ReadsAs (netlist rules cells text) before w after)
       → ReadsNetlist rules text library before w after
   unfolding ReadsNetlist ReadsFrom
-  behind q w after reads = rw (unshut q) reads
+  behind q w after part tells reads =
+      rw (unshut q) (record { any = reads _ (tells .any); holds = λ cells h. reads cells (tells .holds cells h) })

@@ -14,7 +14,7 @@ use Rattle.reading.specs.Refusal.{Read, refused, read, weigh}
 use Rattle.reading.specs.Verdict.{verdictRead, doneRead}
 use Rattle.reading.specs.declared.Verdict.{Verdict}
 use Rattle.cell_library.specs.Cells.{Cell}
-use Rattle.cell_library.specs.Layout.{LibraryHolds}
+use Rattle.cell_library.specs.Layout.{LibraryHolds, cellsIn}
 use Rattle.netlist.specs.declared.Rules.{Rules}
 use Rattle.netlist.specs.Netlist.{Statement, anyLineBad, netlist}
 use Rattle.netlist.specs.Layout.{netlistAfter}
@@ -50,13 +50,17 @@ pub record ReadsAs (o : Read (List Statement)) (before : List ℕ) (verdict : Ve
   pub answers : verdictRead verdict ≡ doneRead o
   pub leaves : after ≡ netlistAfter o before
 
--- "Entry refusals leave lent memory untouched", whatever the library table has in it; behind the entry the text is read against
--- the cells that the library table holds.
+-- Behind the entry the text is read against the cells of the library table, whatever it has in it; of a table that holds cells
+-- these are they.
+pub record ReadsAgainst (rules : Rules) (text library before : List ℕ) (verdict : Verdict) (after : List ℕ) : Type 0 where
+  pub any : ReadsAs (netlist rules (cellsIn library) text) before verdict after
+  pub holds : (cells : List Cell) → LibraryHolds library cells → ReadsAs (netlist rules cells text) before verdict after
+
+-- "Entry refusals leave lent memory untouched", whatever the library table has in it.
 unfoldable pub ReadsFrom : Rules → Read (Unit {0}) → List ℕ → List ℕ → List ℕ → Verdict → List ℕ → Type 0
 ReadsFrom rules (refused number line) text library before verdict after =
     (verdictRead verdict ≡ refused number line) × (after ≡ before)
-ReadsFrom rules (read u) text library before verdict after =
-    (cells : List Cell) → LibraryHolds library cells → ReadsAs (netlist rules cells text) before verdict after
+ReadsFrom rules (read u) text library before verdict after = ReadsAgainst rules text library before verdict after
 
 -- What reading a netlist text answers, and leaves in the lent table.
 unfoldable pub ReadsNetlist : Rules → List ℕ → List ℕ → List ℕ → Verdict → List ℕ → Type 0

@@ -1,7 +1,8 @@
 // The netlist text, read into the netlist table: its lines one after the other, each a statement that `netlist::admit` checks
 // and stores, and behind them refusal 20.
 //
-// Open to others: `read_netlist`, which has no condition on its input. For the crates above: `read_netlist_into`.
+// Open to others: `read_netlist`, which has no condition on its input: the library table may be any. For the crates above:
+// `read_netlist_into`.
 ghost use mathlib.Core.Path.{_≡_};
 ghost use mathlib.Core.Bool.{true, false};
 ghost use mathlib.Core.List.{List};
@@ -13,13 +14,14 @@ ghost use Rattle.text.specs.Lines.{fields, fieldsFrom};
 ghost use Rattle.reading.specs.Refusal.{refused};
 ghost use Rattle.reading.specs.Verdict.{verdictRead};
 ghost use Rattle.cell_library.specs.Cells.{Cell};
-ghost use Rattle.cell_library.specs.Layout.{LibraryHolds};
+ghost use Rattle.cell_library.specs.Layout.{CellsTold};
 ghost use Rattle.netlist.specs.Netlist.{Mark, Statement, kindOf, declaring, lone, markOf, gateOf, rangeOf, statementOf, decimals, textStatements, declared, netlist};
 ghost use Rattle.netlist.specs.Layout.{NetlistHolds};
 ghost use Rattle.netlist.specs.Admitting.{IsMark, StandsFor, Admits};
 ghost use Rattle.netlist.specs.Sound.{Sound};
 ghost use Rattle.netlist_text.specs.Reading.{PinsRead, netlistEntry, ReadsAs, ReadsNetlist};
 use cell_library::cells::find;
+use cell_library::cells::told;
 use netlist::RawStatement;
 use netlist::Rules;
 use netlist::admit;
@@ -140,7 +142,7 @@ fn pins_from(line: &[u8], from: usize) -> Pins
 
 // A gate, from the field of its name on.
 fn gate_from(line: &[u8], at: usize, library: &[u32]) -> RawStatement
-    ensures { λ r. ⌜ ((cells : List Cell) → LibraryHolds (now (library .entry)) cells
+    ensures { λ r. ⌜ ((cells : List Cell) → CellsTold (now (library .entry)) cells
         → StandsFor r (gateOf cells (fieldsFrom (now (line .entry)) at))) ⌝ }
 {
     let n = line.len();
@@ -192,7 +194,7 @@ fn range_from(line: &[u8], at: usize) -> RawStatement
 }
 
 fn statement_of(rules: Rules, line: &[u8], library: &[u32]) -> RawStatement
-    ensures { λ r. ⌜ ((cells : List Cell) → LibraryHolds (now (library .entry)) cells
+    ensures { λ r. ⌜ ((cells : List Cell) → CellsTold (now (library .entry)) cells
         → StandsFor r (statementOf rules cells (fields (now (line .entry))))) ⌝ }
 {
     let f = field(line, 0);
@@ -218,7 +220,7 @@ fn statement_of(rules: Rules, line: &[u8], library: &[u32]) -> RawStatement
 }
 
 fn read_line(rules: Rules, line: &[u8], library: &[u32], table: &mut [u32]) -> u32
-    ensures { λ r. ⌜ ((cells : List Cell) → LibraryHolds (now (library .entry)) cells
+    ensures { λ r. ⌜ ((cells : List Cell) → CellsTold (now (library .entry)) cells
         → Admits cells (statementOf rules cells (fields (now (line .entry)))) (now (table .entry)) r (now (table .exit))) ⌝ }
 {
     let s = statement_of(rules, line, library);
@@ -242,7 +244,7 @@ fn refusal(table: &mut [u32], number: u32, line: usize) -> Verdict
 fn read_lines(rules: Rules, text: &[u8], library: &[u32], table: &mut [u32], used: usize) -> Verdict
     requires { ⌜ (length (now text) ≤ Size.textBytes) × (Size.netlist ≤ length (now table))
         × (cleared used (now table) ≡ cleared Size.netlist (now table)) ⌝ }
-    ensures { λ r. ⌜ ((cells : List Cell) → LibraryHolds (now (library .entry)) cells
+    ensures { λ r. ⌜ ((cells : List Cell) → CellsTold (now (library .entry)) cells
         → ReadsAs (textStatements rules cells (now (text .entry))) (now (table .entry)) r (now (table .exit))) ⌝ }
 {
     clear(table, used);
@@ -281,7 +283,7 @@ fn declare(rules: Rules, table: &mut [u32]) -> Verdict
 fn read_all(rules: Rules, text: &[u8], library: &[u32], table: &mut [u32], used: usize) -> Verdict
     requires { ⌜ (length (now text) ≤ Size.textBytes) × (Size.netlist ≤ length (now table))
         × (cleared used (now table) ≡ cleared Size.netlist (now table)) ⌝ }
-    ensures { λ r. ⌜ ((cells : List Cell) → LibraryHolds (now (library .entry)) cells
+    ensures { λ r. ⌜ ((cells : List Cell) → CellsTold (now (library .entry)) cells
         → ReadsAs (netlist rules cells (now (text .entry))) (now (table .entry)) r (now (table .exit))) ⌝ }
 {
     let lines = read_lines(rules, text, library, table, used);
@@ -327,12 +329,13 @@ pub fn read_netlist_into(
     let entered = entry(text.len(), library.len(), table.len());
     match entered {
         Verdict::Refused(_) => entered,
-        Verdict::Accepted => read_all(rules, text, library, table, used),
+        Verdict::Accepted => read_all(rules, text, told(library), table, used),
     }
 }
 
-// Reads a netlist text against the cells of a library table, into a table. A refusal at entry leaves the
-// table as it was, a later one leaves it zero.
+// Reads a netlist text against the cells of a library table, into a table. A table that no library is read into is read as it
+// stands, and one that counts more cells or pins than a library has, as none. A refusal at entry leaves the netlist table as it
+// was, a later one leaves it zero.
 pub fn read_netlist(rules: Rules, text: &[u8], library: &[u32], table: &mut [u32]) -> Verdict
     ensures { λ r. ⌜ ReadsNetlist rules (now (text .entry)) (now (library .entry)) (now (table .entry)) r
         (now (table .exit)) ⌝ }

@@ -37,7 +37,7 @@ module _ (rules : Rules) (text lib before : List ℕ) (begun : Progress) where
     lines-read : netlistEntry (length text) (length lib) (length before) ≡ read tt
         → (cells : List Cell) → LibraryHolds lib cells → ReadsAs (netlist rules cells text) before v after
     unfolding ReadsNetlist ReadsFrom
-    lines-read passed = rw passed at ensures
+    lines-read passed = (rw passed at ensures) .holds
 
     pub text-refused : (r : Refusal) → v ≡ Refused r → TextRead rules text lib before begun after (Later r)
     unfolding verdictRead progressOf

@@ -20,7 +20,8 @@ use Rattle.reading.specs.Refusal.{Read, refused, read, _>>=_, _>>_, weigh}
 use Rattle.reading.specs.Each.{Each}
 use Rattle.reading.proofs.Laws.{by-test, clash, bind-read, refused-read}
 use Rattle.cell_library.specs.Cells.{Cell}
-use Rattle.cell_library.specs.Layout.{LibraryHolds}
+use Rattle.cell_library.specs.Layout.{LibraryHolds, CellsTold}
+use Rattle.cell_library.proofs.Names.{holds-told}
 use Rattle.netlist.specs.declared.RawStatement.{RawStatement}
 use Rattle.netlist.specs.declared.Rules.the-variants.{New}
 use Rattle.netlist.specs.Netlist.{Mark, input, output, opened, Statement, mark, lineBad, anyLineBad, rangesIn, rangesOf, someRange, admitted}
@@ -189,13 +190,13 @@ module _ (lib : List ℕ) (place : ℕ) (s : Progress) (rec : Record) (ts : List
 
   -- From what `admit` ensures of the record's plain numbers.
   pub stepped-checks : (p : RawStatement) (number : ℕ) (r : Progress) (us : List ℕ) → s ≡ Unrefused → StandsFor p (recordForm rec) → r ≡ progressAfter number place
-      → ((cells : List Cell) (w : Option Statement) → LibraryHolds lib cells → StandsFor p w → Admits cells w ts number us)
+      → ((cells : List Cell) (w : Option Statement) → CellsTold lib cells → StandsFor p w → Admits cells w ts number us)
       → Stepped lib place s rec ts r us
   unfolding RecordChecked
   stepped-checks p number r us z said e ensures = record {
     stays = λ n. absurd (n z);
     checks = λ _ cells held ss so start.
-        let h = ensures cells (recordForm rec) held said ss so start in
+        let h = ensures cells (recordForm rec) (holds-told lib cells held) said ss so start in
         (e ∙ ap (λ (k : ℕ). progressAfter k place) (h .answers), h .leaves ∙ ap (λ (k : ℕ). wordsAfter k ss (recordForm rec) ++ start .past) (h .answers));
   }
 

@@ -17,22 +17,22 @@ use Rattle.generator.specs.Bounded.{Bounded}
 use Rattle.generator.proofs.Bounded.{bounded}
 use Rattle.scoap_c.specs.Cell.{CellCoded}
 
-told-within : (o : Read (List ℕ)) → Bounded o → Within anyNumber 1 (lengthRead o)
+told-within : (room : ℕ) (o : Read (List ℕ)) → Bounded room o → Within anyNumber 1 (lengthRead o)
 unfolding Bounded lengthRead
-told-within (refused number line) b = (le-leb 1 number (b .0), b .2)
-told-within (read entry) b = tt
+told-within room (refused number line) b = (le-leb 1 number (b .0), b .2)
+told-within room (read entry) b = tt
 
-below : (o : Read (List ℕ)) → Bounded o → (entry : List ℕ) → o ≡ read entry → codeOf (lengthRead o) < codeLines
+below : (room : ℕ) (o : Read (List ℕ)) → Bounded room o → (entry : List ℕ) → o ≡ read entry → codeOf (lengthRead o) < codeLines
 unfolding Bounded lengthRead codeOf
-below (refused k l) b entry e = refused-read e
-below (read text) b entry e = omega (arith, b)
+below room (refused k l) b entry e = refused-read e
+below room (read text) b entry e = omega (arith, b)
 
 module _ (line before after : List ℕ) (w : Written) (c : Writes (generatedInto line (length before)) before after w) where
   abbrev came : Read (List ℕ)
   came = generatedInto line (length before)
 
   within : Within anyNumber 1 (lengthRead came)
-  within = told-within came (bounded line (length before))
+  within = told-within (length before) came (bounded line (length before))
 
   pub cell-line : LineBelow (writtenRead w)
   cell-line = rw (c .answers) (told-line 1 (omega arith) (lengthRead came) within)
@@ -44,6 +44,6 @@ module _ (line before after : List ℕ) (w : Written) (c : Writes (generatedInto
       record {
         answers = is;
         leaves = c .leaves;
-        accepted = λ entry q. rw is (below came (bounded line (length before)) entry q);
+        accepted = λ entry q. rw is (below (length before) came (bounded line (length before)) entry q);
         refusal = λ number at q. rw is (told-code 1 (omega arith) (lengthRead came) within number at (ap lengthRead q));
       }

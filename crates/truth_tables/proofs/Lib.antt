@@ -6,3 +6,5 @@ pub mod Octal
 pub mod Reading
 pub mod Accepted
 pub mod Lengths
+pub mod Columns
+pub mod Rows

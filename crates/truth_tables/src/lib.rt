@@ -4,5 +4,7 @@
 //
 // No call is open to others, since there is no code. Other crates cite specs.Tables (the rows of a truth
 // table), specs.Entries (its cell, and the text of a cell), specs.Generated (cells that have a truth table),
-// proofs.Covering (the one fact for all truth tables), proofs.Counting (no group has more than 16 rows),
-// proofs.Order (rows descend) and proofs.Accepted (the entry of every table is read as its cell).
+// specs.Rows (when a setting meets a row), proofs.Rows (the one fact for all truth tables, over rows and
+// groups), proofs.Covering (the same over terms), proofs.Columns (the columns of a term), proofs.Counting
+// (no group has more than 16 rows), proofs.Order (rows descend) and proofs.Accepted (the entry of every
+// table is read as its cell).

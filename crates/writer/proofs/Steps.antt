@@ -4,7 +4,7 @@ use mathlib.Core.List.{List, [], _∷_, _++_}
 use lib.Dec.{ltb}
 use borrow.Author.Tests.{ltb-true, ltb-false}
 use mathlib.Core.Path.{_≡_, refl, sym, ap, _∙_}
-use Prim.Native.Nat.{ℕ, suc, _+_, _≤_, _<_, min}
+use Prim.Native.Nat.{ℕ, suc, _+_, _-_, _≤_, _<_, min}
 use Rattle.reading.proofs.Laws.{by-test}
 use native.Mathlib.Nat.{zero-add, add-zero, add-suc, suc-add}
 use native.Mathlib.Omega.{arith}
@@ -22,14 +22,14 @@ sets-append (a ∷ vs) ws l i =
     sets-append vs ws (set l i a) (suc i)
     ∙ ap (λ (k : ℕ). sets (sets (set l i a) (suc i) vs) k ws) (suc-add i (length vs) ∙ sym (add-suc i (length vs)))
 
--- all the places past the end are as one
-sets-same : (vs l : List ℕ) (i j : ℕ) → min i (length l + 1) ≡ min j (length l + 1) → sets l i vs ≡ sets l j vs
-sets-same vs l i j h =
-    by-test (ltb i (length l))
-    (λ within. let inside : i < length l = ltb-true i (length l) within in ap (λ (k : ℕ). sets l k vs) (omega arith))
+-- where a cursor is held back it stands past the end
+sets-held : (vs l : List ℕ) (at n : ℕ) → sets l (at + min n (length l + 1 - at)) vs ≡ sets l (at + n) vs
+sets-held vs l at n =
+    by-test (ltb (at + n) (length l))
+    (λ within. let inside : at + n < length l = ltb-true (at + n) (length l) within in ap (λ (k : ℕ). sets l k vs) (omega arith))
     (λ past.
-    let out : length l ≤ i = ltb-false i (length l) past in
-    sets-past vs l i out ∙ sym (sets-past vs l j (omega arith)))
+    let out : length l ≤ at + n = ltb-false (at + n) (length l) past in
+    sets-past vs l (at + min n (length l + 1 - at)) (omega arith) ∙ sym (sets-past vs l (at + n) out))
 
 -- ---- bytes put before those that stand behind them
 
@@ -48,19 +48,19 @@ sets-before us vs l i j e = sets-under us vs l i j (omega arith) ∙ rw e (sym (
 -- ---- bytes put at a cursor
 
 pub put-none : (at : ℕ) (l : List ℕ) → Put at [] l l at
-put-none at l = record { stored = refl; moved = ap (λ (k : ℕ). min k (length l + 1)) (sym (add-zero at)) }
+put-none at l = record { stored = refl; moved = omega arith }
 
 pub put-then : {at next end : ℕ} {vs ws l l₁ l₂ : List ℕ} → Put at vs l l₁ next → Put next ws l₁ l₂ end → Put at (vs ++ ws) l l₂ end
 put-then {at} {next} {end} {vs} {ws} {l} {l₁} {l₂} p q =
     let e : length l₁ ≡ length l = ap length (p .stored) ∙ length-sets l at vs in
-    let m : min end (length l + 1) ≡ min (next + length ws) (length l + 1) = rw e at (q .moved) in
+    let held : sets l₁ next ws ≡ sets l₁ (at + length vs) ws = rw (p .moved, ← e) (sets-held ws l₁ at (length vs)) in
     record {
       stored =
           q .stored
-          ∙ sets-same ws l₁ next (at + length vs) (rw e (p .moved))
+          ∙ held
           ∙ ap (λ (k : List ℕ). sets k (at + length vs) ws) (p .stored)
           ∙ sym (sets-append vs ws l at);
-      moved = rw (length-append vs ws) (omega (arith, p .moved));
+      moved = rw (length-append vs ws) (omega (arith, p .moved, q .moved, e));
     }
 
 -- bytes that fit stand in the buffer's front

@@ -3,12 +3,12 @@
 -- Assumes nothing.
 use mathlib.Core.List.{List}
 use mathlib.Core.Path.{_≡_}
-use Prim.Native.Nat.{ℕ, _+_, min}
+use Prim.Native.Nat.{ℕ, _+_, _-_, min}
 use lib.ListN.{length}
 use lib.Seq.{sets}
 
--- The bytes are stored from the cursor on, those past the buffer's end nowhere, and the next cursor stands behind them;
--- all the places past the end are as one.
+-- The bytes are stored from the cursor on, those past the buffer's end nowhere, and the cursor moves on by them, at most to the
+-- length and 1, the one place past the end that it comes to.
 pub record Put (at : ℕ) (put before after : List ℕ) (next : ℕ) : Type 0 where
   pub stored : after ≡ sets before at put
-  pub moved : min next (length before + 1) ≡ min (at + length put) (length before + 1)
+  pub moved : next ≡ at + min (length put) (length before + 1 - at)

@@ -2,8 +2,8 @@
 // end of every call that writes a text: its length, or a refusal, with the number for C and what is printed.
 //
 // A cursor is a place of the buffer. Bytes past the buffer's end are not stored, and the cursor then
-// stands past the end, at the length and 1, so that a caller asks once, at the end, whether all was
-// stored. specs/Put.antt says what a call leaves, specs/Decimal.antt and specs/Octal.antt what the digits
+// stands past the end, at the length and 1, and stays there, so that a caller asks once, at the end,
+// whether all was stored. specs/Put.antt says what a call leaves, specs/Decimal.antt and specs/Octal.antt what the digits
 // of a number are, specs/Refused.antt what is printed of a refusal, specs/Buffer.antt what a text in a
 // buffer, or a refusal, comes to.
 //
@@ -42,9 +42,12 @@ pub fn put_byte(buffer: &mut [u8], at: usize, b: u8) -> usize
 {
     if at < buffer.len() {
         buffer[at] = b;
-        at + 1
-    } else {
+        return at + 1;
+    }
+    if at == buffer.len() {
         buffer.len() + 1
+    } else {
+        at
     }
 }
 

@@ -1,9 +1,7 @@
 -- `put_built_in` puts the text's bytes, and closes the buffer. Assumes nothing.
-use mathlib.Core.Path.{refl}
 use borrow.Author.Needs.{needs}
-use Rattle.reading.specs.Numbers as No
 use Rattle.text.specs.Bytes.{bytes, text}
-use Rattle.writer.proofs.Buffer.{put-closed}
+use Rattle.built_in.proofs.BuiltIn.{promised}
 use Rattle.built_in.proofs.put_built_in.Statement.{statement}
 use Rattle.built_in.proofs.put_built_in.Tie as tie
 
@@ -12,9 +10,7 @@ put c = c .before .before .before .before
 
 returns : tie.Need-returns
 unfolding bytes text
-returns c =
-    let p = c .before .before in
-    (put-closed No.reportLong refl (put p .put-bytes .ensures) (p .close .ensures), refl)
+returns c = let p = c .before .before in promised (put p .put-bytes .ensures) (p .close .ensures)
 
 pub put-built-in-spec : {M : Type 1} → statement M
 put-built-in-spec =

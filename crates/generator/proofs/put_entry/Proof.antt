@@ -15,6 +15,7 @@ use Rattle.text.proofs.Laws.{fieldsFrom-start}
 use Rattle.text.proofs.Cursors.{field-nth, field-next, field-last}
 use Rattle.writer.specs.Buffer.{leftBy, writtenRead, lengthRead}
 use Rattle.generator.specs.Generated.{generated, generatedInto}
+use Rattle.generator.proofs.Bounded.{writes-long}
 use Rattle.generator.proofs.Tables.{table-from, text-short}
 use Rattle.generator.proofs.put_entry.Statement.{statement}
 use Rattle.generator.proofs.put_entry.Tie as tie
@@ -24,7 +25,7 @@ unfolding generatedInto generated weigh pick _>>_ _>>=_ leftBy writtenRead lengt
 returns c =
     let text = c .before .before .before .args .text .now in
     let long : Size.textBytes < length text = omega arith in
-    rw (lt-ltb Size.textBytes (length text) long) (record { answers = refl; leaves = refl })
+    writes-long text _ _ _ (rw (lt-ltb Size.textBytes (length text) long) (record { answers = refl; leaves = refl }))
 
 returns-2 : tie.Need-returns-2
 returns-2 c =
@@ -41,9 +42,10 @@ returns-2 c =
     let behind-second : fieldsFrom line (third .before .after2 .result) ≡ drop 2 (fields line) =
     field-next _ _ _ _ 1 behind-first (second .field2 .ensures) (third .before .after2 .ensures) in
     let last = l .is-last .ensures ∙ field-last _ _ _ _ 2 behind-second (third .field3 .ensures) (l .before .after3 .ensures) in
-    rw (text-short (a .text .now) (length (a .entry .now)) (omega arith))
+    writes-long (a .text .now) _ _ _
+    (rw (text-short (a .text .now) (length (a .entry .now)) (omega arith))
     (rw (table-from (a .text .now) line (first .field .result .now) (second .field2 .result .now) (third .field3 .result .now) (eqb (length line + 1) (length (a .text .now)) && l .is-last .result) (cut .line .ensures) (ap (λ (t : Bool). eqb (length line + 1) (length (a .text .now)) && t) last) (field-nth _ _ 0 0 0 (fieldsFrom-start _) (first .field .ensures)) (field-nth _ _ _ 0 1 behind-first (second .field2 .ensures)) (field-nth _ _ _ 0 2 behind-second (third .field3 .ensures)))
-    (g .generate .ensures))
+    (g .generate .ensures)))
 
 pub put-entry-spec : {M : Type 1} → statement M
 put-entry-spec =

@@ -14,7 +14,7 @@ returns c =
     let a = k .before .before .before .args in
     let long : 8192 ≡ length (a .entry .now) = search needs in
     rw (← room-enough (a .text .now) (length (a .entry .now)) (omega arith))
-    (writes-prints (omega arith) (omega (arith, k .put-entry .kept .1 .0)) (k .put-entry .ensures) (c .show .ensures))
+    (writes-prints (omega arith) (omega (arith, k .put-entry .kept .1 .0)) (k .put-entry .ensures .0) (c .show .ensures))
 
 pub put-printed-spec : {M : Type 1} → statement M
 put-printed-spec =

@@ -6,7 +6,7 @@ use Rattle.sizes.specs.Places.{driverPlace}
 use Rattle.cell_library.specs.Cells.{Cell}
 use Rattle.netlist.specs.Netlist.{Gate}
 use Rattle.netlist.specs.Admitting.{IsGate, gateCause}
-use Rattle.cell_library.specs.Layout.{LibraryHolds}
+use Rattle.cell_library.specs.Layout.{CellsTold}
 use Rattle.netlist.proofs.Outcomes.{gate-own, gate-driven, gate-admitted}
 use borrow.Author.Needs.{needs}
 use Rattle.netlist.proofs.admit_gate.Statement.{statement}
@@ -27,7 +27,7 @@ abbrev counted : tie.After-store-gate → tie.After-word2
 counted c = c .before .before
 
 own : {cells : List Cell} {g : Gate} (c : tie.Else1)
-    → LibraryHolds (begun c .args .library .now) cells → IsGate g (begun c .args .s) → 0 ≡ gateCause cells g
+    → CellsTold (begun c .args .library .now) cells → IsGate g (begun c .args .s) → 0 ≡ gateCause cells g
 own {cells} {g} c lib is = sym (c .if1 .left) ∙ c .before .gate-cause .ensures cells g lib is
 
 free : {g : Gate} (c : tie.Else2)
@@ -48,7 +48,7 @@ returns-3 c cells g lib is ss so h =
     let n = counted last in
     let e = undriven n in
     let a = begun (uncaused (e .before)) .args in
-    let done = gate-admitted cells h g (own (uncaused (e .before)) lib is) (free e is) (a .s) is (lib .fits) so in
+    let done = gate-admitted cells h g (own (uncaused (e .before)) lib is) (free e is) (a .s) is (lib .narrow) so in
     record { answers = done .answers; leaves = last .store-gate .ensures ∙ rw (n .word2 .ensures) (done .leaves) }
 
 pub admit-gate-spec : {M : Type 1} → statement M

@@ -5,7 +5,6 @@ use mathlib.Core.Path.{sym, ap, _∙_}
 use Prim.Native.Nat.{ℕ}
 use lib.Dec.{leb, eqb}
 use Rattle.cell_library.specs.Cells.{plain, Cell}
-use Rattle.cell_library.proofs.Names.{holds-count, holds-pins}
 use Rattle.netlist.proofs.Causes.{pinsAt-cell}
 use Rattle.netlist.proofs.Outcomes.{gate-flags}
 use borrow.Author.Needs.{needs}
@@ -30,11 +29,11 @@ returns c cells g lib is =
     c .lowest .ensures
     ∙ gate-flags cells g s is _ _ _
     (ap (λ (b : Bool). b || s .bad) (ranged .line-bad .ensures))
-    (ap (λ (k : ℕ). leb k (s .cell)) (n .count .ensures ∙ holds-count _ cells lib))
+    (ap (λ (k : ℕ). leb k (s .cell)) (n .count .ensures ∙ lib .count))
     (λ known.
     ap (λ (k : ℕ). not (eqb k (s .count)))
     (c .before .pins-of .ensures
-    ∙ holds-pins _ cells lib (s .cell) known noCell
+    ∙ lib .pins (s .cell) known noCell
     ∙ sym (pinsAt-cell cells (s .cell) noCell known)))
 
 pub gate-cause-spec : {M : Type 1} → statement M

@@ -7,7 +7,6 @@ use borrow.Author.Tests.{not-true, not-false}
 use Rattle.text.specs.Lines.{part, nextAfter}
 use Rattle.text.specs.Numeral.{nameForm}
 use Rattle.cell_library.specs.Library.{cellNamed}
-use Rattle.cell_library.proofs.Names.{holds-find}
 use Rattle.netlist_text.proofs.Forms.{stands-none, number-good, number-bad, gate-none, gate-name-bad, gate-no-line}
 use Rattle.netlist_text.proofs.Forms.{gate-line-bad, gate-lines, gathered-gate}
 use borrow.Author.Needs.{needs}
@@ -94,7 +93,7 @@ returns-5 c cells lib =
     let from = p .before .after2 .ensures ∙ ap (nextAfter (line n) (f .after .result)) (d .before .field2 .ensures) in
     let cell =
     c .find .ensures
-    ∙ holds-find _ _ cells lib
+    ∙ lib .named _
     ∙ ap (λ (x : List ℕ). cellNamed x cells) (n .before .field .ensures)
     in
     rw

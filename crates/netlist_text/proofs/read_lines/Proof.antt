@@ -11,7 +11,7 @@ use Rattle.reading.specs.Verdict.{verdictRead}
 use Rattle.cell_library.specs.Cells.{Cell}
 use Rattle.netlist.specs.Netlist.{statementOf}
 use Rattle.netlist.specs.Admitting.{Decided}
-use Rattle.cell_library.specs.Layout.{LibraryHolds}
+use Rattle.cell_library.specs.Layout.{CellsTold}
 use Rattle.netlist_text.proofs.Reading.{
   cleared-past,
   Reading,
@@ -37,7 +37,7 @@ Inv-loop rules text library table₀ used n at₀ number₀ table at number =
     (at ≤ length text)
     × (number ≤ at + 1)
     × (length table ≡ length table₀)
-    × ((cells : List Cell) → LibraryHolds library cells → Reading rules cells text at number table (drop Size.netlist table₀))
+    × ((cells : List Cell) → CellsTold library cells → Reading rules cells text at number table (drop Size.netlist table₀))
 
 abbrev μ-loop : tie.MeasureT-loop
 μ-loop rules text library table₀ used n at₀ number₀ table at number = length text - at
@@ -92,7 +92,7 @@ whole c =
 -- What `read_line` answered and left.
 decided : (c : tie.After-read-line Inv-loop μ-loop) (cells : List Cell)
     → let w = walking (ended c .before) in
-    (lib : LibraryHolds (begun (cleared w) .args .library .now) cells)
+    (lib : CellsTold (begun (cleared w) .args .library .now) cells)
     → let so-far = w .loop .inv .3 cells lib in
     Decided cells (so-far .statements) (statementOf (begun (cleared w) .args .rules) cells (fields (part 10 (text w) (w .loop .at))))
     (drop Size.netlist (cleared w .clear .last .0)) (c .read-line .result) (c .read-line .last .1 .1 .1 .0)

@@ -11,7 +11,7 @@ abbrev begins : tie.After-entry → tie.Start
 begins c = c .before .before .before .before
 
 abbrev accepted : tie.After-read-all-arg → tie.After-entry
-accepted c = c .before .before .before
+accepted c = c .before .before .before .before
 
 read-all-requires : tie.Need-read-all-requires
 read-all-requires c κs =
@@ -32,7 +32,7 @@ returns-2 c =
     let e = accepted (r .before) in
     let a = begins e .args in
     behind (a .rules) (now (a .text)) (now (a .library)) (now (a .table)) (e .entry .result) (e .entry .ensures) (search needs)
-    (r .read-all .result) _ (r .read-all .ensures)
+    (r .read-all .result) _ _ (r .before .before .told .ensures) (r .read-all .ensures)
 
 pub read-netlist-into-spec : {M : Type 1} → statement M
 read-netlist-into-spec =
@@ -41,6 +41,7 @@ read-netlist-into-spec =
     (λ c κs. search needs)
     (λ c. search needs)
     (λ c. search needs)
+    (λ c κs. search needs)
     read-all-requires
     returns
     (λ c. search needs)

@@ -1,18 +1,15 @@
 -- `scoap_built_in` tells the answer of `put_built_in` by one number. Assumes nothing.
 use mathlib.Core.Path.{ap, _∙_}
 use borrow.Author.Needs.{needs}
-use Rattle.reading.specs.Numbers as No
-use Rattle.text.specs.Bytes.{text}
 use Rattle.writer.specs.Buffer.{codeOf}
-use Rattle.writer.proofs.Buffer.{text-line}
-use Rattle.built_in.specs.BuiltIn.{builtIn}
+use Rattle.built_in.proofs.BuiltIn.{within-line}
 use Rattle.scoap_c.proofs.scoap_built_in.Statement.{statement}
 use Rattle.scoap_c.proofs.scoap_built_in.Tie as tie
 
 code-requires : tie.Need-code-requires
 code-requires c κs =
     let p = c .before .before in
-    rw (p .put-built-in .ensures .0 .answers) (text-line No.reportLong _ (text builtIn))
+    rw (p .put-built-in .ensures .0 .answers) (within-line _)
 
 returns : tie.Need-returns
 returns c =

@@ -5,10 +5,10 @@ use Rattle.scoap_c.proofs.scoap_cell.Statement.{statement}
 use Rattle.scoap_c.proofs.scoap_cell.Tie as tie
 
 code-requires : tie.Need-code-requires
-code-requires c κs = cell-line _ _ _ _ (c .before .before .put-entry .ensures)
+code-requires c κs = cell-line _ _ _ _ (c .before .before .put-entry .ensures .0)
 
 returns : tie.Need-returns
-returns c = cell-coded _ _ _ _ (c .before .before .before .put-entry .ensures) _ (c .code .ensures)
+returns c = cell-coded _ _ _ _ (c .before .before .before .put-entry .ensures .0) _ (c .code .ensures)
 
 pub scoap-cell-spec : {M : Type 1} → statement M
 scoap-cell-spec = tie.close (tie.spec (λ c κs. search needs) code-requires (λ c. search needs) returns)

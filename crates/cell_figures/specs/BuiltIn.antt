@@ -1,10 +1,19 @@
 -- The built-in library. Document 02, K6: "A built-in library text of AND2 to AND4, then likewise NAND, OR, NOR, XOR (1 for an odd
--- count of ones) and XNOR (its opposite), and last NOT".
+-- count of ones) and XNOR (its opposite), and last NOT, is byte for byte what the generator prints."
 -- Assumes nothing.
-use mathlib.Core.List.{List, [], _∷_}
+use mathlib.Core.List.{List, [], _∷_, _++_}
+use Prim.Native.Nat.{ℕ}
 use Prim.Native.String.{String}
+use Rattle.text.specs.Bytes.{text}
+use Rattle.reading.specs.Refusal.{Read, read, _>>=_}
+use Rattle.generator.specs.Generated.{generated}
 
--- Its 19 truth tables, each as the line that the generator reads.
+-- What the generator prints of each line, one entry behind the other.
+unfoldable pub entries : List String → Read (List ℕ)
+entries [] = read []
+entries (t ∷ ts) = generated (text (t ∷ [])) >>= λ entry. entries ts >>= λ others. read (entry ++ others)
+
+-- Its 19 truth tables, each as the line that the generator reads. What it prints of them is the library.
 abbrev pub tables : List String
 tables =
     "AND2,2,0001"
@@ -28,7 +37,7 @@ tables =
     ∷ "NOT,1,10"
     ∷ []
 
--- The text, by its lines.
+-- The library's text, by its lines: `BuiltInFigure` of Figures.antt says that it is what is printed.
 abbrev pub builtIn : List String
 builtIn =
     "Name,AND2,2"

@@ -28,7 +28,7 @@ bit-suc : (n j : ℕ) → bit n (suc j) ≡ bit (n / 2) j
 unfolding bit odd
 bit-suc n j = ap (λ (e : ℕ). odd (n / 2 ^ e)) (sym (one-add j)) ∙ ap odd (sym (shr-shr n 1 j))
 
-low-bit : (a m y k : ℕ) → k < m → bit (a * 2 ^ m + y) k ≡ bit y k
+pub low-bit : (a m y k : ℕ) → k < m → bit (a * 2 ^ m + y) k ≡ bit y k
 low-bit a zero y k h = absurd (not-suc-le-zero h)
 low-bit a (suc m) y zero h =
     unfold bit in ap (λ (x : ℕ). eqb (x % 2) 1) (div-one (a * 2 ^ suc m + y)) ∙ ap (λ (x : ℕ). eqb x 1) (block-odd a m y)
@@ -36,7 +36,7 @@ low-bit a (suc m) y zero h =
 low-bit a (suc m) y (suc k) h =
     bit-suc (a * 2 ^ suc m + y) k ∙ ap (λ (x : ℕ). bit x k) (block-half a m y) ∙ low-bit a m (y / 2) k (le-of-suc-le-suc h) ∙ sym (bit-suc y k)
 
-high-bit : (a m y b : ℕ) → y < 2 ^ m → bit (a * 2 ^ m + y) (m + b) ≡ bit a b
+pub high-bit : (a m y b : ℕ) → y < 2 ^ m → bit (a * 2 ^ m + y) (m + b) ≡ bit a b
 unfolding bit odd
 high-bit a m y b h = ap odd (sym (shr-shr (a * 2 ^ m + y) m b)) ∙ ap (λ (x : ℕ). odd (x / 2 ^ b)) (digits-div a h)
 
@@ -47,7 +47,7 @@ unfoldable pub says : Option Bool → ℕ → Bool
 says none v = false
 says (some w) v = eqb (digit w) v
 
-four : (k : ℕ) → 4 ^ k ≡ 2 ^ (2 * k)
+pub four : (k : ℕ) → 4 ^ k ≡ 2 ^ (2 * k)
 four zero = refl
 four (suc k) =
     let twice : 2 * suc k ≡ suc (suc (2 * k)) = omega arith in
@@ -60,7 +60,7 @@ literal-small none = omega arith
 literal-small (some false) = omega arith
 literal-small (some true) = omega arith
 
-term-small : (t : Term) → termColumns t < 4 ^ length t
+pub term-small : (t : Term) → termColumns t < 4 ^ length t
 unfolding termColumns
 term-small [] = omega arith
 term-small (l ∷ t) =
