@@ -1,14 +1,19 @@
-// Files and standard output, for the programs of this repository: reading a whole file by its name,
-// and printing bytes, or that a file is unreadable.
+// Files and standard output, for the programs of this repository: reading a whole file by its name, printing bytes, and what
+// every program prints of its files alike.
 //
-// For those programs alone: `load`, `front`, `print` and `print_unreadable`. A file that cannot
-// be opened or read to its end is unreadable, a directory among them. A file longer than the buffer
-// fills it, so that a program tells one of more than 65,535 bytes by a buffer of 65,536.
+// For those programs alone: `load`, `front`, `put_unreadable` and `print`. A file that cannot be opened or read to its end is
+// unreadable, a directory among them. A file longer than a text may be fills the buffer, and is seen to be longer.
+// specs/Output.antt says what a program prints of files that were loaded.
 use libc::STDOUT_FILENO;
 ghost use mathlib.Core.Path.{_≡_};
 ghost use Prim.Native.Nat.{_≤_};
 ghost use lib.ListN.{length, take};
-ghost use Rattle.files.specs.Loading.{Within, nextOf};
+ghost use Rattle.writer.specs.Put.{Put};
+ghost use Rattle.files.specs.Loading.{Within, Seen, nextOf};
+ghost use Rattle.files.specs.Output.{unreadable};
+
+// One byte more than a text may have.
+pub const FILE_BYTES: usize = sizes::TEXT_BYTES + 1;
 
 pub enum Loaded {
     Bytes(usize),
@@ -21,8 +26,8 @@ enum Filling {
     Done(Loaded),
 }
 
-pub fn load(path: &[u8], buffer: &mut [u8]) -> Loaded
-    ensures { λ r. ⌜ Within r (now (buffer .exit)) ⌝ }
+pub fn load(path: &[u8], buffer: &mut [u8; FILE_BYTES]) -> Loaded
+    ensures { λ r. ⌜ Seen r (now (buffer .exit)) ⌝ }
 {
     let fd = os::open_read(path);
     if fd < 0 {
@@ -75,11 +80,13 @@ pub fn front(buffer: &[u8], n: usize) -> &[u8]
     }
 }
 
-pub fn print(bytes: &[u8]) {
-    io::write_all(STDOUT_FILENO, bytes);
+// What is printed where a file cannot be read, into the front of a buffer.
+pub fn put_unreadable(output: &mut [u8]) -> usize
+    ensures { λ r. ⌜ Put 0 unreadable (now (output .entry)) (now (output .exit)) r ⌝ }
+{
+    writer::put_bytes(output, 0, b"unreadable\n")
 }
 
-// "when a file can't be read it prints `unreadable` and nothing else".
-pub fn print_unreadable() {
-    io::write_all(STDOUT_FILENO, b"unreadable\n");
+pub fn print(bytes: &[u8]) {
+    io::write_all(STDOUT_FILENO, bytes);
 }

@@ -3,6 +3,7 @@
 // and accepted ones; lists of 2,000 records and more, of which it prints what is left in lent memory;
 // that records and a text that say the same come to the same is proved, in crate `records`,
 // proofs/Same.antt.
+use files::FILE_BYTES;
 use files::Loaded;
 use libc::STDOUT_FILENO;
 use outcome::Answer;
@@ -361,6 +362,13 @@ fn lend_full(lib: &[u8]) {
     lend_roomless(lib, full, GOOD);
 }
 
+fn lend_loaded(loaded: Loaded, lib: &[u8; FILE_BYTES]) {
+    match loaded {
+        Loaded::Bytes(n) => lend_full(files::front(lib, n)),
+        Loaded::Unreadable => files::print(b"unreadable\n"),
+    }
+}
+
 fn main() {
     let latch = latch_with(mark(0, 0));
     lend_all(latch, 5);
@@ -430,10 +438,7 @@ fn main() {
     lend_all(latch_with(mark(3, 5)), 6);
     lend_all(latch_with(mark(3, 4)), 6);
     lend_all(latch_with(mark(1, 5)), 6);
-    let mut lib = [0u8; 4096];
+    let mut lib = [0u8; FILE_BYTES];
     let loaded = files::load(b"lib.txt", &mut lib);
-    match loaded {
-        Loaded::Bytes(n) => lend_full(files::front(&lib, n)),
-        Loaded::Unreadable => files::print_unreadable(),
-    }
+    lend_loaded(loaded, &lib);
 }

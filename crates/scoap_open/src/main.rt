@@ -1,27 +1,53 @@
-// The program scoap_open: reads lib.txt and net.txt of the current folder and prints the copy of the
-// netlist with its open lines, or `refused,number,line` by the old rules, or `unreadable` where a file
-// cannot be read. What is printed of two texts is proved, in crate `open_lines`; here the files are
-// read and just those bytes are written.
+// The program scoap_open: reads lib.txt and net.txt of the current folder and prints the copy of the netlist with its open
+// lines, or `refused,number,line` by the old rules, or `unreadable` where a file cannot be read. What it prints of files that
+// were loaded is proved: `put_output` puts it ready, and `print_output` takes nothing else.
+use files::FILE_BYTES;
 use files::Loaded;
 use files::front;
+use files::put_unreadable;
+use open_lines::COPY_BYTES;
+ghost use mathlib.Core.Path.{_≡_};
+ghost use Rattle.files.specs.Output.{ofFiles, PrintsFiles};
+ghost use Rattle.open_lines.specs.Copied.{copyBytes, copyPrinted};
 
-// One byte more than a text may have, so that a longer file is seen to be longer.
-const FILE_BYTES: usize = sizes::TEXT_BYTES + 1;
+fn put_output(
+    lib_loaded: Loaded,
+    lib: &[u8; FILE_BYTES],
+    net_loaded: Loaded,
+    net: &[u8; FILE_BYTES],
+    output: &mut [u8; COPY_BYTES],
+) -> usize
+    ensures { λ r. ⌜ PrintsFiles copyBytes copyPrinted «lib_loaded» (now (lib .entry)) «net_loaded» (now (net .entry))
+        (now (output .exit)) r ⌝ }
+{
+    let Loaded::Bytes(lib_length) = lib_loaded else {
+        return put_unreadable(output);
+    };
+    let Loaded::Bytes(net_length) = net_loaded else {
+        return put_unreadable(output);
+    };
+    open_lines::put_copy(front(lib, lib_length), front(net, net_length), output)
+}
+
+// Writes what the program prints of its files. The files are handed on for the condition alone.
+fn print_output(
+    lib_loaded: Loaded,
+    lib: &[u8; FILE_BYTES],
+    net_loaded: Loaded,
+    net: &[u8; FILE_BYTES],
+    bytes: &[u8],
+)
+    requires { ⌜ now bytes ≡ ofFiles copyPrinted «lib_loaded» (now lib) «net_loaded» (now net) ⌝ }
+{
+    files::print(bytes);
+}
 
 fn main() {
     let mut lib = [0u8; FILE_BYTES];
     let mut net = [0u8; FILE_BYTES];
     let lib_loaded = files::load(b"lib.txt", &mut lib);
     let net_loaded = files::load(b"net.txt", &mut net);
-    let Loaded::Bytes(lib_length) = lib_loaded else {
-        files::print_unreadable();
-        return;
-    };
-    let Loaded::Bytes(net_length) = net_loaded else {
-        files::print_unreadable();
-        return;
-    };
-    let mut copy = [0u8; open_lines::COPY_BYTES];
-    let length = open_lines::put_copy(front(&lib, lib_length), front(&net, net_length), &mut copy);
-    files::print(front(&copy, length));
+    let mut output = [0u8; COPY_BYTES];
+    let length = put_output(lib_loaded, &lib, net_loaded, &net, &mut output);
+    print_output(lib_loaded, &lib, net_loaded, &net, front(&output, length));
 }

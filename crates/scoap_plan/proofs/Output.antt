@@ -1,0 +1,83 @@
+-- What is printed of good arguments and of bad ones, from what the parts of the program put into the buffer.
+-- Assumes nothing.
+use mathlib.Core.List.{List, [], _∷_}
+use mathlib.Core.Bool.{_||_}
+use mathlib.Core.Path.{_≡_, refl, sym, ap, _∙_}
+use Prim.Native.Nat.{ℕ, _≤_}
+use native.Mathlib.Omega.{arith}
+use lib.ListN.{length, replicate}
+use borrow.Author.Tests.{eq-eqb, ne-eqb}
+use Rattle.sizes.specs.Sizes as Size
+use Rattle.reading.specs.Choice.{pick}
+use Rattle.reading.specs.Numbers as No
+use Rattle.reading.specs.Refusal.{weigh}
+use Rattle.text.specs.Bytes.{bytes}
+use Rattle.text.specs.Numeral.{decimal}
+use Rattle.writer.specs.Put.{Put}
+use Rattle.outcome.specs.Outcome as O
+use Rattle.outcome.specs.Outcome.{givenBy, givenTexts, textLong}
+use Rattle.outcome.specs.Own.{ownTables}
+use Rattle.planning.specs.Promise.{planOutcome}
+use Rattle.planning.specs.Printed.{planPrinted, PlanPrinted}
+use Rattle.files.specs.declared.Loaded.{Loaded}
+use Rattle.files.specs.Output.{Outputs, LongRefused, PrintsFiles}
+use Rattle.files.proofs.Output.{prints-outputs, put-outputs, long-shown, either-long}
+use Rattle.scoap_plan.specs.declared.Arguments.{Arguments}
+use Rattle.scoap_plan.specs.declared.Arguments.the-variants.{Plan, Usage}
+use Rattle.scoap_plan.specs.Output.{words, threeDecimals, argumentsOf, usage, planShown, planOutput, PlanOutputs}
+
+-- ---- the arguments
+
+module _ (count : ℕ) (line value kind : List ℕ) where
+  pub words-bad : (count ≡ words → ⊥) → Usage ≡ argumentsOf count line value kind
+  unfolding argumentsOf pick
+  words-bad h = rw (ne-eqb count words h) refl
+
+  pub words-good : {a : Arguments} → count ≡ words → a ≡ threeDecimals (decimal line) (decimal value) (decimal kind) → a ≡ argumentsOf count line value kind
+  unfolding argumentsOf pick
+  words-good h e = rw (eq-eqb count words h) e
+
+-- ---- the plan
+
+entry-own : (lib net before : List ℕ) → O.entry (givenTexts lib net) (ownTables before) ≡ weigh 0 ((No.textLong, textLong lib || textLong net) ∷ [])
+unfolding O.entry O.tableShort givenBy ownTables weigh pick
+entry-own lib net before = refl
+
+pub plan-long : (line value kind : ℕ) → LongRefused (planShown line value kind)
+unfolding planShown planPrinted planOutcome
+plan-long line value kind lib net h =
+    rw (entry-own lib net (replicate Size.reportBytes 0)) (unfold textLong in long-shown _ (either-long lib net h) _)
+
+-- Put into a buffer that is clear.
+pub plan-outputs : (lib net before : List ℕ) (line value kind : ℕ) {clear after : List ℕ} {said : ℕ} → clear ≡ replicate (length before) 0
+    → Size.reportBytes ≡ length before → PlanPrinted lib net line value kind clear after said
+    → Outputs Size.reportBytes (planShown line value kind lib net) after said
+unfolding planShown
+plan-outputs lib net before line value kind f e p = rw (f, ← e) at (prints-outputs p)
+
+-- ---- all of it
+
+module _ (a : Arguments) (l : Loaded) (lib : List ℕ) (n : Loaded) (net : List ℕ) where
+  pub asked-outputs : {after : List ℕ} {line value kind said : ℕ} → a ≡ Plan line value kind
+      → PrintsFiles Size.reportBytes (planShown line value kind) l lib n net after said → PlanOutputs a l lib n net after said
+  unfolding planOutput
+  asked-outputs {line = line} {value = value} {kind = kind} e p =
+      rw e
+      (record {
+        outputs = p .outputs;
+        files = λ line′ value′ kind′ same.
+            let x : line ≡ line′ = cc in
+            let y : value ≡ value′ = cc in
+            let z : kind ≡ kind′ = cc in
+            rw (← x, ← y, ← z) p;
+      })
+
+  pub usage-outputs : {before after : List ℕ} {said : ℕ} → a ≡ Usage → Size.reportBytes ≡ length before → Put 0 usage before after said
+      → PlanOutputs a l lib n net after said
+  unfolding planOutput usage bytes
+  usage-outputs e s p =
+      rw e
+      (record {
+        outputs = put-outputs s (omega arith) p;
+        files = λ line value kind same. absurd (let z : _≡_ {A = ℕ} 0 1 = cc in omega arith);
+      })
