@@ -41,7 +41,14 @@ extern "C" {
 /* Stack that a thread should have left for the call. */
 #define SCOAP_STACK 524288u
 
-/* The answers from here on are refusals: number times SCOAP_REFUSED plus line. */
+/*
+ * Every call answers by one number, and every number is one of two, for every input:
+ *   below SCOAP_REFUSED      accepted: a length, a count or a line, as each call says
+ *   SCOAP_REFUSED and above  refused: the refusal's number times SCOAP_REFUSED plus its line, which scoap_number and
+ *                            scoap_line give back. The line is at most 65,536, and 0 where the refusal belongs to no line
+ * No length is taken for a refusal: where a text could be as long as SCOAP_REFUSED, in scoap_plan alone, such a text
+ * counts as longer than its buffer.
+ */
 #define SCOAP_REFUSED 1000000u
 
 /*
@@ -116,9 +123,8 @@ enum scoap_refusal {
  * Each pointer is valid for its length, and not null even where the length is 0. The buffer overlaps
  * neither text.
  *
- * Answers the report's length, which is below SCOAP_REFUSED, where the pair is accepted. Otherwise
- * it answers the refusal's number times 1,000,000 plus the line, from 1 in the text that the number
- * belongs to: 3 to 9 the library, 10 to 15, 21 and 22 the netlist; 2, 17 and 20 have line 0. The library
+ * Answers the report's length where the pair is accepted. Otherwise it answers a refusal, with the line
+ * from 1 in the text that the number belongs to: 3 to 9 the library, 10 to 15, 21 and 22 the netlist; 2, 17 and 20 have line 0. The library
  * is read first; the topmost bad line counts, and within it the lowest number. 20 comes after all lines.
  *
  * Where the netlist has a line 'range,L,LOW,HIGH' the report is written twice: with all such inputs at LOW, then,
@@ -148,11 +154,12 @@ uint64_t scoap_report(const uint8_t *lib, size_t lib_len, const uint8_t *net, si
  *
  * lib, net    the texts, as for scoap_report
  * line        the line, 1 to 1,000; value 0 or 1; kind 0 combinational, 1 sequential
- * text        the buffer, text_len bytes, below SCOAP_REFUSED so that a length is told from a refusal
+ * text        the buffer, text_len bytes
  *
  * Answers the text's length, or a refusal as scoap_report answers it. 17 is not made; 18 and 19 have line 0
- * and come after every other. The buffer afterwards is as scoap_report leaves its own: untouched by 2, zero
- * after every other refusal; bytes past the text keep their values.
+ * and come after every other. 19 comes where the text is longer than the buffer, and where it has SCOAP_REFUSED
+ * bytes or more, however long the buffer is. The buffer afterwards is as scoap_report leaves its own: untouched by 2,
+ * all zero after every other refusal; bytes past the text keep their values.
  * Of a standing analysis, after scoap_change too, the plan under its library costs the number that stands.
  */
 uint64_t scoap_plan(const uint8_t *lib, size_t lib_len, const uint8_t *net, size_t net_len,
@@ -171,9 +178,8 @@ uint64_t scoap_plan(const uint8_t *lib, size_t lib_len, const uint8_t *net, size
  * Each pointer is valid for its length, and not null even where the length is 0. The buffer does not
  * overlap the line.
  *
- * Answers the entry's length, which is below SCOAP_REFUSED. Otherwise it answers the refusal's number times
- * 1,000,000 plus the line: 2 (more than 65,535 bytes) at line 0, 3 (bad form) and 5 (n above 4) at line 1,
- * 17 (the entry is longer than its buffer) at line 0. The buffer afterwards is as scoap_report leaves its own.
+ * Answers the entry's length. Otherwise it answers a refusal: 2 (more than 65,535 bytes) at line 0, 3 (bad form)
+ * and 5 (n above 4) at line 1, 17 (the entry is longer than its buffer) at line 0. The buffer afterwards is as scoap_report leaves its own.
  */
 uint64_t scoap_cell(const uint8_t *line, size_t line_len, uint8_t *entry, size_t entry_len);
 

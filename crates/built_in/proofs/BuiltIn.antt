@@ -35,7 +35,7 @@ pub text-bytes : lengthRead (entries tables) ≡ read 2044
 unfolding lengthRead bytes-open
 text-bytes = rw printed refl
 
-size : length (text builtIn) ≡ 2044
+pub size : length (text builtIn) ≡ 2044
 unfolding bytes-open
 size = refl
 

@@ -22,7 +22,7 @@ use Rattle.planning.specs.Promise.{planOutcome, tablesFilled, planFilled
 use Rattle.planning.specs.Printed.{planPrinted, PlanPrinted}
 
 -- What is left in the text buffer, by what the call comes to alone.
-text-left : (g : Given) → Checked g → (m : Lent) (l v kind : ℕ) → planLeft g m l v kind .report ≡ leftBy (planOutcome g m l v kind) (m .report)
+pub text-left : (g : Given) → Checked g → (m : Lent) (l v kind : ℕ) → planLeft g m l v kind .report ≡ leftBy (planOutcome g m l v kind) (m .report)
 unfolding planLeft planFrom planLater planFilled tablesFilled planOutcome leftBy zeroed pick _>>_ _>>=_
 text-left g checked m l v kind = from-entry (entry g m) refl
   where

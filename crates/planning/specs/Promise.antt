@@ -119,14 +119,16 @@ pub record PlanSeen (g : O.Given) (l v kind : ℕ) (buffer : List ℕ) (n : ℕ)
 
 -- Demand 1: what a refusal leaves, by the check that makes it, and by its number alone.
 pub record PlanRefusals (g : O.Given) (before after : O.Lent) (said : Read ℕ) : Type 0 where
-  -- "A refusal at entry touches no lent table;
+  -- "A refusal at entry touches no lent table";
   pub atEntry : (number line : ℕ) → O.entry g before ≡ refused number line → (said ≡ refused number line) × (after ≡ before)
-  -- every other refusal leaves them all zero": "every other check .. whose refusals treat that buffer as the report's";
+  -- "every other refusal leaves them all zero", the text buffer too: "every other check .. whose refusals treat that buffer as
+  -- the report's";
   pub ofTexts : O.entry g before ≡ read tt → (number line : ℕ) → O.readPair g ≡ refused number line
       → (said ≡ refused number line) × (after ≡ O.zeroed before)
-  -- 18 and 19 "zero that buffer alone".
+  -- 18 and 19 "zero that buffer alone". No other refusal is made of an accepted library and netlist.
   pub ofPlan : O.entry g before ≡ read tt → (p : O.Pair) → O.readPair g ≡ read p → (number line : ℕ) → said ≡ refused number line
       → (ownNumber number ≡ true) × (after ≡ tablesFilled p before (replicate (length (before .report)) 0))
+  -- By the number: what was lent, and the text buffer.
   pub untouched : (number line : ℕ) → said ≡ refused number line → No.ofEntry number ≡ true → after ≡ before
   pub cleared : (number line : ℕ) → said ≡ refused number line → No.ofEntry number ≡ false
       → after .report ≡ replicate (length (before .report)) 0
@@ -141,6 +143,7 @@ pub record PlanPromised (g : O.Given) (before after : O.Lent) (l v kind : ℕ) (
   -- 1 only of "a lent table below its published size".
   pub tableShort : (line : ℕ) → said ≡ refused No.tableShort line → O.tableShort before ≡ true
   pub refusals : PlanRefusals g before after said
+  -- An accepted call's text is the plan's.
   pub seen : (n : ℕ) → said ≡ read n → PlanSeen g l v kind (after .report) n
   -- Demands 2 and 3 of the numbers that it leaves, also where it refuses by 18 or 19.
   pub stands : (p : O.Pair) → O.entry g before ≡ read tt → O.readPair g ≡ read p → NumbersStand (p .cells) (p .statements) (after .numbers)

@@ -1,49 +1,81 @@
--- The number that the generator's call for C answers.
+-- The numbers that the generator's and the built-in library's calls for C answer.
 -- Assumes nothing.
 use mathlib.Core.List.{List}
-use mathlib.Core.Path.{_≡_, ap}
-use Prim.Native.Nat.{ℕ, _<_}
+use mathlib.Core.Path.{_≡_, sym, _∙_}
+use Prim.Native.Nat.{ℕ, _≤_, _<_}
 use native.Mathlib.Omega.{arith}
-use borrow.Author.Tests.{le-leb}
+use borrow.Author.Tests.{le-leb, ltb-true, ltb-false}
+use lib.Dec.{ltb}
 use lib.ListN.{length}
+use Rattle.reading.specs.Numbers as No
 use Rattle.reading.specs.Refusal.{Read, refused, read}
 use Rattle.reading.proofs.Bounds.{Within, anyNumber}
-use Rattle.reading.proofs.Laws.{refused-read}
+use Rattle.reading.proofs.Laws.{by-test, refused-read}
 use Rattle.writer.specs.declared.Written.{Written}
-use Rattle.writer.specs.Buffer.{codeLines, codeOf, lengthRead, writtenRead, LineBelow, Writes}
-use Rattle.writer.proofs.Buffer.{told-line, told-code}
+use Rattle.writer.specs.Buffer.{textWithin, codeLines, codeOf, lengthRead, writtenRead, LineBelow, Writes}
+use Rattle.writer.proofs.Buffer.{text-fits, text-long}
 use Rattle.generator.specs.Generated.{generatedInto}
-use Rattle.generator.specs.Bounded.{Bounded}
+use Rattle.generator.specs.Bounded.{Bounded, LongBelow}
 use Rattle.generator.proofs.Bounded.{bounded}
+use Rattle.scoap_c.specs.Number.{lastLine, Tells}
 use Rattle.scoap_c.specs.Cell.{CellCoded}
+use Rattle.scoap_c.proofs.Number.{tells, line-below, told-number}
 
-told-within : (room : ℕ) (o : Read (List ℕ)) → Bounded room o → Within anyNumber 1 (lengthRead o)
+-- ---- the generator
+
+bounded-within : (room : ℕ) (o : Read (List ℕ)) → Bounded room o → Within anyNumber lastLine (lengthRead o)
 unfolding Bounded lengthRead
-told-within room (refused number line) b = (le-leb 1 number (b .0), b .2)
-told-within room (read entry) b = tt
+bounded-within room (refused number line) b = (le-leb 1 number (b .0), omega (arith, b .2))
+bounded-within room (read entry) b = tt
 
-below : (room : ℕ) (o : Read (List ℕ)) → Bounded room o → (entry : List ℕ) → o ≡ read entry → codeOf (lengthRead o) < codeLines
-unfolding Bounded lengthRead codeOf
-below room (refused k l) b entry e = refused-read e
-below room (read text) b entry e = omega (arith, b)
+bounded-small : (room : ℕ) (o : Read (List ℕ)) → Bounded room o → (n : ℕ) → lengthRead o ≡ read n → n < codeLines
+unfolding Bounded lengthRead
+bounded-small room (refused k l) b n e = refused-read e
+bounded-small room (read text) b n e = let same : length text ≡ n = cc in omega (arith, b)
 
 module _ (line before after : List ℕ) (w : Written) (c : Writes (generatedInto line (length before)) before after w) where
   abbrev came : Read (List ℕ)
   came = generatedInto line (length before)
 
-  within : Within anyNumber 1 (lengthRead came)
-  within = told-within (length before) came (bounded line (length before))
+  within : Within anyNumber lastLine (writtenRead w)
+  within = rw (c .answers) (bounded-within (length before) came (bounded line (length before)))
 
   pub cell-line : LineBelow (writtenRead w)
-  cell-line = rw (c .answers) (told-line 1 (omega arith) (lengthRead came) within)
+  cell-line = line-below (writtenRead w) within
 
-  pub cell-coded : (said : ℕ) → said ≡ codeOf (writtenRead w) → CellCoded line before after said
-  unfolding lengthRead
-  cell-coded said e =
-      let is : said ≡ codeOf (lengthRead came) = rw (c .answers) at e in
+  pub cell-coded : LongBelow (length before) (writtenRead w) → (said : ℕ) → said ≡ codeOf (writtenRead w) → CellCoded line before after said
+  cell-coded long said is =
+      let small = bounded-small (length before) came (bounded line (length before)) in
+      let t = tells (writtenRead w) within (λ n e. small n (sym (c .answers) ∙ e)) said is in
       record {
-        answers = is;
+        answers = rw (← c .answers) t;
         leaves = c .leaves;
-        accepted = λ entry q. rw is (below (length before) came (bounded line (length before)) entry q);
-        refusal = λ number at q. rw is (told-code 1 (omega arith) (lengthRead came) within number at (ap lengthRead q));
+        reportLong = λ h. long _ (told-number t No.reportLong (omega arith) h);
       }
+
+-- ---- the built-in library
+
+-- The number of a text that is written or too long.
+module _ (number space : ℕ) (text : List ℕ) (some : 1 ≤ number) (short : length text < codeLines) where
+  text-within : Within anyNumber lastLine (lengthRead (textWithin number space text))
+  unfolding lengthRead
+  text-within =
+      by-test (ltb space (length text))
+      (λ t. rw (text-long number space text (ltb-true space (length text) t)) (le-leb 1 number some, omega arith))
+      (λ t. rw (text-fits number space text (ltb-false space (length text) t)) tt)
+
+  text-small : (n : ℕ) → lengthRead (textWithin number space text) ≡ read n → n < codeLines
+  unfolding lengthRead
+  text-small n e =
+      by-test (ltb space (length text))
+      (λ t. refused-read (rw (text-long number space text (ltb-true space (length text) t)) at e))
+      (λ t.
+      let q = rw (text-fits number space text (ltb-false space (length text) t)) at e in
+      let same : length text ≡ n = cc in
+      omega arith)
+
+  pub text-line : LineBelow (lengthRead (textWithin number space text))
+  text-line = line-below _ text-within
+
+  pub text-tells : (said : ℕ) → said ≡ codeOf (lengthRead (textWithin number space text)) → Tells (lengthRead (textWithin number space text)) said
+  text-tells = tells _ text-within text-small

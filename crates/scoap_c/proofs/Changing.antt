@@ -2,73 +2,53 @@
 -- Assumes nothing.
 use mathlib.Core.Bool.{Bool, true, false}
 use mathlib.Core.List.{List}
-use mathlib.Core.Path.{_≡_, ap, _∙_}
-use Prim.Native.Nat.{ℕ, _≤_, _<_}
+use mathlib.Core.Path.{_≡_, ap}
+use Prim.Native.Nat.{ℕ, _≤_}
 use native.Mathlib.Omega.{arith}
 use Rattle.reading.specs.Choice.{pick}
-use Rattle.reading.specs.Refusal.{Read, refused, read, _>>=_}
-use Rattle.reading.specs.declared.Refusal.{Refusal}
-use Rattle.reading.proofs.Bounds.{Within, anyNumber, within-bind}
-use Rattle.writer.specs.Buffer.{codeLines, refusalCode, codeOf, LineBelow}
-use Rattle.writer.proofs.Buffer.{told-line, told-code}
+use Rattle.reading.proofs.Bounds.{Within, anyNumber}
+use Rattle.writer.specs.Buffer.{codeOf, LineBelow}
 use Rattle.outcome.specs.Outcome.{givenTexts}
-use Rattle.outcome.proofs.Bounds.{lastLine}
 use Rattle.changing.specs.declared.Changed.{Changed}
-use Rattle.changing.specs.declared.Changed.the-variants.{WentOn, BegunAgain, Refused}
+use Rattle.changing.specs.declared.Changed.the-variants.{WentOn, BegunAgain}
 use Rattle.changing.specs.Calls.{changedRead}
 use Rattle.changing.specs.Promise.{ChangePromised}
 use Rattle.changing.proofs.Bounds.{change-within}
+use Rattle.scoap_c.specs.Number.{lastLine}
 use Rattle.scoap_c.specs.Changing.{toldNumber, ChangeCoded}
-
-told-refused : (o : Read Bool) (number line : ℕ) → o ≡ refused number line → toldNumber o ≡ refused number line
-unfolding toldNumber _>>=_
-told-refused o number line e = rw e
-
-told-small : (o : Read Bool) (on : Bool) → o ≡ read on → codeOf (toldNumber o) ≤ 1
-unfolding toldNumber codeOf pick _>>=_
-told-small o true e = rw e (omega arith)
-told-small o false e = rw e (omega arith)
+use Rattle.scoap_c.proofs.Number.{code-accepted, told-within, told-read, by-accepted, tells-by, line-below}
 
 -- ---- by the answer in the code
 
 module _ (x : Changed) where
   pub code-on : x ≡ WentOn → 1 ≡ codeOf (toldNumber (changedRead x))
-  unfolding changedRead toldNumber codeOf pick _>>=_
-  code-on e = rw e
+  unfolding changedRead pick
+  code-on e = code-accepted (λ on. pick on 1 0) (changedRead x) true (ap changedRead e)
 
   pub code-again : x ≡ BegunAgain → 0 ≡ codeOf (toldNumber (changedRead x))
-  unfolding changedRead toldNumber codeOf pick _>>=_
-  code-again e = rw e
-
-  module _ (r : Refusal) (e : x ≡ Refused r) where
-    pub code-refused : (said : ℕ) → said ≡ refusalCode (r .number) (r .line) → said ≡ codeOf (toldNumber (changedRead x))
-    unfolding changedRead toldNumber codeOf _>>=_
-    code-refused said is = rw e is
-
-    pub code-line : LineBelow (toldNumber (changedRead x)) → r .line < codeLines
-    unfolding changedRead toldNumber _>>=_
-    code-line below = below (r .number) (r .line) (rw e)
+  unfolding changedRead pick
+  code-again e = code-accepted (λ on. pick on 1 0) (changedRead x) false (ap changedRead e)
 
 -- ---- the call
 
+one-most : (on : Bool) → pick on 1 0 ≤ 1
+unfolding pick
+one-most true = omega arith
+one-most false = omega arith
+
 module _ (lib new net before after : List ℕ) (r : Changed) (p : ChangePromised (givenTexts lib net) (givenTexts new net) before after (changedRead r)) where
-  within : Within anyNumber lastLine (toldNumber (changedRead r))
-  unfolding toldNumber
-  within = within-bind anyNumber lastLine (changedRead r) _ (rw (p .answers) (change-within lib new net before)) (λ on. tt)
+  within : Within anyNumber lastLine (changedRead r)
+  within = rw (p .answers) (change-within lib new net before)
 
   pub change-line : LineBelow (toldNumber (changedRead r))
-  change-line = told-line lastLine (omega arith) (toldNumber (changedRead r)) within
+  change-line = line-below _ (told-within (λ on. pick on 1 0) (changedRead r) within)
 
   pub change-coded : (said : ℕ) → said ≡ codeOf (toldNumber (changedRead r)) → ChangeCoded lib new net before after said
-  change-coded said e =
+  change-coded said is =
+      let t = tells-by (λ on. pick on 1 0) (changedRead r) within (λ on e. omega (arith, one-most on)) said is in
       record {
-        answers = e ∙ ap (λ (o : Read Bool). codeOf (toldNumber o)) (p .answers);
+        answers = rw (← p .answers) t;
         leaves = p .leaves;
-        answer = changedRead r;
-        number = e;
-        promised = p;
-        accepted = λ on q. rw e (told-small (changedRead r) on q);
-        refusal =
-            λ number line q.
-            rw e (told-code lastLine (omega arith) (toldNumber (changedRead r)) within number line (told-refused (changedRead r) number line q));
+        promised = rw (← p .answers) p;
+        accepted = λ h. let a = by-accepted (λ on. pick on 1 0) (changedRead r) said (told-read t h) in rw (a .2) (one-most (a .0));
       }

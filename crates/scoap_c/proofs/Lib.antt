@@ -1,3 +1,4 @@
+pub mod Number
 pub mod Coding
 pub mod Cells
 pub mod Plans

@@ -1,37 +1,40 @@
 -- The number of `scoap_qualifies`, from where reading the two texts left it.
 -- Assumes nothing.
-use mathlib.Core.Bool.{true≢false}
+use mathlib.Core.Bool.{true≢false, _&&_}
 use mathlib.Core.List.{List, [], _++_, append-nil}
 use mathlib.Core.Path.{_≡_, refl, sym, ap, subst, _∙_}
-use Prim.Native.Nat.{ℕ, _/_, _≤_, _<_}
+use Prim.Native.Nat.{ℕ, _≤_, _<_}
 use native.Mathlib.Omega.{arith}
-use borrow.Author.Tests.{leb-true}
 use lib.ListN.{length, drop, replicate, length-replicate}
 use lib.Seq.{drop-length}
 use Rattle.sizes.specs.Sizes as Size
 use Rattle.reading.specs.Numbers as No
 use Rattle.reading.specs.Refusal.{Read, refused, read, _>>_}
+use Rattle.reading.specs.Choice.{pick}
 use Rattle.reading.specs.declared.Refusal.{Refusal}
 use Rattle.reading.proofs.Bounds.{Within, anyNumber}
-use Rattle.reading.proofs.Laws.{refused-read}
-use Rattle.writer.specs.Buffer.{codeLines, refusalCode}
-use Rattle.writer.proofs.Buffer.{decoded}
+use Rattle.reading.proofs.Laws.{by-test, refused-read}
+use Rattle.writer.specs.Buffer.{codeLines, refusalCode, codeOf, LineBelow}
 use Rattle.cell_library.specs.Layout.{libraryWords}
 use Rattle.netlist.specs.Layout.{netlistWords}
 use Rattle.outcome.specs.Outcome as O
 use Rattle.outcome.specs.Own.{ownTables}
-use Rattle.outcome.proofs.Bounds.{lastLine, pair-within, behind-entry}
+use Rattle.outcome.proofs.Bounds.{pair-within, behind-entry}
 use Rattle.outcome.proofs.Checking.{texts-checked}
+use Rattle.outcome.proofs.Entering.{own-fit}
 use Rattle.outcome.proofs.Fitting.{entry-number, entry-short, pair-number}
 use Rattle.outcome.proofs.Refusing.{then-refused}
 use Rattle.read_pair.specs.declared.Progress.{Progress}
 use Rattle.read_pair.specs.declared.Progress.the-variants.{Unrefused, AtEntry, Later}
 use Rattle.read_pair.specs.Progress.{Reached}
 use Rattle.read_pair.proofs.Reached.{stands-hold}
-use Rattle.qualifying.specs.Qualifying.{qualifying, Says}
+use Rattle.loops.specs.Settling.{withoutLoops, readOnce}
+use Rattle.netlist.specs.Gates.{gatesHeld}
+use Rattle.qualifying.specs.Qualifying.{allGenerated, qualifying, Says}
 use Rattle.qualifying.proofs.Laws.{qualifying-says}
+use Rattle.scoap_c.specs.Number.{lastLine}
 use Rattle.scoap_c.specs.Qualifies.{qualifiesRead, qualifiesNumber, QualifiesCoded}
-use Rattle.scoap_c.proofs.Coding.{own-fit}
+use Rattle.scoap_c.proofs.Number.{code-accepted, code-refused, code-line, told-within, tells-by, by-accepted, by-refused, line-below, told-read, told-number}
 
 -- Nothing stands past the published size of a table of its own.
 no-rest : (n : ℕ) (xs : List ℕ) → xs ++ drop n (replicate n 0) ≡ xs
@@ -41,6 +44,13 @@ no-rest n xs =
     let none : drop n zeros ≡ [] = rw size at (drop-length zeros) in
     rw none (append-nil xs)
 
+two-most : (library netlist : List ℕ) → qualifying library netlist ≤ 2
+unfolding qualifying pick
+two-most library netlist =
+    by-test (withoutLoops netlist && allGenerated library (gatesHeld netlist))
+    (λ t. by-test (readOnce netlist) (λ u. rw (t, u) (omega arith)) (λ u. rw (t, u) (omega arith)))
+    (λ t. rw t (omega arith))
+
 module _ (lib net : List ℕ) where
   abbrev given : O.Given
   given = O.givenTexts lib net
@@ -49,63 +59,46 @@ module _ (lib net : List ℕ) where
   unfolding qualifiesRead
   came-within = behind-entry lib net (ownTables []) (O.readPair given) (pair-within lib net (ownTables []))
 
-  -- ---- refused
+  -- What is said of what was read.
+  abbrev said-of : O.Pair → ℕ
+  said-of p = qualifying (libraryWords (p .cells)) (netlistWords (p .statements))
 
-  module _ (number line : ℕ) (e : qualifiesRead lib net ≡ refused number line) where
-    told : (1 ≤ number) × (line < codeLines)
-    told =
-        let h = subst (Within anyNumber lastLine) e came-within in
-        (leb-true 1 number (h .0), omega (arith, h .1))
+  abbrev came : Read O.Pair
+  came = qualifiesRead lib net
 
+  came-line : LineBelow (qualifiesNumber came)
+  came-line = line-below _ (told-within said-of came came-within)
+
+  module _ (number line : ℕ) (e : came ≡ refused number line) where
     -- A refusal is one of the entry, or of what is read.
     refused-where : {B : Type 0} → (O.entry given (ownTables []) ≡ refused number line → B) → (O.readPair given ≡ refused number line → B) → B
     unfolding qualifiesRead
     refused-where at-entry later = then-refused (O.entry given (ownTables [])) _ number line at-entry (λ u p q. later q) e
 
-    not-short : number ≡ No.tableShort → ⊥
-    not-short is =
-        refused-where
-        (λ q. true≢false (sym (entry-short given (texts-checked lib net) (ownTables []) line (rw is at q)) ∙ own-fit []))
-        (λ q. true≢false (sym (pair-number given (texts-checked lib net) No.tableShort line (rw is at q))))
+  not-short : (line : ℕ) → came ≡ refused No.tableShort line → ⊥
+  not-short line e =
+      refused-where No.tableShort line e
+      (λ q. true≢false (sym (entry-short given (texts-checked lib net) (ownTables []) line q) ∙ own-fit []))
+      (λ q. true≢false (sym (pair-number given (texts-checked lib net) No.tableShort line q)))
 
-    not-long : number ≡ No.reportLong → ⊥
-    not-long is =
-        refused-where
-        (λ q. true≢false (sym (entry-number given (texts-checked lib net) (ownTables []) No.reportLong line (rw is at q))))
-        (λ q. true≢false (sym (pair-number given (texts-checked lib net) No.reportLong line (rw is at q))))
+  not-long : (line : ℕ) → came ≡ refused No.reportLong line → ⊥
+  not-long line e =
+      refused-where No.reportLong line e
+      (λ q. true≢false (sym (entry-number given (texts-checked lib net) (ownTables []) No.reportLong line q)))
+      (λ q. true≢false (sym (pair-number given (texts-checked lib net) No.reportLong line q)))
 
-  refused-same : (number line n k : ℕ) → _≡_ {A = Read O.Pair} (refused number line) (refused n k) → (number ≡ n) × (line ≡ k)
-  refused-same number line n k e = (cc, cc)
-
-  coded-refused : (number line : ℕ) → qualifiesRead lib net ≡ refused number line → QualifiesCoded lib net (refusalCode number line)
-  unfolding qualifiesNumber
-  coded-refused number line e =
-      let t = told number line e in
-      let d = decoded number line (t .0) (t .1) in
+  coded : (n : ℕ) → n ≡ codeOf (qualifiesNumber came) → ((p : O.Pair) → came ≡ read p → Says (p .cells) (p .statements) n) → QualifiesCoded lib net n
+  coded n is says =
+      let t = tells-by said-of came came-within (λ p e. omega (arith, two-most (libraryWords (p .cells)) (netlistWords (p .statements)))) n is in
       record {
-        answers = rw e refl;
-        says = λ p q. refused-read (sym e ∙ q);
-        refusal = λ n k q. let same = refused-same number line n k (sym e ∙ q) in rw (← same .0, ← same .1) d;
-        accepted = (λ h. absurd (omega (arith, d .above, h)), λ h. refused-read (sym e ∙ h .1));
-        tableShort = λ h. not-short number line e (sym (d .numberIs) ∙ h);
-        reportLong = λ h. not-long number line e (sym (d .numberIs) ∙ h);
-      }
-
-  -- ---- read
-
-  coded-read : (p : O.Pair) → qualifiesRead lib net ≡ read p → (n : ℕ) → n ≡ qualifying (libraryWords (p .cells)) (netlistWords (p .statements))
-      → Says (p .cells) (p .statements) n → QualifiesCoded lib net n
-  unfolding qualifiesNumber
-  coded-read p e n is s =
-      record {
-        answers = rw e is;
-        says = λ x q.
-            let same : p ≡ x = cc (sym e ∙ q) in
-            subst (λ (y : O.Pair). Says (y .cells) (y .statements) n) same s;
-        refusal = λ number line q. refused-read (sym q ∙ e);
-        accepted = (λ h. (p, e), λ h. s .most);
-        tableShort = λ h. omega (arith, s .most);
-        reportLong = λ h. omega (arith, s .most);
+        answers = t;
+        says = says;
+        accepted = (
+          λ h. let a = by-accepted said-of came n (told-read t (omega arith)) in (a .0, a .1),
+          λ h. says (h .0) (h .1) .most,
+        );
+        tableShort = λ h. not-short _ (by-refused said-of came No.tableShort _ (told-number t No.tableShort (omega arith) h));
+        reportLong = λ h. not-long _ (by-refused said-of came No.reportLong _ (told-number t No.reportLong (omega arith) h));
       }
 
   -- ---- from where reading left the call
@@ -128,16 +121,19 @@ module _ (lib net : List ℕ) where
     later r e = let q = rw e at h in rw (← own-entry, q .0) (q .1)
 
     pub entry-line : (r : Refusal) → s ≡ AtEntry r → r .line < codeLines
-    entry-line r e = told (r .number) (r .line) (at-entry r e) .1
+    entry-line r e = code-line said-of came r (at-entry r e) came-line
 
     pub later-line : (r : Refusal) → s ≡ Later r → r .line < codeLines
-    later-line r e = told (r .number) (r .line) (later r e) .1
+    later-line r e = code-line said-of came r (later r e) came-line
+
+    coded-refused : (r : Refusal) → came ≡ refused (r .number) (r .line) → (n : ℕ) → n ≡ refusalCode (r .number) (r .line) → QualifiesCoded lib net n
+    coded-refused r e n is = coded n (code-refused said-of came r e n is) (λ p q. refused-read (sym e ∙ q))
 
     pub qualifies-entry : (r : Refusal) → s ≡ AtEntry r → (n : ℕ) → n ≡ refusalCode (r .number) (r .line) → QualifiesCoded lib net n
-    qualifies-entry r e n is = rw is (coded-refused (r .number) (r .line) (at-entry r e))
+    qualifies-entry r e = coded-refused r (at-entry r e)
 
     pub qualifies-later : (r : Refusal) → s ≡ Later r → (n : ℕ) → n ≡ refusalCode (r .number) (r .line) → QualifiesCoded lib net n
-    qualifies-later r e n is = rw is (coded-refused (r .number) (r .line) (later r e))
+    qualifies-later r e = coded-refused r (later r e)
 
     pub qualifies-accepted : s ≡ Unrefused → (n : ℕ) → n ≡ qualifying library′ netlist′ → QualifiesCoded lib net n
     unfolding Reached qualifiesRead _>>_
@@ -146,7 +142,11 @@ module _ (lib net : List ℕ) where
         let b = q .1 in
         let cells : library′ ≡ libraryWords (b .pair .cells) = b .cellsStand ∙ no-rest Size.library _ in
         let statements : netlist′ ≡ netlistWords (b .pair .statements) = b .statementsStand ∙ no-rest Size.netlist _ in
-        let came : qualifiesRead lib net ≡ read (b .pair) =
+        let reads : came ≡ read (b .pair) =
         ap (λ (u : Read (Unit {0})). u >> O.readPair given) (sym own-entry ∙ q .0) ∙ b .reads in
-        coded-read (b .pair) came n (is ∙ (λ i. qualifying (cells i) (statements i)))
-        (rw is (qualifying-says (stands-hold given (replicate Size.library 0) (replicate Size.netlist 0) (texts-checked lib net) library′ netlist′ b)))
+        let says : Says (b .pair .cells) (b .pair .statements) n =
+        rw is (qualifying-says (stands-hold given (replicate Size.library 0) (replicate Size.netlist 0) (texts-checked lib net) library′ netlist′ b)) in
+        coded n (is ∙ (λ i. qualifying (cells i) (statements i)) ∙ code-accepted said-of came (b .pair) reads)
+        (λ p r.
+        let same : b .pair ≡ p = cc (sym reads ∙ r) in
+        subst (λ (y : O.Pair). Says (y .cells) (y .statements) n) same says)

@@ -7,28 +7,26 @@ use Prim.Native.Nat.{ℕ, _/_, _≤_, _<_}
 use lib.ListN.{length, replicate}
 use Rattle.sizes.specs.Sizes as Size
 use Rattle.reading.specs.Numbers as No
-use Rattle.reading.specs.Refusal.{Read, refused, read}
-use Rattle.writer.specs.Buffer.{codeLines, codeOf, Decoded}
+use Rattle.reading.specs.Refusal.{read}
+use Rattle.writer.specs.Buffer.{codeLines}
 use Rattle.calculation.specs.Budget.{WithinBudget}
 use Rattle.outcome.specs.Outcome.{Pair}
 use Rattle.best.specs.Promise.{bestPair, stepsOf, bestLeft, BestPromised}
+use Rattle.scoap_c.specs.Number.{Tells}
 
 -- What a caller has who sees the number and the buffer alone: K12's sentences of what was read.
 pub record BestSeen (lib net : List ℕ) (budget : ℕ) (before after : List ℕ) (said : ℕ) : Type 0 where
   pub pair : Pair
   pub reads : bestPair lib net (length before) ≡ read pair
   pub within : WithinBudget (pair .cells) (pair .statements) budget said after
+  pub few : said ≤ Size.leaves
 
--- Its number and the whole buffer afterwards, by equation; that it is `best_within`, with the whole promise of that call; that
--- the number is never ambiguous; and what a caller sees who has but the number and the buffer.
+-- Its number and the whole buffer afterwards, by equation; that it is `best_within`, with the whole promise of that call; and
+-- what a caller sees who has but the number and the buffer.
 pub record BestCoded (lib net : List ℕ) (budget : ℕ) (before after : List ℕ) (said : ℕ) : Type 0 where
-  pub answers : said ≡ codeOf (stepsOf (bestPair lib net (length before)) budget)
+  pub answers : Tells (stepsOf (bestPair lib net (length before)) budget) said
   pub leaves : after ≡ bestLeft lib net budget before
-  pub answer : Read ℕ
-  pub number : said ≡ codeOf answer
-  pub promised : BestPromised lib net budget before after answer
-  pub accepted : (steps : ℕ) → answer ≡ read steps → (said ≡ steps) × (said ≤ Size.leaves)
-  pub refusal : (number line : ℕ) → answer ≡ refused number line → Decoded said number line
+  pub promised : BestPromised lib net budget before after (stepsOf (bestPair lib net (length before)) budget)
   -- By the number alone: the steps,
   pub seen : said < codeLines → BestSeen lib net budget before after said
   -- "Entry refusals leave lent memory untouched; later ones leave every table and the report buffer zero",

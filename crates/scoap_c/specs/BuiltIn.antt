@@ -4,10 +4,11 @@ use mathlib.Core.List.{List}
 use mathlib.Core.Path.{_≡_}
 use Prim.Native.Nat.{ℕ}
 use lib.ListN.{length}
-use Rattle.writer.specs.Buffer.{codeOf, lengthRead, leftBy}
+use Rattle.writer.specs.Buffer.{lengthRead, leftBy}
 use Rattle.built_in.specs.Written.{builtInWithin}
+use Rattle.scoap_c.specs.Number.{Tells}
 
 -- The text's length and the text in the buffer's front; 17 at line 0 of a buffer that is too short, which is then zero.
 pub record BuiltInCoded (before after : List ℕ) (said : ℕ) : Type 0 where
-  pub answers : said ≡ codeOf (lengthRead (builtInWithin (length before)))
+  pub answers : Tells (lengthRead (builtInWithin (length before))) said
   pub leaves : after ≡ leftBy (builtInWithin (length before)) before

@@ -2,15 +2,16 @@
 -- Assumes nothing.
 use mathlib.Core.List.{List}
 use mathlib.Core.Path.{_≡_}
-use Prim.Native.Nat.{ℕ, _<_}
+use Prim.Native.Nat.{ℕ, _/_, _<_}
 use lib.ListN.{length}
-use Rattle.reading.specs.Refusal.{refused, read}
-use Rattle.writer.specs.Buffer.{codeLines, codeOf, lengthRead, leftBy, Decoded}
+use Rattle.reading.specs.Numbers as No
+use Rattle.writer.specs.Buffer.{codeLines, lengthRead, leftBy}
+use Rattle.generator.specs.Bounded.{entryRoom}
 use Rattle.generator.specs.Generated.{generatedInto}
+use Rattle.scoap_c.specs.Number.{Tells}
 
--- Its number and the whole buffer afterwards, by equation; and that the number is never ambiguous.
+-- Its number and the whole buffer afterwards, by equation; and that 17 needs a buffer of less than 8,192 bytes.
 pub record CellCoded (line before after : List ℕ) (said : ℕ) : Type 0 where
-  pub answers : said ≡ codeOf (lengthRead (generatedInto line (length before)))
+  pub answers : Tells (lengthRead (generatedInto line (length before))) said
   pub leaves : after ≡ leftBy (generatedInto line (length before)) before
-  pub accepted : (entry : List ℕ) → generatedInto line (length before) ≡ read entry → said < codeLines
-  pub refusal : (number at : ℕ) → generatedInto line (length before) ≡ refused number at → Decoded said number at
+  pub reportLong : said / codeLines ≡ No.reportLong → length before < entryRoom

@@ -1,4 +1,4 @@
--- What the calls for C answer and leave.
+-- What the call for C that reports answers and leaves.
 -- Assumes nothing.
 use mathlib.Core.Bool.{true, false}
 use mathlib.Core.List.{List, _++_}
@@ -7,22 +7,23 @@ use Prim.Native.Nat.{ℕ, _/_, _≤_, _<_}
 use lib.ListN.{length, getD, take, replicate}
 use Rattle.sizes.specs.Sizes as Size
 use Rattle.reading.specs.Numbers as No
-use Rattle.reading.specs.Refusal.{Read, refused, read, _>>=_}
+use Rattle.reading.specs.Refusal.{Read}
 use Rattle.netlist.specs.Netlist.{mentioned}
 use Rattle.calculation.specs.declared.Counts.{Counts}
 use Rattle.calculation.specs.Nodes.{Kind, Purpose, node}
 use Rattle.calculation.specs.Plans.{Exact}
 use Rattle.calculation.specs.Settled.{Settled}
-use Rattle.writer.specs.Buffer.{codeLines, codeOf, Decoded}
+use Rattle.writer.specs.Buffer.{codeLines}
 use Rattle.report.specs.Report.{reportBytes}
 use Rattle.outcome.specs.declared.Summary.{Summary}
 use Rattle.outcome.specs.Demands.{Reported, PairRead, longest, AtAllPrices, Promised}
 use Rattle.outcome.specs.Outcome as O
 use Rattle.outcome.specs.Own.{ownTables}
+use Rattle.scoap_c.specs.Number.{toldBy, Tells}
 
--- "gets one number back: the report's length when accepted, else the refusal number times 1,000,000 plus the line."
-unfoldable pub numberOf : Read Summary → ℕ
-numberOf o = codeOf (o >>= λ s. read (s .length))
+-- "the report's length when accepted"
+abbrev pub reportLength : Read Summary → Read ℕ
+reportLength o = toldBy (λ s. s .length) o
 
 -- What a caller has of an accepted pair who sees its bytes alone: they are the report of numbers and counts of which demands 2
 -- and 3 hold, and behind it, where there are ranges, the line `high` and the report at HIGH, of which they hold too; no more
@@ -39,18 +40,14 @@ pub record Seen (lib net after : List ℕ) (said : ℕ) : Type 0 where
   pub short : said ≤ longest (pair .statements)
 
 -- What the C entry promises: its number and the whole report buffer afterwards, by equation; that it is an analysis on tables
--- of its own, whose numbers and report keep the whole promise of `analyse`, the three demands among it; that the number is
--- never ambiguous; and what a caller sees who has but the number and the buffer.
+-- of its own, whose numbers and report keep the whole promise of `analyse`, the three demands among it; and what a caller sees
+-- who has but the number and the buffer.
 pub record Coded (lib net before after : List ℕ) (said : ℕ) : Type 0 where
-  pub answers : said ≡ numberOf (O.answer (O.outcome (O.givenTexts lib net) (ownTables before)))
+  pub answers : Tells (reportLength (O.answer (O.outcome (O.givenTexts lib net) (ownTables before)))) said
   pub leaves : after ≡ O.left (O.givenTexts lib net) (ownTables before) .report
   pub tables : O.Lent
-  pub answer : Read Summary
-  pub number : said ≡ numberOf answer
   pub buffer : after ≡ tables .report
-  pub promised : Promised (O.givenTexts lib net) (ownTables before) tables answer
-  pub accepted : (s : Summary) → answer ≡ read s → said < codeLines
-  pub refusal : (number line : ℕ) → answer ≡ refused number line → Decoded said number line
+  pub promised : Promised (O.givenTexts lib net) (ownTables before) tables (O.answer (O.outcome (O.givenTexts lib net) (ownTables before)))
   -- By the number alone: the report,
   pub seen : said < codeLines → Seen lib net after said
   -- "Entry refusals leave lent memory untouched; later ones leave every table and the report buffer zero",

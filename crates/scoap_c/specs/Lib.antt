@@ -1,3 +1,4 @@
+pub mod Number
 pub mod Coded
 pub mod Cell
 pub mod BuiltIn

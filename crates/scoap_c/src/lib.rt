@@ -3,8 +3,9 @@
 //
 // Open to others: `scoap_report`, `scoap_plan`, `scoap_cell`, `scoap_built_in`, `scoap_qualifies`, `scoap_stand`,
 // `scoap_ask`, `scoap_commit`, `scoap_change`, `scoap_best`, `scoap_advise` and `scoap_rank`. They have no condition
-// on their input; specs/Coded.antt, specs/Plan.antt, specs/Cell.antt, specs/BuiltIn.antt, specs/Qualifies.antt,
-// specs/Standing.antt, specs/Changing.antt, specs/Best.antt and specs/Advice.antt say what they promise.
+// on their input; specs/Number.antt says what the number of all of them tells, specs/Coded.antt, specs/Plan.antt,
+// specs/Cell.antt, specs/BuiltIn.antt, specs/Qualifies.antt, specs/Standing.antt, specs/Changing.antt, specs/Best.antt
+// and specs/Advice.antt what each promises.
 use adviser::Advised;
 use adviser::Ranked;
 use best::Steps;
@@ -14,22 +15,39 @@ use netlist::Rules;
 use outcome::Answer;
 use read_pair::Progress;
 use read_pair::read_texts;
+use reading::PLAN_LONG;
 use standing::Pads;
+use writer::Written;
 use writer::refusal_code;
 ghost use mathlib.Core.Path.{_≡_};
-ghost use Rattle.writer.specs.Buffer.{LineBelow, codeOf};
+ghost use Rattle.reading.specs.Numbers as No;
+ghost use Rattle.writer.specs.Buffer.{LineBelow, codeOf, writtenRead};
+ghost use Rattle.outcome.specs.Answer.{answerRead};
 ghost use Rattle.adviser.specs.Calls.{advisedRead, rankedRead};
+ghost use Rattle.best.specs.Promise.{stepsRead};
 ghost use Rattle.standing.specs.Calls.{padsRead};
 ghost use Rattle.changing.specs.Calls.{changedRead};
+ghost use Rattle.scoap_c.specs.Number.{Limits};
 ghost use Rattle.scoap_c.specs.Advice.{adviceLine, lineRead, AdviceCoded, RankCoded};
 ghost use Rattle.scoap_c.specs.Best.{BestCoded};
 ghost use Rattle.scoap_c.specs.BuiltIn.{BuiltInCoded};
 ghost use Rattle.scoap_c.specs.Cell.{CellCoded};
 ghost use Rattle.scoap_c.specs.Changing.{toldNumber, ChangeCoded};
-ghost use Rattle.scoap_c.specs.Coded.{Coded};
+ghost use Rattle.scoap_c.specs.Coded.{reportLength, Coded};
 ghost use Rattle.scoap_c.specs.Plan.{PlanCoded};
 ghost use Rattle.scoap_c.specs.Qualifies.{QualifiesCoded};
 ghost use Rattle.scoap_c.specs.Standing.{StandCoded, AskCoded, CommitCoded};
+
+// A report's length, or the refusal, by one number.
+fn answer_code(answer: Answer) -> u64
+    requires { ⌜ LineBelow (reportLength (answerRead answer)) ⌝ }
+    ensures { λ n. ⌜ n ≡ codeOf (reportLength (answerRead answer)) ⌝ }
+{
+    match answer {
+        Answer::Accepted(s) => s.length as u64,
+        Answer::Refused(r) => refusal_code(r),
+    }
+}
 
 // For C: tables of its own, and one number for the answer: the report's length when accepted, else
 // the refusal number times 1,000,000 plus the line.
@@ -50,10 +68,7 @@ pub extern "C" fn scoap_report(lib: &[u8], net: &[u8], report: &mut [u8]) -> u64
         0,
         0,
     );
-    match answer {
-        Answer::Accepted(s) => s.length as u64,
-        Answer::Refused(r) => refusal_code(r),
-    }
+    answer_code(answer)
 }
 
 // For C: the library entry of a truth table's line, and one number for the answer: the entry's length, else
@@ -73,6 +88,25 @@ pub extern "C" fn scoap_built_in(text: &mut [u8]) -> u64
 {
     let written = built_in::put_built_in(text);
     writer::code(written)
+}
+
+// The longest text whose length is told from a refusal.
+const MOST_TOLD: usize = 999_999;
+
+// A longer text of a plan counts as longer than its buffer.
+fn limit_plan(text: &mut [u8], written: Written) -> Written
+    ensures { λ r. ⌜ Limits No.planLong (writtenRead written) (now (text .entry)) (now (text .exit)) (writtenRead r) ⌝ }
+{
+    match written {
+        Written::Length(n) => {
+            if n <= MOST_TOLD {
+                Written::Length(n)
+            } else {
+                writer::refuse(text, PLAN_LONG, 0)
+            }
+        }
+        Written::Refused(r) => Written::Refused(r),
+    }
 }
 
 // For C: the cheapest way to set a line to a value, written out, on tables of its own, and one number for
@@ -105,7 +139,8 @@ pub extern "C" fn scoap_plan(
         0,
         0,
     );
-    writer::code(written)
+    let told = limit_plan(text, written);
+    writer::code(told)
 }
 
 // For C: of which netlists document 02, K8, speaks, on tables of its own: 0, 1 or 2 as `qualifies` answers, else
@@ -146,10 +181,7 @@ pub extern "C" fn scoap_stand(
         (now (standing .exit)) (now (report .exit)) r ⌝ }
 {
     let answer = standing::stand(lib, net, standing, report);
-    match answer {
-        Answer::Accepted(s) => s.length as u64,
-        Answer::Refused(r) => refusal_code(r),
-    }
+    answer_code(answer)
 }
 
 // A count of pads, or the refusal, by one number.
@@ -197,6 +229,17 @@ pub extern "C" fn scoap_commit(
     pads_code(committed)
 }
 
+// A count of steps, or the refusal, by one number.
+fn steps_code(steps: Steps) -> u64
+    requires { ⌜ LineBelow (stepsRead steps) ⌝ }
+    ensures { λ n. ⌜ n ≡ codeOf (stepsRead steps) ⌝ }
+{
+    match steps {
+        Steps::Made(n) => n as u64,
+        Steps::Refused(r) => refusal_code(r),
+    }
+}
+
 // For C: the best numbers within a budget of steps, in a buffer of `sizes::BEST` numbers, on tables of its own, and one
 // number for the answer: how many steps were made, else the refusal number times 1,000,000 plus the line. Nothing is
 // swept, and nothing reported.
@@ -205,10 +248,7 @@ pub extern "C" fn scoap_best(lib: &[u8], net: &[u8], budget: u64, best: &mut [u3
     ensures { λ r. ⌜ BestCoded (now (lib .entry)) (now (net .entry)) budget (now (best .entry)) (now (best .exit)) r ⌝ }
 {
     let steps = best::best_within(lib, net, budget as usize, best);
-    match steps {
-        Steps::Made(n) => n as u64,
-        Steps::Refused(r) => refusal_code(r),
-    }
+    steps_code(steps)
 }
 
 // The line that an advice names, 0 where none is allowed.

@@ -142,6 +142,10 @@ pub fn qualifies_code(lib: &[u8], net: &[u8]) -> u64 {
     }
 }
 
+/// The longest text of a plan whose length the C entry's number tells; a longer one counts as longer than
+/// its buffer.
+pub const MOST_TOLD: usize = 999_999;
+
 /// The cheapest way to set a line to a value, written out, in the form of the C entry.
 pub fn plan_into(
     lib: &[u8],
@@ -152,9 +156,10 @@ pub fn plan_into(
     buffer: &mut [u8],
 ) -> u64 {
     let answer = both_read(lib, net).and_then(|(library, netlist)| {
-        let text = plan::write(&library, &netlist, line, value, kind, buffer.len())
+        let room = buffer.len().min(MOST_TOLD);
+        let text = plan::write(&library, &netlist, line, value, kind, room)
             .ok_or(Refusal::whole(NO_FIGURE))?;
-        if text.len() > buffer.len() {
+        if text.len() > room {
             return Err(Refusal::whole(PLAN_LONG));
         }
         buffer[..text.len()].copy_from_slice(&text);

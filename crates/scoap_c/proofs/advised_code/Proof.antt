@@ -1,27 +1,29 @@
 -- `advised_code` tells an advice by its line, a refusal by its one number. Assumes nothing.
-use mathlib.Core.Path.{ap}
+use mathlib.Core.Path.{ap, _∙_}
 use borrow.Author.Needs.{needs}
-use Rattle.reading.specs.Refusal.{Read}
-use Rattle.writer.specs.Buffer.{codeOf}
-use Rattle.adviser.specs.declared.Advised.{Advised}
 use Rattle.adviser.specs.Calls.{advisedRead}
-use Rattle.scoap_c.specs.Advice.{lineRead}
+use Rattle.scoap_c.specs.Advice.{adviceLine}
+use Rattle.scoap_c.proofs.Number.{code-accepted, code-refused, code-line}
 use Rattle.scoap_c.proofs.advised_code.Statement.{statement}
 use Rattle.scoap_c.proofs.advised_code.Tie as tie
 
 refusal-code-requires : tie.Need-refusal-code-requires
-unfolding advisedRead lineRead
+unfolding advisedRead
 refusal-code-requires c κs =
     let q = c .before .advised2 .given in
-    c .before .before .before .pre (q .0 .0 .number) (q .0 .0 .line) (ap (λ (a : Advised). lineRead (advisedRead a)) (q .1))
+    code-line adviceLine _ (q .0 .0) (ap advisedRead (q .1)) (c .before .before .before .pre)
 
 returns : tie.Need-returns
-unfolding advisedRead lineRead codeOf
-returns c = rw (c .before .before .advised .given .1) (c .line-number .ensures)
+unfolding advisedRead
+returns c =
+    let q = c .before .before .advised .given in
+    c .line-number .ensures ∙ code-accepted adviceLine _ (q .0 .0) (ap advisedRead (q .1))
 
 returns-2 : tie.Need-returns-2
-unfolding advisedRead lineRead codeOf
-returns-2 c = rw (c .before .before .advised2 .given .1) (c .refusal-code .ensures)
+unfolding advisedRead
+returns-2 c =
+    let q = c .before .before .advised2 .given in
+    code-refused adviceLine _ (q .0 .0) (ap advisedRead (q .1)) _ (c .refusal-code .ensures)
 
 pub advised-code-spec : {M : Type 1} → statement M
 advised-code-spec =

@@ -1,13 +1,18 @@
 -- `change_code` tells which of the two happened by 1 or 0, a refusal by its one number. Assumes nothing.
+use mathlib.Core.Path.{ap}
 use borrow.Author.Needs.{needs}
-use Rattle.scoap_c.proofs.Changing.{code-on, code-again, code-refused, code-line}
+use Rattle.reading.specs.Choice.{pick}
+use Rattle.changing.specs.Calls.{changedRead}
+use Rattle.scoap_c.proofs.Number.{code-refused, code-line}
+use Rattle.scoap_c.proofs.Changing.{code-on, code-again}
 use Rattle.scoap_c.proofs.change_code.Statement.{statement}
 use Rattle.scoap_c.proofs.change_code.Tie as tie
 
 refusal-code-requires : tie.Need-refusal-code-requires
+unfolding changedRead
 refusal-code-requires c κs =
     let q = c .before .changed .given in
-    code-line _ (q .0 .0) (q .1) (c .before .before .before .pre)
+    code-line (λ on. pick on 1 0) _ (q .0 .0) (ap changedRead (q .1)) (c .before .before .before .pre)
 
 returns : tie.Need-returns
 returns c = code-on _ (search needs)
@@ -16,9 +21,10 @@ returns-2 : tie.Need-returns-2
 returns-2 c = code-again _ (search needs)
 
 returns-3 : tie.Need-returns-3
+unfolding changedRead
 returns-3 c =
     let q = c .before .before .changed .given in
-    code-refused _ (q .0 .0) (q .1) (c .refusal-code .result) (c .refusal-code .ensures)
+    code-refused (λ on. pick on 1 0) _ (q .0 .0) (ap changedRead (q .1)) _ (c .refusal-code .ensures)
 
 pub change-code-spec : {M : Type 1} → statement M
 change-code-spec =

@@ -8,7 +8,7 @@ code-requires : tie.Need-code-requires
 code-requires c κs = cell-line _ _ _ _ (c .before .before .put-entry .ensures .0)
 
 returns : tie.Need-returns
-returns c = cell-coded _ _ _ _ (c .before .before .before .put-entry .ensures .0) _ (c .code .ensures)
+returns c = let p = c .before .before .before .put-entry .ensures in cell-coded _ _ _ _ (p .0) (p .1) _ (c .code .ensures)
 
 pub scoap-cell-spec : {M : Type 1} → statement M
 scoap-cell-spec = tie.close (tie.spec (λ c κs. search needs) code-requires (λ c. search needs) returns)

@@ -3,7 +3,7 @@ use denote.Ref.{now}
 use Rattle.sizes.specs.Sizes as Size
 use Rattle.outcome.specs.Own.{ownTables}
 use Rattle.read_pair.proofs.Own.{zeros-cleared}
-use Rattle.scoap_c.proofs.Coding.{line-below, coded-accepted, coded-refused}
+use Rattle.scoap_c.proofs.Coding.{report-line, report-coded}
 use borrow.Author.Needs.{needs}
 use Rattle.scoap_c.proofs.scoap_report.Statement.{statement}
 use Rattle.scoap_c.proofs.scoap_report.Tie as tie
@@ -16,33 +16,20 @@ begins c = c .before .before .before .before .before .before .before .before
 abbrev analysed : tie.After-slice-known2 → tie.After-analyse-into
 analysed c = c .before .before .before .before .before
 
-abbrev accepted : tie.After-known-told → tie.After-slice-known2
-accepted c = c .before .before .before
-
-abbrev refused : tie.After-known-told2 → tie.After-slice-known2
-refused c = c .before .before .before
-
-refusal-code-requires : tie.Need-refusal-code-requires
+answer-code-requires : tie.Need-answer-code-requires
 unfolding ownTables
-refusal-code-requires c κs =
-    let k = analysed (refused c) in
+answer-code-requires c κs =
+    let k = analysed c in
     let a = begins k .args in
-    line-below (now (a .lib)) (now (a .net)) (now (a .report)) _ (k .analyse-into .result) (k .analyse-into .ensures) (c .before .answer2 .given .0 .0) (search needs)
+    report-line (now (a .lib)) (now (a .net)) (now (a .report)) _ (k .analyse-into .result) (k .analyse-into .ensures)
 
 returns : tie.Need-returns
 unfolding ownTables
 returns c =
-    let k = analysed (accepted c) in
+    let k = analysed (c .before) in
     let a = begins k .args in
-    coded-accepted (now (a .lib)) (now (a .net)) (now (a .report)) _ (k .analyse-into .result) (k .analyse-into .ensures) (c .before .answer .given .0 .0) (search needs)
-
-returns-2 : tie.Need-returns-2
-unfolding ownTables
-returns-2 c =
-    let k = analysed (refused (c .before)) in
-    let a = begins k .args in
-    coded-refused (now (a .lib)) (now (a .net)) (now (a .report)) _ (k .analyse-into .result) (k .analyse-into .ensures) (c .before .before .answer2 .given .0 .0) (search needs)
-    (c .refusal-code .result) (c .refusal-code .ensures)
+    report-coded (now (a .lib)) (now (a .net)) (now (a .report)) _ (k .analyse-into .result) (k .analyse-into .ensures)
+    (c .answer-code .result) (c .answer-code .ensures)
 
 pub scoap-report-spec : {M : Type 1} → statement M
 scoap-report-spec =
@@ -52,10 +39,6 @@ scoap-report-spec =
     (λ c. search needs)
     (λ c. search needs)
     (λ c κs. (zeros-cleared Size.library, zeros-cleared Size.netlist))
+    answer-code-requires
     (λ c. search needs)
-    (λ c. search needs)
-    refusal-code-requires
-    (λ c. search needs)
-    returns
-    (λ c. search needs)
-    returns-2)
+    returns)

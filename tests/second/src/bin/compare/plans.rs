@@ -54,10 +54,77 @@ pub fn plans(all: &mut Comparison, rng: &mut Random) {
             all.check_plans("plan of a pair", &lib, &net, most_line(&net));
         }
     }
+    long_plans(all);
     let [written, refused] = all.plans;
     println!("plans:");
     all.met("written out", written);
     all.met("refused", refused);
+}
+
+/// Plans as long as the number tells, and longer: 19 then, however long the buffer is, and never a length that reads as
+/// a refusal.
+fn long_plans(all: &mut Comparison) {
+    let long = 19_000_000;
+    // A row of both values, so that both pins are paid and written out: the text has 3,014,134 bytes.
+    let both = AND2.replace("CC,21,M,5,13", "CC,21,M,7,M,5,13");
+    let net = doubling("AND2", 17);
+    let mut cases = vec![(both, net, 18, 4_000_000, long)];
+    for (length, room, expected) in [
+        (999_999, 4_000_000, 999_999),
+        (999_999, 999_999, 999_999),
+        (999_999, 999_998, long),
+        (1_000_000, 999_999, long),
+        (1_000_000, 1_000_000, long),
+        (1_000_000, 4_000_000, long),
+    ] {
+        let (net, top) = plan_of_length(length);
+        cases.push((WIDE.to_string(), net, top, room, expected));
+    }
+    for (lib, net, top, room, expected) in cases {
+        let label = "long plan";
+        let answer = all.check_plan(label, [lib.as_bytes(), net.as_bytes()], [top, 1, 0], room);
+        let problem = (answer != expected)
+            .then(|| format!("{answer} instead of {expected} for {room} bytes"));
+        all.verdict(label, problem);
+    }
+}
+
+/// To set it to 1, pins 1 and 2 at 1.
+const WIDE: &str = "\
+Name,WIDE,8
+CC,300001,120001
+CO,2000001,2000001,2000001,2000001,2000001,2000001,2000001,2000001
+SC,300000,120000
+SO,2000000,2000000,2000000,2000000,2000000,2000000,2000000,2000000
+End
+";
+
+/// A netlist of 15 such gates, each with all pins on the line before, and the last line, whose plan at 1 has a text of
+/// just so many bytes: the lines of some depths have three digits, of the others two.
+fn plan_of_length(length: usize) -> (String, u64) {
+    const GATES: usize = 15;
+    let row = |depth| if depth < GATES { "120001" } else { "input" };
+    let least: usize = (0..=GATES)
+        .map(|depth| format!("{depth},10,1,{}\n", row(depth)).len() << depth)
+        .sum();
+    let more = length - least;
+    assert!(
+        more < 2 << GATES,
+        "the digits of 16 lines make up the length"
+    );
+    let line = |depth: usize| {
+        if more >> depth & 1 == 1 {
+            100 + depth
+        } else {
+            10 + depth
+        }
+    };
+    let mut net = format!("input,{}\n", line(GATES));
+    for depth in 0..GATES {
+        let pins = format!(",{}", line(depth + 1)).repeat(8);
+        net += &format!("gate,WIDE,{}{pins}\n", line(depth));
+    }
+    (net, line(0) as u64)
 }
 
 /// A few gates, by turn.
