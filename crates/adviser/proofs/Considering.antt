@@ -1,12 +1,11 @@
 -- One line more, by whether it may be padded.
 -- Assumes nothing.
 use mathlib.Core.Bool.{Bool, true, false}
-use mathlib.Core.List.{List, _++_}
-use mathlib.Core.Path.{_≡_, refl, sym, _∙_, ap}
-use Prim.Native.Nat.{ℕ, suc, _+_, _*_, _-_, _≤_, _<_}
+use mathlib.Core.List.{List}
+use mathlib.Core.Path.{_≡_, sym, _∙_, ap}
+use Prim.Native.Nat.{ℕ, _+_, _*_, _-_}
 use native.Mathlib.Numerals.{add-one}
-use native.Mathlib.Omega.{arith}
-use lib.ListN.{length, drop}
+use lib.ListN.{length}
 use lib.Seq.{sets}
 use Rattle.sizes.specs.Sizes as Size
 use Rattle.reading.specs.Choice.{pick}
@@ -19,7 +18,7 @@ use Rattle.calculation.specs.Advice.{allowed, allowedLines, leaves, largest, be
 use Rattle.calculation.proofs.Advising.{allowed-said, allowed-free}
 use Rattle.adviser.specs.declared.Left.{Left}
 use Rattle.adviser.specs.Parts.{Barred, mayPad, leftOf, Stands, Considered, LineRanked, AllRanked}
-use Rattle.adviser.proofs.Lines.{above, above-few, may-allowed}
+use Rattle.adviser.proofs.Lines.{above, may-allowed}
 use Rattle.adviser.proofs.Ranking.{four, RanksLaid}
 
 module _ {library netlist links numbers : List ℕ} {cells : List Cell} {ss : List Statement} (s : Stands library netlist links numbers cells ss)

@@ -8,7 +8,7 @@ use native.Mathlib.Nat.{le-of-eq}
 use native.Mathlib.Numerals.{add-one}
 use native.Mathlib.Omega.{arith}
 use borrow.Author.Tests.{le-leb, lt-leb, eq-eqb, ne-eqb}
-use lib.Dec.{leb, eqb}
+use lib.Dec.{leb}
 use lib.ListN.{length, getD, drop, length-map, length-set, drop-of-length-le}
 use Rattle.sizes.specs.Sizes as Size
 use Rattle.sizes.specs.Places.{observingPlace}

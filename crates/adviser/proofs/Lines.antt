@@ -1,9 +1,9 @@
 -- The lines from the highest down, and which of them may be padded.
 -- Assumes nothing.
 use mathlib.Core.Bool.{Bool, true, false, not, _&&_, _||_}
-use mathlib.Core.List.{List, [], _∷_, _++_, map}
-use mathlib.Core.Path.{_≡_, refl, sym, _∙_, ap, ap₂}
-use Prim.Native.Nat.{ℕ, zero, suc, _+_, _-_, _≤_, _<_}
+use mathlib.Core.List.{List, [], _∷_}
+use mathlib.Core.Path.{_≡_, refl, sym, _∙_, ap}
+use Prim.Native.Nat.{ℕ, zero, suc, _-_, _≤_, _<_}
 use native.Mathlib.Decide.{ℕ-discrete}
 use native.Mathlib.Omega.{arith}
 use borrow.Author.Tests.{eq-eqb, ne-eqb}
@@ -16,9 +16,10 @@ use Rattle.reading.specs.Choice.{pick}
 use Rattle.reading.proofs.Laws.{by-test}
 use Rattle.cell_library.specs.Cells.{Cell}
 use Rattle.netlist.specs.Netlist.{Statement, member, mentioned, isOutput, linesWhere}
-use Rattle.netlist.specs.Layout.{netlistWords, outputWord}
+use Rattle.netlist.specs.Layout.{outputWord}
 use Rattle.netlist.specs.Lines.{mentionAt}
 use Rattle.netlist.specs.Sound.{InRange}
+use Rattle.netlist.proofs.Causes.{flag-zero}
 use Rattle.netlist.proofs.HeldLines.{mention-held}
 use Rattle.netlist.proofs.Places.{output-word}
 use Rattle.calculation.specs.declared.Advice.{Advice}
@@ -146,11 +147,6 @@ module _ (entry : ℕ) (before : List Bool) (size : length before ≡ Size.lineP
 
 -- ---- which lines may be padded
 
-not-marked : (b : Bool) → eqb (pick b 1 0) 0 ≡ not b
-unfolding pick
-not-marked true = refl
-not-marked false = refl
-
 -- As the code reads them.
 pub may-told : (netlist : List ℕ) (barred : List Bool) (l : ℕ) {said : Bool} {place output : ℕ} → said ≡ mentionAt netlist l → place ≡ l
     → output ≡ getD netlist (outputPlace place) 0 → (said && (not (getD barred place false) && eqb output 0)) ≡ mayPad netlist barred l
@@ -160,7 +156,7 @@ module _ {library netlist : List ℕ} {cells : List Cell} {ss : List Statement} 
   output-free : (l : ℕ) → InRange l → eqb (getD netlist (outputPlace l) 0) 0 ≡ not (isOutput l ss)
   unfolding outputWord InRange
   output-free l r =
-      rw (h .statementsStand) (ap (λ (n : ℕ). eqb n 0) (output-word ss (h .past) l (r .0) (r .1)) ∙ not-marked (isOutput l ss))
+      rw (h .statementsStand) (ap (λ (n : ℕ). eqb n 0) (output-word ss (h .past) l (r .0) (r .1)) ∙ flag-zero (isOutput l ss))
 
   said-held : (l : ℕ) → InRange l → mentionAt netlist l ≡ mentioned l ss
   unfolding InRange

@@ -3,7 +3,7 @@
 use mathlib.Core.Bool.{Bool, true, false, true≢false}
 use mathlib.Core.List.{List, [], _∷_, _++_}
 use mathlib.Core.Path.{_≡_, refl, sym, _∙_, ap, subst}
-use Prim.Native.Nat.{ℕ, zero, suc, _+_, _*_, _-_, _≤_, _<_}
+use Prim.Native.Nat.{ℕ, _+_, _*_, _-_, _≤_, _<_}
 use native.Mathlib.Omega.{arith}
 use borrow.Author.Tests.{lt-ltb, le-ltb, ltb-true, ltb-false}
 use lib.Dec.{ltb}
@@ -18,7 +18,7 @@ use Rattle.reading.specs.declared.Refusal.{Refusal}
 use Rattle.reading.specs.declared.Verdict.{Verdict}
 use Rattle.reading.specs.declared.Verdict.the-variants.{Accepted, Refused}
 use Rattle.reading.proofs.Bounds.{text-not-entry}
-use Rattle.reading.proofs.Laws.{by-test, clash, refused-read}
+use Rattle.reading.proofs.Laws.{by-test, clash, refused-read, same-refusal}
 use Rattle.cost.specs.Cost.{never}
 use Rattle.cell_library.specs.Cells.{Cell}
 use Rattle.cell_library.proofs.Laws.{library-sound}
@@ -29,8 +29,8 @@ use Rattle.calculation.specs.declared.Advice.{Advice}
 use Rattle.calculation.specs.declared.Advice.the-variants.{NoneAllowed, Pad}
 use Rattle.calculation.specs.Acceptance.{BothSound}
 use Rattle.calculation.specs.Stored.{Holds}
-use Rattle.calculation.specs.Advice.{allowed, allowedLines, leaves, advice, Rank, rankOf, rankWords, noRank, lineRank, lineRanks, ranks, Says, Best}
-use Rattle.calculation.proofs.Advising.{allowed-said, leaves-exact, advice-says, same-advice, same-ranks}
+use Rattle.calculation.specs.Advice.{allowed, allowedLines, leaves, advice, Rank, rankOf, rankWords, noRank, lineRank, ranks, Says, Best}
+use Rattle.calculation.proofs.Advising.{allowed-said, leaves-exact, advice-says, same-advice, same-ranks, none-pad}
 use Rattle.outcome.specs.Outcome.{Given, Pair, entry, tableShort, readPair, conclude, reading, outcome}
 use Rattle.outcome.specs.Own.{ownTables}
 use Rattle.outcome.proofs.Accepting.{read-as}
@@ -42,17 +42,10 @@ use Rattle.adviser.specs.Promise.{HandedOn, AdviceMeans, AdvicePromised,
 use Rattle.adviser.proofs.Lines.{allowed-few}
 use Rattle.adviser.proofs.Ranking.{four, rank-at, rank-past}
 
-none-pad : (l x : ℕ) → _≡_ {A = Read Advice} (read NoneAllowed) (read (Pad l x)) → ⊥
-none-pad l x e = let z : _≡_ {A = ℕ} 0 1 = cc in omega arith
-
 pad-same : (k y l x : ℕ) → _≡_ {A = Read Advice} (read (Pad k y)) (read (Pad l x)) → (k ≡ l) × (y ≡ x)
 pad-same k y l x e = (cc, cc)
 
 -- ---- where a call stands behind its entry
-
--- Two refusals that are the same.
-same-refusal : {A : Type 0} (n k m l : ℕ) → _≡_ {A = Read A} (refused n k) (refused m l) → (n ≡ m) × (k ≡ l)
-same-refusal n k m l e = (cc, cc)
 
 module _ (size : ℕ) (g : Given) (before : List ℕ) where
   entered-short : length before < size → entered size g before ≡ refused No.tableShort 0

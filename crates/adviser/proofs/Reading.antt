@@ -1,25 +1,22 @@
 -- Both texts, with an answer that is lent: where reading leaves the call.
 -- Assumes nothing.
-use mathlib.Core.Bool.{Bool, true, false, _||_}
-use mathlib.Core.List.{List, [], _∷_, _++_}
-use mathlib.Core.Path.{_≡_, refl, sym, _∙_, ap, subst}
+use mathlib.Core.Bool.{true}
+use mathlib.Core.List.{List}
+use mathlib.Core.Path.{_≡_, subst}
 use Prim.Native.Nat.{ℕ, _≤_, _<_}
-use native.Mathlib.Omega.{arith}
 use borrow.Author.Tests.{lt-ltb, le-ltb}
 use lib.Dec.{ltb}
 use lib.ListN.{length, replicate}
 use Rattle.sizes.specs.Sizes as Size
 use Rattle.reading.specs.Choice.{pick}
 use Rattle.reading.specs.Numbers as No
-use Rattle.reading.specs.Refusal.{Read, refused, read, _>>=_, _>>_, weigh}
-use Rattle.reading.specs.Verdict.{verdictRead, doneRead}
+use Rattle.reading.specs.Refusal.{refused, read, _>>_, weigh}
+use Rattle.reading.specs.Verdict.{doneRead}
 use Rattle.reading.specs.declared.Refusal.{Refusal}
-use Rattle.reading.specs.declared.Verdict.{Verdict}
-use Rattle.reading.specs.declared.Verdict.the-variants.{Accepted, Refused}
 use Rattle.reading.proofs.Laws.{refused-read}
 use Rattle.table.specs.Blocks.{cleared}
 use Rattle.calculation.specs.Stored.{Holds}
-use Rattle.outcome.specs.Outcome.{Given, Pair, givenTexts, givenBy, entryBy, readPair, textLong}
+use Rattle.outcome.specs.Outcome.{Given, Pair, givenTexts, givenBy, entryBy, textLong}
 use Rattle.outcome.proofs.Checking.{texts-checked}
 use Rattle.read_pair.specs.declared.Progress.{Progress}
 use Rattle.read_pair.specs.declared.Progress.the-variants.{Unrefused, AtEntry, Later}

@@ -1,57 +1,20 @@
 -- Without loops a fact that each line has from the lines that feed it holds of all lines: a trail of lines back from one, each
 -- fed by the next, has no line twice, so it is no longer than there are gates.
 -- Assumes nothing.
-use mathlib.Core.Bool.{true, false, _||_}
-use mathlib.Core.List.{List, [], _∷_, map, List·Memᴰ, List·Memᴰ·head, List·Memᴰ·tail, Memᴰ·map}
-use mathlib.Core.Path.{_≡_, refl, sym, subst, _∙_}
+use mathlib.Core.Bool.{true, false}
+use mathlib.Core.List.{List, [], _∷_, map, Memᴰ·map}
+use mathlib.Core.Path.{_≡_, refl, subst, _∙_}
 use Prim.Native.Nat.{ℕ, zero, suc, _+_, _≤_, _<_}
 use native.Mathlib.Omega.{arith}
 use lib.Dec.{eqb}
 use lib.ListN.{length, length-map}
-use borrow.Author.Tests.{eq-eqb, eqb-true, eqb-false}
-use Rattle.reading.specs.Choice.{pick}
+use borrow.Author.Tests.{eqb-true}
 use Rattle.reading.proofs.Laws.{by-test, clash}
 use Rattle.netlist.specs.Netlist.{Gate, Statement, gatesOf, member}
 use Rattle.netlist.specs.Sound.{Apart}
+use Rattle.netlist.proofs.Counting.{apart-fewer}
 use Rattle.netlist.proofs.Laws.{member-listed}
 use Rattle.behaviour.specs.Loops.{Feeds, Leads, Leads.last, Leads.next, Loopless}
-
--- ---- a list without repetition among others
-
--- The list without the first x in it.
-without : ℕ → List ℕ → List ℕ
-without x [] = []
-without x (y ∷ ys) = pick (eqb y x) ys (y ∷ without x ys)
-
-one-less : (x : ℕ) (ys : List ℕ) → member x ys ≡ true → suc (length (without x ys)) ≤ length ys
-unfolding member without pick
-one-less x [] h = clash false h refl
-one-less x (y ∷ ys) h =
-    by-test (eqb y x)
-    (λ t. rw t (omega arith))
-    (λ t. rw t (let r = one-less x ys (rw t at h) in omega (arith, r)))
-
-still-in : (x k : ℕ) (ys : List ℕ) → eqb x k ≡ false → member k ys ≡ true → member k (without x ys) ≡ true
-unfolding member without pick
-still-in x k [] n h = clash false h refl
-still-in x k (y ∷ ys) n h =
-    by-test (eqb y x)
-    (λ t. rw t (let e : eqb y k ≡ false = rw (eqb-true y x t) n in rw e at h))
-    (λ t. rw t
-    (by-test (eqb y k)
-    (λ u. rw u refl)
-    (λ u. rw u (still-in x k ys n (rw u at h)))))
-
-apart-fewer : (xs ys : List ℕ) → Apart xs → ((k : ℕ) → member k xs ≡ true → member k ys ≡ true) → length xs ≤ length ys
-unfolding Apart member
-apart-fewer [] ys a h = omega arith
-apart-fewer (x ∷ xs) ys a h =
-    let in-ys : member x ys ≡ true = h x (rw (eq-eqb x x refl) refl) in
-    let rest = apart-fewer xs (without x ys) (a .1)
-    (λ k m. by-test (eqb x k)
-    (λ t. clash (member x xs) (rw (eqb-true x k t) m) (a .0))
-    (λ t. still-in x k ys t (h k (rw (t) m)))) in
-    omega (arith, rest, one-less x ys in-ys)
 
 -- ---- trails
 

@@ -3,9 +3,8 @@
 -- Assumes nothing.
 use mathlib.Core.Bool.{Bool, true, false}
 use mathlib.Core.List.{List, List·Memᴰ}
-use mathlib.Core.Path.{_≡_, refl, sym, subst, ap}
-use Prim.Native.Nat.{ℕ, _≤_}
-use lib.ListN.{length, getD}
+use mathlib.Core.Path.{_≡_, refl, subst}
+use Prim.Native.Nat.{ℕ}
 use Rattle.reading.specs.Refusal.{Read, read}
 use Rattle.cost.specs.Cost.{never}
 use Rattle.cell_library.specs.Cells.{Cell}
@@ -13,7 +12,7 @@ use Rattle.netlist.specs.Netlist.{Gate, Statement, gatesOf, mentioned}
 use Rattle.netlist.specs.Sound.{InRange}
 use Rattle.netlist.proofs.Laws.{mentioned-in-range}
 use Rattle.calculation.specs.Acceptance.{BothSound}
-use Rattle.calculation.specs.Nodes.{combinational, set, node}
+use Rattle.calculation.specs.Nodes.{combinational, set}
 use Rattle.calculation.specs.Prices.{Pricing, pricesOf, WithinRanges}
 use Rattle.calculation.specs.Calculation.{analysedAt}
 use Rattle.calculation.specs.Plans.{Plan, ExactAt}
@@ -25,14 +24,15 @@ use Rattle.outcome.specs.Demands.{Reported, PairRead, Promised}
 use Rattle.outcome.proofs.Checking.{Checked, texts-checked}
 use Rattle.outcome.proofs.Fitting.{pair-sound}
 use Rattle.truth_tables.specs.Tables.{digit}
-use Rattle.behaviour.specs.Loops.{NoneOpen, ReadOnce}
+use Rattle.truth_tables.proofs.Order.{digit-most}
+use Rattle.behaviour.specs.Loops.{NoneOpen}
 use Rattle.behaviour.specs.Values.{Setting, Values, Tables, Does}
 use Rattle.behaviour.specs.Built.{Qualifies, tablesOf}
 use Rattle.behaviour.specs.Never.{ccNumber, NeverMeans}
 use Rattle.behaviour.proofs.Giving.{one-value}
 use Rattle.behaviour.proofs.Telling.{Tells}
 use Rattle.behaviour.proofs.Rows.{tells}
-use Rattle.behaviour.proofs.Planned.{digit-small, planned}
+use Rattle.behaviour.proofs.Planned.{planned}
 use Rattle.behaviour.proofs.Reached.{reached}
 
 module _ (cells : List Cell) (ss : List Statement) (sound : BothSound cells ss) (q : Qualifies cells ss) (price : Pricing) (numbers : List ℕ)
@@ -47,7 +47,7 @@ module _ (cells : List Cell) (ss : List Statement) (sound : BothSound cells ss) 
   exact-here : (l : ℕ) → mentioned l ss ≡ true → (x : Bool) → ExactAt price cells ss combinational (set l (digit x)) (ccNumber numbers l x)
   unfolding InRange
   exact-here l m x =
-      let r = mentioned-in-range cells ss (sound .netlist) l m in stands l x (r .0, r .1, digit-small x)
+      let r = mentioned-in-range cells ss (sound .netlist) l m in stands l x (r .0, r .1, digit-most x)
 
   none-gives : (s : Setting) (v : Values) → Does ss tables s v → (l : ℕ) → mentioned l ss ≡ true → (x : Bool) → v l ≡ x → ccNumber numbers l x ≡ never → ⊥
   unfolding NoneOpen

@@ -1,14 +1,15 @@
 -- A value that a setting gives a line has a plan: where the values of a gate's pins meet a row, that row is a way, and each line
 -- that it asks for has the value asked for.
 -- Assumes nothing.
-use mathlib.Core.Bool.{Bool, true, false, not, _&&_, _||_}
+use mathlib.Core.Bool.{Bool, true, false, not, _&&_}
 use mathlib.Core.List.{List, [], _∷_, map, List·Memᴰ, List·Memᴰ·head, List·Memᴰ·tail, List·Memᴰ·not-nil}
 use mathlib.Core.Path.{_≡_, refl, sym, subst, ap, _∙_}
-use Prim.Native.Nat.{ℕ, zero, suc, _-_, _≤_, _<_}
+use Prim.Native.Nat.{ℕ, _-_, _≤_}
 use native.Mathlib.Omega.{arith}
 use lib.Dec.{eqb}
 use lib.ListN.{length, getD, length-map}
-use borrow.Author.Tests.{eqb-true, ne-eqb}
+use borrow.Author.Tests.{eqb-true}
+use Rattle.laws.proofs.Lists.{getD-map}
 use Rattle.reading.proofs.Laws.{by-test}
 use Rattle.cell_library.specs.Cells.{Row, Cell, Column, pin, output, observe}
 use Rattle.cell_library.specs.Library.{anyOf}
@@ -16,21 +17,17 @@ use Rattle.netlist.specs.Netlist.{Gate, Statement, gatesOf}
 use Rattle.calculation.specs.Acceptance.{BothSound}
 use Rattle.calculation.specs.Nodes.{Kind, combinational, Purpose, set}
 use Rattle.calculation.specs.Nodes as N
-use Rattle.calculation.specs.Ways.{cellOf, pinLine, asked, setting, groupOf, namedBy, merges, sameValue, otherValue, anyAsks, needsBoth, asks, isWay}
+use Rattle.calculation.specs.Ways.{cellOf, pinLine, asked, setting, namedBy, merges, sameValue, otherValue, anyAsks, needsBoth, asks, isWay}
 use Rattle.calculation.specs.Plans.{Plan, Plan.input, Plan.row, Plans, Plans.done, Plans.also}
 use Rattle.calculation.proofs.Laws.{getD-listed, pin-count}
 use Rattle.calculation.proofs.Visiting.{MayName, named-may, asks-from}
 use Rattle.truth_tables.specs.Tables.{digit}
+use Rattle.truth_tables.proofs.Order.{digit-most}
 use Rattle.behaviour.specs.Loops.{Feeds, Loopless, Driver, Driver.input, Driver.gate, NoneOpen}
 use Rattle.behaviour.specs.Values.{Setting, Values, Tables, Does}
 use Rattle.behaviour.proofs.Descending.{by-feeding}
 use Rattle.behaviour.proofs.Giving.{feeder}
 use Rattle.behaviour.proofs.Telling.{Met, Tells}
-
-pub digit-small : (x : Bool) → digit x ≤ 1
-unfolding digit
-digit-small false = omega arith
-digit-small true = omega arith
 
 -- ---- plans for all that a row asks for
 
@@ -88,11 +85,6 @@ module _ (v : Values) (g : Gate) where
 
 -- ---- the pins of a gate
 
-getD-map : {A B : Type 0} (f : A → B) (xs : List A) (i : ℕ) (a : A) (b : B) → i < length xs → getD (map f xs) i b ≡ f (getD xs i a)
-getD-map f [] i a b h = absurd (omega arith)
-getD-map f (x ∷ xs) zero a b h = refl
-getD-map f (x ∷ xs) (suc i) a b h = getD-map f xs i a b (omega arith)
-
 module _ (cells : List Cell) (ss : List Statement) (sound : BothSound cells ss) (tables : Tables) (free : Loopless ss) (driven : NoneOpen ss)
     (tells : (g : Gate) → List·Memᴰ g (gatesOf ss) → Tells (cellOf cells g) (tables g)) where
   module _ (g : Gate) (m : List·Memᴰ g (gatesOf ss)) where
@@ -137,7 +129,7 @@ module _ (cells : List Cell) (ss : List Statement) (sound : BothSound cells ss) 
     column-plan l rec g m q e observe n h = absurd n
 
     planned-step : (l : ℕ) → ((k : ℕ) → Feeds ss k l → Driver ss k → Planned k) → Driver ss l → Planned l
-    planned-step l rec (input e) = input (digit-small (v l)) e
+    planned-step l rec (input e) = input (digit-most (v l)) e
     planned-step l rec (gate g m q) =
         let c : Cell = cellOf cells g in
         let xs = map v (g .pins) in

@@ -18,7 +18,8 @@ use Rattle.calculation.specs.Ways.{setting, wordOf, groupIndex, groupOf, column
 use Rattle.calculation.proofs.Visiting.{MayName, named-may}
 use Rattle.truth_tables.specs.Tables.{Term, Setting, digit, output, meets, terms, prime, primes, gives}
 use Rattle.truth_tables.specs.Entries.{termColumns, settingRow, settingGroup, settingGroups}
-use Rattle.truth_tables.proofs.Lists.{any-member, any-found, kept}
+use Rattle.cell_library.proofs.Any.{any-member}
+use Rattle.truth_tables.proofs.Lists.{any-found, kept}
 use Rattle.truth_tables.proofs.Columns.{says, term-bit, meets-said, said-meets}
 use Rattle.truth_tables.proofs.Covering.{setting-fact}
 use Rattle.truth_tables.specs.Generated.{Generated}

@@ -13,7 +13,7 @@ use Rattle.reading.specs.Numbers as No
 use Rattle.reading.specs.Refusal.{Read, refused, read, _>>_, weigh}
 use Rattle.reading.specs.declared.Refusal.{Refusal}
 use Rattle.reading.proofs.Bounds.{Within, within-weigh, text-not-entry}
-use Rattle.reading.proofs.Laws.{refused-read}
+use Rattle.reading.proofs.Laws.{refused-read, then-refused}
 use Rattle.cell_library.specs.Cells.{Cell}
 use Rattle.netlist.specs.Netlist.{Statement}
 use Rattle.calculation.specs.Stored.{Holds}
@@ -21,7 +21,6 @@ use Rattle.calculation.proofs.Laws.{within-budget}
 use Rattle.outcome.specs.Outcome.{Pair, entryBy, textLong, givenTexts, readPair}
 use Rattle.outcome.proofs.Checking.{texts-checked}
 use Rattle.outcome.proofs.Fitting.{pair-number}
-use Rattle.outcome.proofs.Refusing.{then-refused}
 use Rattle.read_pair.specs.declared.Progress.{Progress}
 use Rattle.read_pair.specs.declared.Progress.the-variants.{Unrefused, AtEntry, Later}
 use Rattle.read_pair.specs.Progress.{Reached}

@@ -4,7 +4,7 @@ use mathlib.Core.Bool.{false}
 use mathlib.Core.List.{List}
 use mathlib.Core.Logic.{_⊎_, inl, inr}
 use mathlib.Core.Path.{_≡_, refl, sym, ap, _∙_, subst}
-use Prim.Native.Nat.{ℕ, zero, suc, _+_, _/_, _%_, _≤_, _<_}
+use Prim.Native.Nat.{ℕ, suc, _+_, _/_, _%_, _≤_, _<_}
 use native.Mathlib.Decide.{ℕ-discrete, decLt}
 use native.Mathlib.Numerals.{add-one}
 use native.Mathlib.Omega.{arith}
@@ -17,7 +17,7 @@ use Rattle.plans.specs.System.{System}
 use Rattle.plans.specs.Sweep.{at, Visited}
 use Rattle.plans.specs.Stages.{allVisits}
 use Rattle.plans.specs.Budget.{fixed, offer, bid, Budgeted, unbegun, step, budgeted}
-use Rattle.plans.proofs.Laws.{at-getD, offered-none, idle-same}
+use Rattle.plans.proofs.Laws.{at-getD, at-none, offered-none, idle-same}
 use Rattle.cell_library.specs.Cells.{Cell}
 use Rattle.netlist.specs.Netlist.{Gate, Statement, gatesOf}
 use Rattle.netlist.specs.Gates.{gateLine, noGate}
@@ -48,12 +48,6 @@ use Rattle.budget.proofs.Stepping.{held-bids}
 
 abbrev none : List ℕ
 none = replicate Size.numbers never
-
-none-at : (k n : ℕ) → at (replicate k never) n ≡ never
-unfolding at
-none-at zero n = refl
-none-at (suc k) zero = refl
-none-at (suc k) (suc n) = none-at k n
 
 module _ {library netlist : List ℕ} {cells : List Cell} {ss : List Statement} (h : Holds library netlist cells ss) where
   -- A value that is visited has its gate.
@@ -87,7 +81,7 @@ module _ {library netlist : List ℕ} {cells : List Cell} {ss : List Statement} 
   first-bid : (n : ℕ) → (Visited (allVisits (stages cells (gatesOf ss))) n → ⊥) → bid S none n ≡ at (start ss) n
   unfolding bid fixed pick offer
   first-bid n u =
-      rw (none-at Size.numbers n, offered-none (allVisits (stages cells (gatesOf ss))) none n u, ← start-first (pricesOf ss) ss (own-figures (h .sound)) n) (lesser-never (at (start ss) n) (start-bounded (pricesOf ss) ss (own-figures (h .sound)) n))
+      rw (at-none Size.numbers n, offered-none (allVisits (stages cells (gatesOf ss))) none n u, ← start-first (pricesOf ss) ss (own-figures (h .sound)) n) (lesser-never (at (start ss) n) (start-bounded (pricesOf ss) ss (own-figures (h .sound)) n))
 
   pub stale-start : {prices q : List ℕ} → prices ≡ start ss → Priced prices q → Stale netlist AnyGate q (leafBid cells ss none)
   stale-start {prices} {q} e p i l =

@@ -10,7 +10,7 @@ use Rattle.reading.proofs.Laws.{each-at, each-member}
 use Rattle.cost.specs.Cost.{most}
 use Rattle.cell_library.specs.Cells.{Row, Group, Cell}
 use Rattle.cell_library.specs.Cells as C
-use Rattle.cell_library.specs.Library.{Word, CC, CO, SC, SO, groupCount, excepted, wordGroups}
+use Rattle.cell_library.specs.Library.{Word, groupCount, excepted, wordGroups}
 use Rattle.cell_library.specs.Sound.{SoundRow, SoundGroup, SoundGroups, SoundCell}
 use Rattle.cell_library.proofs.Laws.{cell-known, CO-observes, SO-observes}
 use Rattle.netlist.specs.Netlist.{Gate, Statement, gatesOf}

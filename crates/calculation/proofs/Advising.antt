@@ -1,17 +1,18 @@
 -- The adviser's answer is what document 02, K13, asks for.
 -- Assumes nothing.
-use mathlib.Core.Bool.{Bool, true, false, not, _&&_}
+use mathlib.Core.Bool.{Bool, true, false, not}
 use mathlib.Core.List.{List, [], _∷_, map, List·Memᴰ, List·Memᴰ·head, List·Memᴰ·tail, List·Memᴰ·not-nil}
-use mathlib.Core.Path.{_≡_, refl, sym, _∙_, ap, fun-ext, subst}
-use Prim.Native.Nat.{ℕ, zero, suc, _+_, _≤_, _<_, max}
+use mathlib.Core.Path.{_≡_, refl, sym, _∙_, ap, fun-ext}
+use Prim.Native.Nat.{ℕ, zero, suc, _+_, _≤_, _<_}
 use native.Mathlib.Decide.{ℕ-discrete}
 use native.Mathlib.Nat.{le-trans, le-of-eq}
 use native.Mathlib.Omega.{arith}
 use borrow.Author.Tests.{leb-true, leb-false, not-true}
 use lib.Dec.{leb}
 use Rattle.sizes.specs.Sizes as Size
+use Rattle.reading.specs.Refusal.{Read, read}
 use Rattle.reading.specs.Choice.{pick}
-use Rattle.reading.proofs.Laws.{by-test, clash, and-left, and-right}
+use Rattle.reading.proofs.Laws.{by-test, and-left, and-right}
 use Rattle.plans.specs.Sweep.{at}
 use Rattle.plans.proofs.Laws.{at-getD}
 use Rattle.cell_library.specs.Cells.{Cell}
@@ -25,7 +26,7 @@ use Rattle.calculation.specs.Nodes.{combinational, observe, node}
 use Rattle.calculation.specs.Acceptance.{BothSound}
 use Rattle.calculation.specs.Prices.{pricesOf}
 use Rattle.calculation.specs.Calculation.{analysed}
-use Rattle.calculation.specs.Advice.{allowed, allowedLines, withPad, observedWith, leaves, largest, before, best, advice, rankWords, rankOf, noRank, lineRank, lineRanks, ranks, LeavesExact, LargestLeft, Best, Says, AdviceSays, ForbidSame, SameAdvice, SameRanks}
+use Rattle.calculation.specs.Advice.{allowed, allowedLines, withPad, observedWith, leaves, largest, before, best, advice, rankWords, rankOf, noRank, lineRank, lineRanks, ranks, LeavesExact, LargestLeft, Says, AdviceSays, ForbidSame, SameAdvice, SameRanks}
 use Rattle.calculation.proofs.Placing.{node-inside}
 use Rattle.calculation.proofs.Pricing.{own-figures}
 use Rattle.calculation.proofs.Bounding.{numbers-length}
@@ -106,6 +107,9 @@ record First (f : ℕ → ℕ) (ls : List ℕ) (l x : ℕ) : Type 0 where
   pub carries : x ≡ f l
   pub least : (m : ℕ) → List·Memᴰ m ls → x ≤ f m
   pub lowest : (m : ℕ) → List·Memᴰ m ls → f m ≡ x → l ≤ m
+
+pub none-pad : (l x : ℕ) → _≡_ {A = Read Advice} (read NoneAllowed) (read (Pad l x)) → ⊥
+none-pad l x e = let z : _≡_ {A = ℕ} 0 1 = cc in omega arith
 
 abbrev FirstSaid : (ℕ → ℕ) → List ℕ → Advice → Type 0
 FirstSaid f ls NoneAllowed = ls ≡ []

@@ -3,16 +3,14 @@
 -- Assumes nothing.
 use mathlib.Core.Bool.{true}
 use mathlib.Core.List.{List, List·Memᴰ}
-use mathlib.Core.Path.{_≡_, refl, sym, ap, _∙_}
+use mathlib.Core.Path.{_≡_, refl, sym, _∙_}
 use Prim.Native.Nat.{ℕ, _≤_}
 use native.Mathlib.Nat.{le-refl, le-antisymm}
 use native.Mathlib.Omega.{arith}
 use Rattle.sizes.specs.Sizes as Size
-use Rattle.cost.specs.Cost.{never}
 use Rattle.plans.specs.System.{Visit}
 use Rattle.plans.specs.Sweep.{at, Rule, renew, lower, Settles, Visited}
 use Rattle.plans.specs.Stages.{Stages, Stages.ended, Stages.stage}
-use Rattle.plans.specs.Idle.{Needs}
 use Rattle.plans.specs.Standing.{Alike, Looks, Reads}
 use Rattle.plans.proofs.Laws.{stands-least, Stores, lower-stores, renew-stores, lower-reads, renew-reads, alike-settles, settles-once, settles-length, settles-other}
 use Rattle.cell_library.specs.Cells.{Cell, Column}
@@ -20,14 +18,14 @@ use Rattle.netlist.specs.Netlist.{Gate, Statement, gatesOf, isInput, lowPrice, 
 use Rattle.calculation.specs.declared.Counts.{Counts}
 use Rattle.calculation.specs.Nodes.{Kind, combinational, sequential, Purpose, set, observe, node}
 use Rattle.calculation.specs.Prices.{Pricing, inputCost, Figures, WithinRanges}
-use Rattle.calculation.specs.Ways.{asked, Role, purposeOf, visit, settingVisits, observingVisits}
+use Rattle.calculation.specs.Ways.{asked, purposeOf, visit, settingVisits, observingVisits}
 use Rattle.calculation.specs.Acceptance.{BothSound}
 use Rattle.calculation.specs.Calculation.{startAt, stages, analysedAt}
 use Rattle.calculation.specs.Settled.{inOrder}
 use Rattle.calculation.specs.Plans.{Plan, Plan.input, Plan.row, Plan.output, Plan.through, Plans, Plans.done, Plans.also, costAt, costsAt}
 use Rattle.calculation.specs.Between.{numberAt, AnalysisAt, Between}
 use Rattle.calculation.proofs.Placing.{Placed, node-injective, firstNumber, start-length, start-at}
-use Rattle.calculation.proofs.Pricing.{within-ends, ends-order, low-within, high-within, within-figures}
+use Rattle.calculation.proofs.Pricing.{within-ends, low-within, high-within, within-figures}
 use Rattle.calculation.proofs.Visiting.{Has, sets-has, observes-has, Visiting, visiting-node, visiting-more, setting-from, observing-from}
 use Rattle.calculation.proofs.Accepting.{asked-placed}
 use Rattle.calculation.proofs.Needing.{column}
@@ -53,7 +51,7 @@ module _ {cells : List Cell} {ss : List Statement} {k : Kind} (low high : Pricin
 
 -- ---- the runs of SC and SO
 
-kinds-apart : combinational ≡ sequential → ⊥
+pub kinds-apart : combinational ≡ sequential → ⊥
 kinds-apart e = let z : _≡_ {A = ℕ} 0 1 = cc in omega arith
 
 module _ (cells : List Cell) (ss : List Statement) (sound : BothSound cells ss) where

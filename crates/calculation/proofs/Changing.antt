@@ -1,7 +1,7 @@
 -- Another library under a standing analysis: whatever asks, commits and changes of library leave is a standing analysis.
 -- Document 02, K14. Assumes nothing.
-use mathlib.Core.Bool.{Bool, true, false}
-use mathlib.Core.List.{List, [], _∷_, _++_, flatMap}
+use mathlib.Core.Bool.{true}
+use mathlib.Core.List.{List, [], _∷_, _++_}
 use mathlib.Core.Path.{_≡_, refl, sym, _∙_, ap}
 use Prim.Native.Nat.{ℕ, zero, suc, _<_}
 use native.Mathlib.Nat.{le-of-eq, le-trans, le-antisymm}
@@ -18,19 +18,19 @@ use Rattle.plans.specs.Standing.{allByLower}
 use Rattle.plans.proofs.Laws.{at-ext, settles-under, lowered-under}
 use Rattle.cell_library.specs.Cells.{Cell}
 use Rattle.cell_library.specs.Sound as C
-use Rattle.netlist.specs.Netlist.{Gate, Statement, mark, output, linesOf, linesMarked, mentioned, mentionedLines, isMarked, markedLines, gatesOf}
+use Rattle.netlist.specs.Netlist.{Statement, mark, output, linesOf, linesMarked, mentioned, mentionedLines, isMarked, markedLines, gatesOf}
 use Rattle.netlist.specs.Rereading.{SameLines, Rereadable}
 use Rattle.netlist.proofs.Causes.{one-more}
 use Rattle.calculation.specs.declared.Counts.{Counts}
 use Rattle.calculation.specs.Acceptance.{BothSound}
 use Rattle.calculation.specs.Added.{RowsAdded, AtGates}
-use Rattle.calculation.specs.Prices.{Pricing, Figures, pricesOf}
+use Rattle.calculation.specs.Prices.{Figures, pricesOf}
 use Rattle.calculation.specs.Calculation.{stages, Analysed, analysed}
 use Rattle.calculation.specs.Runs.{runsFrom, lesserRuns}
-use Rattle.calculation.specs.Settled.{inOrder, FewSweeps}
+use Rattle.calculation.specs.Settled.{inOrder}
 use Rattle.calculation.specs.Growth.{grown}
-use Rattle.calculation.specs.Pads.{padded, State, statementsOf, fresh, takesNone, placeable, Operation, step}
-use Rattle.calculation.specs.Standing.{Event, operate, change, wentOn, begunAgain, changedTo, react, reacts, Standing, AllRead, GrownReads, GoesOn, OnGoes, Unmoved, SameLibrary, AllStanding}
+use Rattle.calculation.specs.Pads.{padded, State, statementsOf, fresh, takesNone, placeable, step}
+use Rattle.calculation.specs.Standing.{Event, operate, change, wentOn, begunAgain, changedTo, react, reacts, Standing, AllRead, GrownReads, GoesOn, OnGoes, SameLibrary, AllStanding}
 use Rattle.calculation.proofs.Pricing.{own-figures}
 use Rattle.calculation.proofs.Bounding.{few-sweeps, numbers-length, numbers-bounded}
 use Rattle.calculation.proofs.Observing.{in-order, lesser-settled}

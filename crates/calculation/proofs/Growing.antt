@@ -14,9 +14,10 @@ use Rattle.reading.specs.Choice.{pick}
 use Rattle.reading.proofs.Laws.{by-test, clash, and-left, and-right, or-cases}
 use Rattle.text.specs.Lines.{sameBytes}
 use Rattle.text.proofs.Laws.{sameBytes-refl, sameBytes-true}
+use Rattle.cell_library.proofs.Any.{any-member}
 use Rattle.cell_library.specs.Cells.{Heading, plain, deep, Row, Group, Cell}
 use Rattle.cell_library.specs.Library.{anyOf, wordGroups, cellNamed}
-use Rattle.netlist.specs.Netlist.{Gate, Statement, gatesOf, pinsAt}
+use Rattle.netlist.specs.Netlist.{Statement, pinsAt}
 use Rattle.netlist.specs.Sound as N
 use Rattle.netlist.specs.Rereading.{SameEntries}
 use Rattle.netlist.proofs.Laws.{gate-sound}
@@ -83,11 +84,6 @@ any-from p [] e = clash false e refl
 any-from p (x ∷ xs) e =
     ⊎-elim (λ t. (x, List·Memᴰ·head refl, t)) (λ t. let s = any-from p xs t in (s .0, List·Memᴰ·tail (s .1), s .2)) (or-cases (p x) (anyOf p xs) e)
 
-any-listed : {A : Type 0} (p : A → Bool) (xs : List A) (x : A) → List·Memᴰ x xs → p x ≡ true → anyOf p xs ≡ true
-unfolding anyOf
-any-listed p (y ∷ xs) x (List·Memᴰ·head e) t = let s : p y ≡ true = ap p (sym e) ∙ t in rw s
-any-listed p (y ∷ xs) x (List·Memᴰ·tail m) t = by-test (p y) (λ b. rw b) (λ b. rw b (any-listed p xs x m t))
-
 -- What holds of a row of some group holds of one of the new groups.
 any-keeps : (p : Row → Bool) (xs ys : List Group) → pairwise keeps xs ys ≡ true → anyOf (anyOf p) xs ≡ true → anyOf (anyOf p) ys ≡ true
 unfolding pairwise anyOf
@@ -99,7 +95,7 @@ any-keeps p (x ∷ xs) (y ∷ ys) e t =
     side : (anyOf (anyOf p) xs ≡ true → anyOf (anyOf p) ys ≡ true) → (anyOf p x ≡ true) ⊎ (anyOf (anyOf p) xs ≡ true) → (anyOf p y || anyOf (anyOf p) ys) ≡ true
     side more (inl s) =
         let f : SomeOf p x = any-from p x s in
-        let g : anyOf p y ≡ true = any-listed p y (f .0) (keeps-listed x y (and-left (keeps x y) (pairwise keeps xs ys) e) (f .0) (f .1)) (f .2) in
+        let g : anyOf p y ≡ true = any-member p (keeps-listed x y (and-left (keeps x y) (pairwise keeps xs ys) e) (f .0) (f .1)) (f .2) in
         rw g
     side more (inr s) = by-test (anyOf p y) (λ b. rw b) (λ b. rw b (more s))
 

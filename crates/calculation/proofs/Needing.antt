@@ -2,7 +2,7 @@
 -- observed, the one that drives it.
 -- Assumes nothing.
 use mathlib.Core.List.{List, List·Memᴰ, Memᴰ·of-map}
-use mathlib.Core.Path.{_≡_, sym, _∙_, ap}
+use mathlib.Core.Path.{_≡_, sym, ap}
 use Prim.Native.Nat.{ℕ, _≤_}
 use Rattle.plans.specs.System.{Way}
 use Rattle.plans.specs.Idle.{Needs}

@@ -2,14 +2,14 @@
 -- `lastRuns`.
 -- Assumes nothing.
 use mathlib.Core.List.{List, map, Memᴰ·map}
-use mathlib.Core.Path.{_≡_, refl, sym, _∙_, ap}
+use mathlib.Core.Path.{_≡_, refl, _∙_, ap}
 use Prim.Native.Nat.{ℕ, _+_, _*_}
 use native.Mathlib.Omega.{arith}
 use native.Mathlib.Nat.{le-trans, le-of-eq}
 use lib.ListN.{length, getD, length-map}
 use Rattle.sizes.specs.Sizes as Size
 use Rattle.plans.specs.System.{Visit}
-use Rattle.plans.specs.Sweep.{at, lower, Settles, Run, run, Bounded}
+use Rattle.plans.specs.Sweep.{at, lower, Settles, run, Bounded}
 use Rattle.plans.specs.Stages.{runStage, Stages, Stages.ended, Stages.stage}
 use Rattle.plans.specs.Statements.{SettlesWithin}
 use Rattle.plans.specs.Standing.{allByLower}
@@ -20,7 +20,7 @@ use Rattle.calculation.specs.declared.Counts.{Counts}
 use Rattle.calculation.specs.Nodes.{Kind, combinational, sequential}
 use Rattle.calculation.specs.Ways.{settingVisits, observingVisits}
 use Rattle.calculation.specs.Acceptance.{BothSound}
-use Rattle.calculation.specs.Calculation.{observingStage, stages, Analysed}
+use Rattle.calculation.specs.Calculation.{stages, Analysed}
 use Rattle.calculation.specs.Runs.{lastRuns, lesserRuns}
 use Rattle.calculation.specs.Settled.{inOrder}
 use Rattle.calculation.proofs.Sweeping.{settled-run}

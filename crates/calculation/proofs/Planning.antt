@@ -10,8 +10,8 @@ use native.Mathlib.Omega.{arith}
 use borrow.Author.Tests.{eqb-true, eqb-false, ne-eqb}
 use lib.Dec.{eqb}
 use Rattle.reading.specs.Choice.{pick}
-use Rattle.cost.specs.Cost.{most, never, over, capped}
-use Rattle.plans.specs.System.{Way, System, Offers}
+use Rattle.cost.specs.Cost.{most, never, capped}
+use Rattle.plans.specs.System.{Way, Offers}
 use Rattle.plans.specs.System as General
 use Rattle.plans.specs.Sweep.{at}
 use Rattle.plans.specs.Exact.{first}

@@ -7,6 +7,7 @@ use Prim.Native.Nat.{ℕ, _≤_}
 use native.Mathlib.Nat.{le-refl, le-trans}
 use native.Mathlib.Omega.{arith}
 use lib.ListN.{length, length-append}
+use Rattle.laws.proofs.Lists.{flatMap-append}
 use Rattle.sizes.specs.Sizes as Size
 use Rattle.reading.specs.Choice.{pick}
 use Rattle.reading.specs.Refusal.{Read, read}
@@ -15,7 +16,6 @@ use Rattle.plans.specs.Sweep.{at}
 use Rattle.cell_library.specs.Cells.{Cell}
 use Rattle.netlist.specs.Netlist.{Statement, mark, output, linesMarked, markedLines, gatesOf}
 use Rattle.netlist.specs.Sound as N
-use Rattle.netlist.proofs.Causes.{flatMap-append}
 use Rattle.netlist.proofs.Counting.{outputs-few}
 use Rattle.netlist.proofs.Padding.{pad-gates}
 use Rattle.calculation.specs.Acceptance.{BothSound}

@@ -1,7 +1,7 @@
 -- A sweep's flag: it is false exactly where the sweep leaves the numbers as they were. So a loop that sweeps until the flag is
 -- false settles, and comes to the numbers and the count of `run`.
 -- Assumes nothing.
-use mathlib.Core.Bool.{Bool, true, false, not, _||_, true≢false}
+use mathlib.Core.Bool.{true, false, not, _||_, true≢false, or-assoc}
 use mathlib.Core.List.{List, [], _∷_, _++_, List·Memᴰ·head, List·Memᴰ·tail}
 use mathlib.Core.Logic.{_↔_}
 use mathlib.Core.Path.{_≡_, refl, sym, _∙_, ap}
@@ -13,6 +13,7 @@ use borrow.Author.Tests.{eqb-true, eq-eqb, not-false}
 use lib.Dec.{eqb}
 use lib.ListN.{length, set}
 use lib.Seq.{set-out, set-getD}
+use Rattle.reading.proofs.Laws.{or-left, or-right}
 use Rattle.cost.specs.Cost.{never, lesser}
 use Rattle.plans.specs.System.{Visit}
 use Rattle.plans.specs.Sweep.{at, least, Rule, lower, sweep, sweeps, Rests, Settles, run, Once, Visited}
@@ -27,10 +28,6 @@ use Rattle.plans.proofs.Laws.{
 use Rattle.calculation.specs.Changes.{alters, changes, Going}
 
 -- ---- the flag of one visit
-
-or-false : (a b : Bool) → (a || b) ≡ false → (a ≡ false) × (b ≡ false)
-or-false true b e = (e, let z : true ≡ false = e in cc)
-or-false false b e = (refl, e)
 
 -- Where the node has a place, the flag compares what is stored with what stood there.
 pub alters-lower : (v : Visit) (xs : List ℕ) → v .node < length xs → alters lower v xs ≡ not (eqb (lesser (at xs (v .node)) (least xs (v .ways))) (at xs (v .node)))
@@ -64,19 +61,15 @@ unaltered rule stores v xs e = place (decLt (v .node) (length xs))
 pub changes-append : (rule : Rule) (us vs : List Visit) (xs : List ℕ) → changes rule (us ++ vs) xs ≡ (changes rule us xs || changes rule vs (sweep rule us xs))
 unfolding changes sweep
 changes-append rule [] vs xs = refl
-changes-append rule (u ∷ us) vs xs = rw (changes-append rule us vs (rule xs u)) (regroup (alters rule u xs) (changes rule us (rule xs u)) (changes rule vs (sweep rule us (rule xs u))))
-  where
-    regroup : (a b c : Bool) → (a || (b || c)) ≡ ((a || b) || c)
-    regroup true b c = refl
-    regroup false b c = refl
+changes-append rule (u ∷ us) vs xs = rw (changes-append rule us vs (rule xs u)) (sym (or-assoc (alters rule u xs) (changes rule us (rule xs u)) (changes rule vs (sweep rule us (rule xs u)))))
 
 -- A sweep whose flag is false leaves the numbers as they were, by whatever rule.
 pub unchanged : (rule : Rule) → Stores rule → (vs : List Visit) (xs : List ℕ) → changes rule vs xs ≡ false → Rests rule vs xs
 unfolding changes sweep
 unchanged rule stores [] xs e = refl
 unchanged rule stores (v ∷ vs) xs e =
-    let h : (alters rule v xs ≡ false) × (changes rule vs (rule xs v) ≡ false) = or-false (alters rule v xs) (changes rule vs (rule xs v)) e in
-    unchanged rule stores vs (rule xs v) (h .1) ∙ unaltered rule stores v xs (h .0)
+    unchanged rule stores vs (rule xs v) (or-right (alters rule v xs) (changes rule vs (rule xs v)) e)
+    ∙ unaltered rule stores v xs (or-left (alters rule v xs) (changes rule vs (rule xs v)) e)
 
 -- The flag of a sweep that leaves the numbers as they were is false.
 pub rests-lower : (vs : List Visit) (xs : List ℕ) → Rests lower vs xs → changes lower vs xs ≡ false

@@ -1,21 +1,19 @@
 -- A pad on trial: CO rests at the numbers that stand, and a run of it with just the pad's number lowered leaves the CO of the
 -- new analysis. Document 02, K13. Assumes nothing.
 use mathlib.Core.Bool.{true, false, or-false, or-true}
-use mathlib.Core.List.{List, [], _∷_, _++_, map, List·Memᴰ, List·Memᴰ·head, List·Memᴰ·tail}
-use mathlib.Core.Path.{_≡_, refl, sym, _∙_, ap, ap₂, subst}
-use Prim.Native.Nat.{ℕ, zero, suc, _+_, _*_, _-_, _≤_, _<_}
+use mathlib.Core.List.{List}
+use mathlib.Core.Path.{_≡_, refl, sym, _∙_, subst}
+use Prim.Native.Nat.{ℕ, zero, suc, _+_, _*_, _-_, _≤_}
 use native.Mathlib.Omega.{arith}
 use borrow.Author.Tests.{eq-eqb, ne-eqb}
-use lib.Dec.{eqb}
 use lib.ListN.{set}
 use Rattle.sizes.specs.Sizes as Size
 use Rattle.reading.specs.Choice.{pick}
-use Rattle.reading.proofs.Laws.{by-test}
 use Rattle.plans.specs.Sweep.{at, lower, Rests, Settles}
 use Rattle.plans.specs.Stages.{Stages, Stages.ended, Stages.stage}
 use Rattle.plans.proofs.Laws.{lower-stores, lower-reads, settles-length, settles-other, rests-alike}
 use Rattle.cell_library.specs.Cells.{Cell}
-use Rattle.netlist.specs.Netlist.{Statement, mark, output, gatesOf, mentioned, isOutput, linesWhere}
+use Rattle.netlist.specs.Netlist.{Statement, gatesOf, mentioned, isOutput}
 use Rattle.netlist.specs.Sound.{InRange}
 use Rattle.netlist.proofs.Laws.{mentioned-in-range}
 use Rattle.netlist.proofs.Padding.{pad-inputs, pad-outputs, pad-prices}
@@ -25,7 +23,7 @@ use Rattle.calculation.specs.Acceptance.{BothSound}
 use Rattle.calculation.specs.Prices.{Pricing, pricesOf}
 use Rattle.calculation.specs.Calculation.{startLine, startLines, startAt, start, stages, analysedAt, analysed}
 use Rattle.calculation.specs.Settled.{inOrder}
-use Rattle.calculation.specs.Advice.{withPad, observedWith, leaves}
+use Rattle.calculation.specs.Advice.{withPad, observedWith}
 use Rattle.calculation.proofs.Placing.{node-inside, node-index, start-at}
 use Rattle.calculation.proofs.Pricing.{own-figures}
 use Rattle.calculation.proofs.Bounding.{settled}

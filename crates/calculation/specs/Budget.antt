@@ -12,7 +12,7 @@ use Rattle.reading.specs.Choice.{pick}
 use Rattle.cost.specs.Cost.{never}
 use Rattle.plans.specs.System.{System}
 use Rattle.plans.specs.Sweep.{at}
-use Rattle.plans.specs.Budget.{fixed, offer, Budgeted, budgeted, budget-open}
+use Rattle.plans.specs.Budget.{fixed, offer, Budgeted, budgeted}
 use Rattle.cell_library.specs.Cells.{Cell}
 use Rattle.netlist.specs.Netlist.{Statement}
 use Rattle.netlist.specs.Sound.{InRange}
@@ -107,8 +107,3 @@ pub record WithinBudget (cells : List Cell) (ss : List Statement) (budget steps 
       (steps ≡ budget) ⊎ ((l v : ℕ) → InRange l → v ≤ 1 → flagOf words l v ≡ 0 → handedOf words l v ≡ never)
   -- "an unlimited one" is any that has a step for each value: a larger one comes to the same run.
   pub unlimited : (more : ℕ) → Size.leaves ≤ budget → budget ≤ more → bestWithin cells ss more ≡ bestWithin cells ss budget
-
--- Opens the page's definitions, where a figure computes with them.
-unfoldable pub best-open : ℕ
-unfolding budget-open valuesFrom values bestWithin flagged handed valuesWords bestWords flagSum
-best-open = 0

@@ -7,7 +7,7 @@ use mathlib.Core.Path.{_≡_}
 use Prim.Native.Nat.{ℕ, _<_}
 use lib.Dec.{eqb}
 use Rattle.plans.specs.System.{Visit}
-use Rattle.plans.specs.Sweep.{at, Rule, sweep, sweeps, Rests}
+use Rattle.plans.specs.Sweep.{at, Rule, sweeps, Rests}
 
 -- The visit stores a number other than the one that stood there.
 unfoldable pub alters : Rule → Visit → List ℕ → Bool

@@ -1,7 +1,7 @@
 -- A library that differs from another "only by rows added to groups". Document 02, K14.
 -- Assumes nothing.
 use mathlib.Core.Bool.{Bool, true, false, not, _&&_, _||_}
-use mathlib.Core.List.{List, [], _∷_, _++_}
+use mathlib.Core.List.{List, [], _∷_}
 use lib.Dec.{eqb}
 use Rattle.reading.specs.Choice.{pick}
 use Rattle.text.specs.Lines.{sameBytes}
@@ -34,10 +34,6 @@ sameHeading deep deep = true
 -- "the same entries": name, pins and heading.
 unfoldable pub sameEntry : Cell → Cell → Bool
 sameEntry c d = sameBytes (c .name) (d .name) && (eqb (c .pins) (d .pins) && sameHeading (c .heading) (d .heading))
-
--- The groups of a cell, its four lines one after the other.
-unfoldable pub allGroups : Cell → List Group
-allGroups c = c .cc ++ (c .sc ++ (c .co ++ c .so))
 
 -- "no cell may lose the one-wire reading of tied pins"
 unfoldable pub grownCell : Cell → Cell → Bool

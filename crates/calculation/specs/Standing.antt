@@ -1,6 +1,6 @@
 -- A standing analysis: "one that an analysis, commits and earlier changes of library left". Document 02, K11 and K14.
 -- Assumes nothing.
-use mathlib.Core.Bool.{Bool, true, false}
+use mathlib.Core.Bool.{true, false}
 use mathlib.Core.List.{List, [], _∷_}
 use mathlib.Core.Path.{_≡_}
 use Prim.Native.Nat.{ℕ, _≤_}
@@ -12,7 +12,6 @@ use Rattle.plans.specs.Sweep.{at}
 use Rattle.cell_library.specs.Cells.{Cell}
 use Rattle.cell_library.specs.Sound as C
 use Rattle.netlist.specs.Netlist.{Statement, gatesOf}
-use Rattle.netlist.specs.Rereading.{Rereadable}
 use Rattle.calculation.specs.Acceptance.{BothSound}
 use Rattle.calculation.specs.Calculation.{stages, analysed}
 use Rattle.calculation.specs.Settled.{inOrder, FewSweeps}

@@ -8,16 +8,14 @@ use lib.Dec.{eqb}
 use lib.ListN.{getD}
 use Rattle.reading.specs.Choice.{pick}
 use Rattle.plans.specs.System.{Way, Visit}
-use Rattle.cell_library.specs.Cells.{plain, Row, Group, Cell, Column, pin, output, observe, bitOf, settingColumns, observingColumns, bit, named, cells-open}
+unfoldable pub use Rattle.cell_library.specs.Cells.{noCell}
+use Rattle.cell_library.specs.Cells.{Row, Group, Cell, Column, pin, output, observe, bitOf, settingColumns, observingColumns, bit, named, cells-open}
 use Rattle.cell_library.specs.Library.{Word, CC, CO, SC, SO, wordGroups, anyOf}
 use Rattle.netlist.specs.Netlist.{Gate}
 use Rattle.calculation.specs.Nodes.{Kind, combinational, sequential, Purpose, node, nodes-open}
 use Rattle.calculation.specs.Nodes as N
 
 -- A gate's cell; one without rows where the index names none, which 12 refuses.
-unfoldable pub noCell : Cell
-noCell = record { name = []; pins = 0; heading = plain; cc = []; co = []; sc = []; so = [] }
-
 unfoldable pub cellOf : List Cell → Gate → Cell
 cellOf cells g = getD cells (g .cell) noCell
 
@@ -169,5 +167,5 @@ observingVisits k cells (g ∷ gs) = observingVisits k cells gs ++ gateVisits k 
 
 -- Opens the page's definitions, where a figure computes with them.
 unfoldable pub ways-open : ℕ
-unfolding nodes-open cells-open wordGroups noCell cellOf pinLine asked needs purposeOf wordOf groupIndex groupOf columnsOf namedBy anyOf bothValues oneWire merges sameValue otherValue anyAsks once needsBoth asks isWay usable wayOf waysOf visit valueRoles pinRoles gateVisits settingVisits observingVisits
+unfolding nodes-open cells-open wordGroups cellOf pinLine asked needs purposeOf wordOf groupIndex groupOf columnsOf namedBy anyOf bothValues oneWire merges sameValue otherValue anyAsks once needsBoth asks isWay usable wayOf waysOf visit valueRoles pinRoles gateVisits settingVisits observingVisits
 ways-open = 0

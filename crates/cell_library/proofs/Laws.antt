@@ -2,7 +2,7 @@
 -- Assumes nothing.
 use mathlib.Core.Bool.{Bool, true, false, not, _&&_, _||_}
 use mathlib.Core.List.{List, [], _∷_, _++_}
-use mathlib.Core.Option.{Option, none, some}
+use mathlib.Core.Option.{Option, none, some, Option·none-ne-some}
 use mathlib.Core.Path.{_≡_, refl, sym, ap, _∙_}
 use Prim.Native.Nat.{ℕ, suc, _+_, _*_, _^_, _≤_, _<_}
 use native.Mathlib.Nat.{mod-lt}
@@ -61,17 +61,14 @@ groups-written h (f ∷ fs) = step (groups-written h fs) (isJoin f) (isZ f)
     step e false true = (tt, e)
     step e false false = withRow-written (joinFirst fs) (rowOf h (value 8 0 f)) (groupsOf h fs) (row-shallow h (value 8 0 f)) e
 
-none-some : {A : Type 0} {a : A} → _≡_ {A = Option A} none (some a) → ⊥
-none-some e = let z : _≡_ {A = ℕ} 0 1 = cc in omega arith
-
 pick-some : {A : Type 0} (t : Bool) (a b : A) → pick t (some a) none ≡ some b → (t ≡ true) × (a ≡ b)
 unfolding pick
 pick-some true a b e = (refl, cc)
-pick-some false a b e = absurd (none-some e)
+pick-some false a b e = absurd (Option·none-ne-some _ e)
 
 rows-written : (h : Heading) (w : Word) (fs : Fields) (gs : List Group) → rowsAfter h w fs ≡ some gs → Each Written gs
 unfolding rowsAfter
-rows-written h w [] gs e = absurd (none-some e)
+rows-written h w [] gs e = absurd (Option·none-ne-some _ e)
 rows-written h w (f ∷ fs) gs e =
     let same : groupsOf h fs ≡ gs = pick-some (sameBytes f (wordBytes w) && rowsForm h word fs) (groupsOf h fs) gs e .1 in
     rw same at (groups-written h fs)
@@ -131,19 +128,19 @@ module _ (w : Word) (n : ℕ) where
 -- A name line of good form has a name of good form.
 header-form : (o : Option Heading) (name : List ℕ) (n : Option ℕ) (h : Header) → headerOf o name n ≡ some h → nameForm (h .name) ≡ true
 unfolding headerOf
-header-form none name n h e = absurd (none-some e)
-header-form (some k) name none h e = absurd (none-some e)
+header-form none name n h e = absurd (Option·none-ne-some _ e)
+header-form (some k) name none h e = absurd (Option·none-ne-some _ e)
 header-form (some k) name (some n) h e =
     let good = pick-some (nameForm name) (record { name = name; pins = n; heading = k }) h e in
     ap (λ (x : Header). nameForm (x .name)) (sym (good .1)) ∙ good .0
 
 name-form : (fs : Fields) (h : Header) → nameAfter fs ≡ some h → nameForm (h .name) ≡ true
 unfolding nameAfter
-name-form [] h e = absurd (none-some e)
-name-form (f ∷ []) h e = absurd (none-some e)
-name-form (f ∷ (name ∷ [])) h e = absurd (none-some e)
+name-form [] h e = absurd (Option·none-ne-some _ e)
+name-form (f ∷ []) h e = absurd (Option·none-ne-some _ e)
+name-form (f ∷ (name ∷ [])) h e = absurd (Option·none-ne-some _ e)
 name-form (f ∷ (name ∷ (n ∷ []))) h e = header-form (headingOf f) name (decimal n) h e
-name-form (f ∷ (name ∷ (n ∷ (x ∷ xs)))) h e = absurd (none-some e)
+name-form (f ∷ (name ∷ (n ∷ (x ∷ xs)))) h e = absurd (Option·none-ne-some _ e)
 
 -- What a name line that is read shows: a good header, and space for one cell more.
 nameLine-sound : (line : ℕ) (cells : List Cell) (fs : Fields) (h : Header) → nameLine line cells fs ≡ read h → SoundHeader (h .name) (h .pins) × (length cells < Size.cells)

@@ -1,3 +1,4 @@
+pub mod Any
 pub mod Bounds
 pub mod Laws
 pub mod Names

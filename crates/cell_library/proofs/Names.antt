@@ -13,18 +13,18 @@ use lib.ListN.{length, getD, drop, drop-of-length-le, List·getD-append}
 use lib.Seq.{drop-cons}
 use borrow.Author.Tests.{le-leb, lt-leb, leb-true, eq-eqb, ne-eqb, eqb-true, eqb-false}
 use Rattle.sizes.specs.Sizes as Size
-use Rattle.sizes.specs.Places.{cellPlace, pinsPlace, headingPlace}
+use Rattle.sizes.specs.Places.{cellPlace, pinsPlace}
 use Rattle.table.specs.Blocks.{fitted, blocks}
 use Rattle.table.proofs.Places.{length-fitted, getD-fitted}
 use Rattle.reading.specs.Choice.{pick}
 use Rattle.text.specs.Lines.{sameBytes}
 use Rattle.text.proofs.Laws.{sameBytes-other}
-use Rattle.cell_library.specs.Cells.{plain, Cell}
+use Rattle.cell_library.specs.Cells.{Cell, noCell}
 use Rattle.cell_library.specs.Library.{cellNamed}
 use Rattle.reading.specs.Each.{Each}
 use Rattle.reading.proofs.Laws.{by-test, clash, and-left, and-right, each-at}
 use Rattle.cell_library.specs.Layout.{cellGroups, groupWords, headingNumber, cellWords, ShortName, FewPins, LibraryHolds, bytesAt, nameAt, foundFrom, foundAt, CellsTold, wordsFrom, cellIn, cellsFrom, narrowFrom, cellsFit, cellsIn, TellsCells}
-use Rattle.cell_library.proofs.Places.{library-count, cell-word, cell-pins, cell-heading}
+use Rattle.cell_library.proofs.Places.{library-count, cell-word, cell-pins}
 
 -- ---- bytes from a place on
 
@@ -62,10 +62,6 @@ same-at name g table k long bytes =
 
 -- ---- the cells of a table
 
--- A cell that stands for none, where a place is known to be good.
-unfoldable pub blank : Cell
-blank = record { name = []; pins = 0; heading = plain; cc = []; co = []; sc = []; so = [] }
-
 pub holds-count : (table : List ℕ) (cells : List Cell) → LibraryHolds table cells → getD table 0 0 ≡ length cells
 holds-count table cells holds = rw (holds .words) (library-count cells (holds .past))
 
@@ -74,14 +70,11 @@ module _ (table : List ℕ) (cells : List Cell) (holds : LibraryHolds table cell
   pub holds-pins : (d : Cell) → getD table (pinsPlace k) 0 ≡ (getD cells k d) .pins
   holds-pins d = rw (holds .words) (cell-pins d cells (holds .past) (holds .fits .few) k h)
 
-  pub holds-heading : (d : Cell) → getD table (headingPlace k) 0 ≡ headingNumber ((getD cells k d) .heading)
-  holds-heading d = rw (holds .words) (cell-heading d cells (holds .past) (holds .fits .few) k h)
-
   abbrev here : Cell
-  here = getD cells k blank
+  here = getD cells k noCell
 
   name-word : (j : ℕ) → j < Size.cellWords → getD table (cellPlace k + j) 0 ≡ getD (cellWords here) j 0
-  name-word j q = rw (holds .words) (cell-word blank cells (holds .past) (holds .fits .few) k h j q)
+  name-word j q = rw (holds .words) (cell-word noCell cells (holds .past) (holds .fits .few) k h j q)
 
   name-length : getD table (cellPlace k) 0 ≡ length (here .name)
   unfolding cellWords
@@ -90,7 +83,7 @@ module _ (table : List ℕ) (cells : List Cell) (holds : LibraryHolds table cell
   name-byte : (j : ℕ) → j < length (here .name) → getD table (cellPlace k + 1 + j) 0 ≡ getD (here .name) j 0
   unfolding cellWords ShortName
   name-byte j q =
-      let short : length (here .name) ≤ Size.nameBytes = each-at ShortName cells k blank h (holds .fits .short) in
+      let short : length (here .name) ≤ Size.nameBytes = each-at ShortName cells k noCell h (holds .fits .short) in
       let behind = here .pins ∷ headingNumber (here .heading) ∷ blocks groupWords (cellGroups here) in
       ap (λ (p : ℕ). getD table p 0) (add-assoc (cellPlace k) 1 j ∙ ap (λ (p : ℕ). cellPlace k + p) (one-add j))
       ∙ name-word (suc j) (omega arith)
@@ -102,13 +95,13 @@ module _ (table : List ℕ) (cells : List Cell) (holds : LibraryHolds table cell
 
 -- Where a table counts cells and has their names.
 module _ (name table : List ℕ) (cells : List Cell) (counted : getD table 0 0 ≡ length cells)
-    (same : (k : ℕ) → k < length cells → nameAt name table k ≡ sameBytes name ((getD cells k blank) .name)) where
+    (same : (k : ℕ) → k < length cells → nameAt name table k ≡ sameBytes name ((getD cells k noCell) .name)) where
   found-named : (left k : ℕ) → k + left ≡ length cells → foundFrom name table k left ≡ k + cellNamed name (drop k cells)
   unfolding foundFrom cellNamed pick
   found-named zero k e = let past : length cells ≤ k = omega arith in rw (drop-of-length-le cells past) (sym (add-zero k))
   found-named (suc left) k e =
       let h : k < length cells = omega arith in
-      rw (drop-cons cells k blank h, ← same k h)
+      rw (drop-cons cells k noCell h, ← same k h)
       (by-test (nameAt name table k)
       (λ t. rw t (sym (add-zero k)))
       (λ t. rw t (found-named left (suc k) (omega arith) ∙ omega arith)))
@@ -190,7 +183,7 @@ module _ (table : List ℕ) where
         named =
             λ name.
             found-cells name table (cellsFrom table 0 n) (sym size)
-            (λ k h. name-in name k ∙ ap (λ (c : Cell). sameBytes name (c .name)) (sym (cell-at blank n k (omega (arith, size)))));
+            (λ k h. name-in name k ∙ ap (λ (c : Cell). sameBytes name (c .name)) (sym (cell-at noCell n k (omega (arith, size)))));
         pins = λ k h d. sym (pins-at d n k (omega (arith, size)));
         narrow = each-narrow 0 n (and-right (leb n Size.cells) (narrowFrom table 0 n) e);
       })
@@ -209,8 +202,8 @@ module _ (table : List ℕ) where
   narrow-held cells holds zero k e = refl
   narrow-held cells holds (suc left) k e =
       let h : k < length cells = omega arith in
-      let few : (getD cells k blank) .pins ≤ Size.pins = each-at FewPins cells k blank h (holds .fits .narrow) in
-      rw (le-leb (getD table (pinsPlace k) 0) Size.pins (rw (holds-pins table cells holds k h blank) few)) (narrow-held cells holds left (suc k) (omega arith))
+      let few : (getD cells k noCell) .pins ≤ Size.pins = each-at FewPins cells k noCell h (holds .fits .narrow) in
+      rw (le-leb (getD table (pinsPlace k) 0) Size.pins (rw (holds-pins table cells holds k h noCell) few)) (narrow-held cells holds left (suc k) (omega arith))
 
   held-fit : (cells : List Cell) → LibraryHolds table cells → cellsFit table ≡ true
   unfolding cellsFit

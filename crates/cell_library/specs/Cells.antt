@@ -49,6 +49,13 @@ pub record Cell : Type 0 where
   pub sc : List Group
   pub so : List Group
 
+-- What stands for a cell, or for a row, at a place where none is.
+unfoldable pub noCell : Cell
+noCell = record { name = []; pins = 0; heading = plain; cc = []; co = []; sc = []; so = [] }
+
+unfoldable pub noRow : Row
+noRow = record { depth = 0; columns = 0 }
+
 -- What a column of a row of a cell may name: "pin at 0", "pin at 1", "cell output at 0", "at 1", "observe the output".
 pub data Column : Type 0 where
   pin : (i v : ℕ) → Column
@@ -85,5 +92,5 @@ named n (c ∷ cs) columns = pick (bit columns (bitOf n c)) (c ∷ named n cs co
 
 -- Opens the page's definitions, where a figure computes with them.
 unfoldable pub cells-open : ℕ
-unfolding choice-open depthBits rowOf rowValue bitOf pinColumns settingColumns observingColumns bit named
+unfolding choice-open depthBits rowOf rowValue noCell noRow bitOf pinColumns settingColumns observingColumns bit named
 cells-open = 0

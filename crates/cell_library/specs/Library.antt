@@ -12,7 +12,7 @@ use Rattle.text.specs.Bytes.{bytes, bytes-open}
 use Rattle.reading.specs.Choice.{pick}
 use Rattle.text.specs.Lines.{lines, sameBytes, lines-open}
 use Rattle.text.specs.Numeral.{numeral, value, decimal, nameForm, numeral-open}
-use Rattle.reading.specs.Refusal.{Read, refused, read, _>>=_, _>>_, weigh, form, refusal-open}
+use Rattle.reading.specs.Refusal.{Read, refused, read, weigh, form, refusal-open, _>>=_, _>>_}
 use Rattle.cell_library.specs.Cells.{Heading, plain, deep, Row, rowOf, Group, Cell, bit, cells-open}
 
 -- A line by its fields.
@@ -133,15 +133,16 @@ idle CO n = observesNot n
 idle SC n = namesNone
 idle SO n = observesNot n
 
-unfoldable pub noRow : Group → Bool
-noRow g = eqb (length g) 0
+-- A group without a row.
+unfoldable pub emptyGroup : Group → Bool
+emptyGroup g = eqb (length g) 0
 
 -- "A CC or SC row may name no pin when the other group of its line is Z; refusal 8 excepts it." (02, K1) A row's own group has
 -- a row, so that where one of the line's two groups has none, it is the other one; 6 comes before 8, so that they are two.
 unfoldable pub excepted : Word → List Group → Bool
-excepted CC gs = anyOf noRow gs
+excepted CC gs = anyOf emptyGroup gs
 excepted CO gs = false
-excepted SC gs = anyOf noRow gs
+excepted SC gs = anyOf emptyGroup gs
 excepted SO gs = false
 
 unfoldable pub rowIdle : Word → ℕ → List Group → Bool
@@ -276,5 +277,5 @@ library t = libraryFrom 1 (record { cells = []; place = outside }) (lines t)
 
 -- Opens the page's definitions, where a figure computes with them.
 unfoldable pub library-open : ℕ
-unfolding bytes-open lines-open numeral-open refusal-open cells-open holds rowDigits isRow isJoin isZ mayJoin mayEnd rowsForm joinFirst withRow groupsOf anyOf aboveRows above namesNone observesNot wordBytes groupCount columnCount idle noRow excepted rowIdle rowsAfter rowLine headingOf headerOf nameAfter endAfter cellNamed nameUsed pinsBad nameLine lineAfter begun wordGroups withGroups libraryLine libraryEnd libraryFrom library
+unfolding bytes-open lines-open numeral-open refusal-open cells-open holds rowDigits isRow isJoin isZ mayJoin mayEnd rowsForm joinFirst withRow groupsOf anyOf aboveRows above namesNone observesNot wordBytes groupCount columnCount idle emptyGroup excepted rowIdle rowsAfter rowLine headingOf headerOf nameAfter endAfter cellNamed nameUsed pinsBad nameLine lineAfter begun wordGroups withGroups libraryLine libraryEnd libraryFrom library
 library-open = 0

@@ -2,7 +2,7 @@
 ghost use mathlib.Core.Path.{_≡_};
 ghost use Prim.Native.Nat.{_+_};
 ghost use lib.ListN.{getD};
-ghost use Rattle.sizes.specs.Places.{cellPlace, pinsPlace, headingPlace};
+ghost use Rattle.sizes.specs.Places.{cellPlace, pinsPlace};
 ghost use Rattle.cell_library.specs.Layout.{bytesAt, nameAt, foundAt, cellsFit, TellsCells};
 use table::word;
 
@@ -59,13 +59,6 @@ pub fn find(table: &[u32], name: &[u8]) -> u32
         k += 1;
     }
     k
-}
-
-// The heading of a cell, by number; of one past the table's end, 0.
-pub fn heading_of(table: &[u32], cell: u32) -> u32
-    ensures { λ r. ⌜ r ≡ getD (now (table .entry)) (headingPlace cell) 0 ⌝ }
-{
-    word(table, cell_place(cell) + sizes::HEADING_AT)
 }
 
 // The pins of a cell; of one past the table's end, 0.

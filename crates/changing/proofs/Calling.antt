@@ -1,7 +1,7 @@
 -- Reading the netlist again, reading the new library, and the call, from what their parts leave.
 -- Assumes nothing.
-use mathlib.Core.Bool.{Bool, true, false, not, _||_}
-use mathlib.Core.List.{List, [], _∷_, _++_}
+use mathlib.Core.Bool.{Bool, true, false, not, _||_, or-true}
+use mathlib.Core.List.{List, []}
 use mathlib.Core.Path.{_≡_, refl, sym, ap, subst, _∙_}
 use Prim.Native.Nat.{ℕ, _≤_, _<_}
 use native.Mathlib.Nat.{le-of-eq}
@@ -10,7 +10,6 @@ use borrow.Author.Tests.{not-false, ltb-false, le-ltb, lt-ltb}
 use lib.Dec.{ltb}
 use lib.ListN.{length, getD, drop, replicate, length-append, length-drop, length-replicate}
 use Rattle.sizes.specs.Sizes as Size
-use Rattle.table.specs.Blocks.{cleared}
 use Rattle.reading.specs.Choice.{pick}
 use Rattle.reading.specs.Numbers as No
 use Rattle.reading.specs.Refusal.{Read, refused, read, _>>=_, _>>_, weigh}
@@ -31,7 +30,7 @@ use Rattle.netlist.specs.Layout.{netlistWords, netlistAfter}
 use Rattle.netlist.proofs.Laws.{netlist-sound}
 use Rattle.netlist.proofs.Places.{length-netlistWords}
 use Rattle.netlist.proofs.Rereading.{text-rereadable}
-use Rattle.netlist_text.specs.Reading.{netlistEntry, ReadsAs, ReadsFrom, ReadsNetlist}
+use Rattle.netlist_text.specs.Reading.{ReadsAs, ReadsFrom, ReadsNetlist}
 use Rattle.netlist_text.proofs.Entering.{passes}
 use Rattle.calculation.specs.Growth.{grown}
 use Rattle.calculation.specs.Pads.{padded, State, statementsOf, placeable}
@@ -39,12 +38,12 @@ use Rattle.calculation.specs.Stored.{Holds, Ready}
 use Rattle.growth.specs.Held.{HoldsCells, SomeCells}
 use Rattle.outcome.specs.Outcome.{Given, Pair, readPair, givenBy, givenTexts, textLong}
 use Rattle.outcome.proofs.Accepting.{read-as}
-use Rattle.standing_table.specs.Table.{padsHeld, analysisHeld, stateHeld}
+use Rattle.standing_table.specs.Table.{padsHeld, stateHeld}
 use Rattle.standing_texts.specs.Held.{entered, foreign, heldBy}
 use Rattle.standing.specs.Calls.{tableShort}
 use Rattle.standing_texts.specs.Parts.{PadsJudged, HeldRead}
-use Rattle.standing_texts.proofs.Texts.{done-both, zero-cleared}
-use Rattle.changing.specs.Calls.{Change, readUnder, changed, changedBy, comes, answerOf, tableAfter}
+use Rattle.standing_texts.proofs.Texts.{done-both}
+use Rattle.changing.specs.Calls.{Change, readUnder, changed, changedBy, comes}
 use Rattle.changing.specs.Parts.{AgainFits, Again, ReadAgain, StateHeld, SomeState, Changes}
 use Rattle.changing.specs.Promise.{ChangePromised}
 use Rattle.changing.proofs.Promising.{promised}
@@ -125,9 +124,6 @@ module _ (net library before table : List ℕ) (fits : AgainFits net library bef
 
 -- ---- the new library
 
-pub zeros-used : (n : ℕ) → cleared 0 (replicate n 0) ≡ cleared n (replicate n 0)
-zeros-used n = zero-cleared (replicate n 0) n refl
-
 module _ (new net : List ℕ) (brief : length new ≤ Size.textBytes) (zeros more′ : List ℕ) (none : zeros ≡ replicate Size.library 0) (v : Verdict)
     (answered : verdictRead v ≡ doneRead (readLibrary new (length zeros))) (leaves : more′ ≡ libraryLeft new zeros) where
   enters : libraryEntry (length new) (length zeros) ≡ read tt
@@ -157,10 +153,6 @@ module _ (new net : List ℕ) (brief : length new ≤ Size.textBytes) (zeros mor
   new-changed s table after said cells n c = rw n c
 
 -- ---- the call
-
-or-last : (a : Bool) → (a || true) ≡ true
-or-last true = refl
-or-last false = refl
 
 or-again : (a b : Bool) → ((a || b) || (false || b)) ≡ (a || b)
 or-again true b = refl
@@ -193,7 +185,7 @@ module _ (lib new net table : List ℕ) where
       where
         came : comes g h table ≡ refused No.textLong 0
         came = unfold comes givenBy textLong weigh pick _>>_ in
-            rw (long, lt-ltb Size.textBytes (length new) l, or-last (ltb Size.textBytes (length lib) || ltb Size.textBytes (length net)))
+            rw (long, lt-ltb Size.textBytes (length new) l, or-true (ltb Size.textBytes (length lib) || ltb Size.textBytes (length net)))
 
     module _ (brief : length new ≤ Size.textBytes) (library′ netlist′ : List ℕ) where
       -- What is left of the entry: the texts that are read as a standing analysis.

@@ -1,50 +1,37 @@
 -- The row that a mark tells: whose gate and whose group it is, and what it asks for.
 -- Assumes nothing.
-use mathlib.Core.Bool.{Bool, true, false}
-use mathlib.Core.List.{List, [], _∷_, List·Memᴰ, List·Memᴰ·head, List·Memᴰ·tail, map}
-use mathlib.Core.Option.{Option, none, some}
+use mathlib.Core.List.{List, _∷_, List·Memᴰ, List·Memᴰ·head, List·Memᴰ·tail, map}
+use mathlib.Core.Option.{none, some}
 use mathlib.Core.Path.{_≡_, refl, sym, ap, subst, _∙_}
-use Prim.Native.Nat.{ℕ, zero, suc, _+_, _*_, _/_, _%_, _≤_, _<_}
+use Prim.Native.Nat.{ℕ, _≤_, _<_}
 use native.Mathlib.Omega.{arith}
 use borrow.Author.Tests.{eq-eqb, ne-eqb}
-use lib.Dec.{eqb}
-use lib.ListN.{length, getD}
+use lib.ListN.{length, getD, length-map}
+use Rattle.laws.proofs.Lists.{getD-map}
 use Rattle.sizes.specs.Sizes as Size
 use Rattle.reading.specs.Choice.{pick}
-use Rattle.reading.proofs.Laws.{by-test}
 use Rattle.cost.specs.Cost.{most}
 use Rattle.plans.specs.System.{Way, Visit}
 use Rattle.plans.specs.Sweep.{at}
-use Rattle.plans.specs.Trace.{wayAt, Mark, Trace, markAt, traceSweeps, untraced, SettledBy}
-use Rattle.plans.specs.Sweep.{sweeps, lower}
+use Rattle.plans.specs.Trace.{wayAt, Mark, Trace, markAt, SettledBy}
+use Rattle.plans.specs.Sweep.{lower}
 use Rattle.plans.proofs.Laws.{traced-numbers, unmarked-stood, settled-row}
-use Rattle.cell_library.specs.Cells.{Row, Group, Cell}
+use Rattle.cell_library.specs.Cells.{Cell, noRow}
 use Rattle.netlist.specs.Netlist.{Gate, Statement, gatesOf}
 use Rattle.netlist.specs.Sound.{InRange, DrivenOnce}
 use Rattle.netlist.proofs.Laws.{driven-once}
 use Rattle.calculation.specs.Prices.{pricesOf}
-use Rattle.calculation.specs.Nodes.{Kind, kindNumber, Purpose, set, observe, lineOf, node}
-use Rattle.calculation.specs.Ways.{cellOf, needs, Role, setting, observing, purposeOf, wayOf, waysOf, visit}
+use Rattle.calculation.specs.Nodes.{Kind, Purpose, set, observe, lineOf, node}
+use Rattle.calculation.specs.Ways.{cellOf, Role, setting, observing, purposeOf, wayOf, waysOf, visit}
 use Rattle.calculation.specs.Acceptance.{BothSound}
 use Rattle.calculation.specs.Calculation.{start}
 use Rattle.calculation.proofs.Laws.{own-figures}
 use Rattle.calculation.proofs.Placing.{Placed, kind-small, node-injective, start-bounded}
-use Rattle.calculation.proofs.Visiting.{Sets, getD-listed, setting-from, sets-has}
+use Rattle.calculation.proofs.Visiting.{Sets, setting-from, sets-has}
 use Rattle.calculation.proofs.Accepting.{purpose-placed}
 use Rattle.trace.specs.Lowered.{settingTrace}
-use Rattle.cheapest.specs.Text.{noRow, wayRows, driverOf, lineAt, valueAt}
+use Rattle.cheapest.specs.Text.{wayRows, driverOf, lineAt, valueAt}
 use Rattle.trace.proofs.Standing.{visits, most-sweeps, trace-lower, rests, visits-inside}
-
--- ---- lists
-
-getD-map : {A B : Type 0} (f : A → B) (xs : List A) (p : ℕ) (a : A) (b : B) → p < length (map f xs) → getD (map f xs) p b ≡ f (getD xs p a)
-getD-map f [] p a b h = absurd (omega arith)
-getD-map f (x ∷ xs) zero a b h = refl
-getD-map f (x ∷ xs) (suc p) a b h = getD-map f xs p a b (omega arith)
-
-map-length : {A B : Type 0} (f : A → B) (xs : List A) → length (map f xs) ≡ length xs
-map-length f [] = refl
-map-length f (x ∷ xs) = ap suc (map-length f xs)
 
 -- ---- the gate that drives a line
 
@@ -111,12 +98,12 @@ module _ (cells : List Cell) (ss : List Statement) (sound : BothSound cells ss) 
         let group = wayRows k cells g v in
         let f = wayOf k g (cellOf cells g) (setting v) in
         let ways : u .ways ≡ map f group = rw (← value) (ap (λ (x : Visit). x .ways) s) in
-        let short : m .place < length (map f group) = rw (← ways) w in
+        let short : m .place < length group = rw (← length-map group f, ← ways) w in
         record {
           gate = g;
           listed = i;
           drives = ap lineOf same;
-          within = rw (map-length f group) at short;
+          within = short;
           taken = sym p ∙ ap (λ (ws : List Way). wayAt ws (m .place)) ways ∙ getD-map f group (m .place) noRow _ short;
         }
 

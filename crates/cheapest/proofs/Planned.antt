@@ -9,18 +9,18 @@ use mathlib.Core.Path.{_≡_, refl, sym, ap, ap₂, subst, _∙_}
 use Prim.Native.Nat.{ℕ, zero, suc, _+_, _≤_, _<_}
 use native.Mathlib.Nat.{le-trans}
 use native.Mathlib.Omega.{arith}
-use lib.ListN.{length, getD}
+use lib.ListN.{getD}
 use Rattle.reading.specs.Choice.{pick}
-use Rattle.cost.specs.Cost.{most, never, capped, _⊕_}
-use Rattle.cost.proofs.Laws.{sum-form}
+use Rattle.cost.specs.Cost.{most, never, capped}
+use Rattle.cost.proofs.Laws.{sum-small}
 use Rattle.plans.specs.System.{Way}
 use Rattle.plans.specs.Sweep.{at, sums, way}
-use Rattle.plans.specs.Trace.{Mark, Trace, markAt, SettledBy}
-use Rattle.cell_library.specs.Cells.{Row, Group, Cell, Column, pin, output}
+use Rattle.plans.specs.Trace.{Mark, markAt, SettledBy}
+use Rattle.cell_library.specs.Cells.{Row, Cell, noRow, Column, pin, output}
 use Rattle.cell_library.specs.Cells as C
 use Rattle.netlist.specs.Netlist.{Gate, Statement, gatesOf, isInput}
 use Rattle.calculation.specs.Prices.{inputCost, pricesOf}
-use Rattle.calculation.specs.Nodes.{Kind, kindNumber, Purpose, set, node}
+use Rattle.calculation.specs.Nodes.{Kind, set, node}
 use Rattle.calculation.specs.Ways.{cellOf, pinLine, asked, needs, setting, groupOf, asks, isWay, wayOf}
 use Rattle.calculation.specs.Acceptance.{BothSound}
 use Rattle.calculation.specs.Calculation.{start}
@@ -35,13 +35,9 @@ use Rattle.cheapest.specs.Text.{
   inputText,
   planText,
   plansText,
-  noRow,
   wayRows,
-  LoweredBy,
   LastLowered,
   AllLastLowered,
-  lineAt,
-  valueAt,
   driverOf,
   joined,
   visitOf,
@@ -50,11 +46,6 @@ use Rattle.cheapest.specs.Text.{
   treeText,
 }
 use Rattle.cheapest.proofs.Choosing.{node-line, node-value, trace, settled-by, unmarked, Chosen, chosen, driver-chosen}
-
--- ---- a sum that is a figure is exact
-
-sum-small : (a b : ℕ) → a ⊕ b ≤ most → a ⊕ b ≡ a + b
-sum-small a b h = rw (sum-form a b) (omega (arith, rw (sum-form a b) at h))
 
 module _ (xs : List ℕ) where
   need-first : (n : ℕ) (ns : List ℕ) → sums xs (n ∷ ns) ≤ most → (sums xs (n ∷ ns) ≡ at xs n + sums xs ns) × (at xs n ≤ most) × (sums xs ns ≤ most)

@@ -1,16 +1,16 @@
 -- What the two writers put.
 -- Assumes nothing.
-use mathlib.Core.List.{List, [], _∷_, _++_, append-nil}
+use mathlib.Core.List.{List, [], _∷_, _++_}
 use mathlib.Core.Path.{_≡_, refl, sym, ap, _∙_}
-use Prim.Native.Nat.{ℕ, zero, suc, _+_, _*_, _-_, _/_, _%_, _^_, _≤_, _<_}
+use Prim.Native.Nat.{ℕ, zero, suc, _+_, _-_, _/_, _%_, _^_, _≤_, _<_}
 use native.Mathlib.Numerals.{add-one}
 use native.Mathlib.Omega.{arith}
 use borrow.Author.Tests.{lt-ltb, le-ltb, ltb-true}
 use lib.Bits.{bitAnd}
 use lib.Count.{trailingZeros}
 use lib.Dec.{ltb}
-use lib.ListN.{length, getD}
-use lib.Seq.{sets, set-out}
+use lib.ListN.{length}
+use Rattle.laws.proofs.Lists.{sets-past}
 use Rattle.sizes.specs.Sizes as Size
 use Rattle.reading.specs.Choice.{pick}
 use Rattle.reading.proofs.Laws.{by-test}
@@ -21,10 +21,6 @@ use Rattle.cheapest.specs.Text.{nodeLine, joined}
 use Rattle.cheapest.specs.Writing.{visitAt, rowAt, lastAt, columnsAt, goalAt, goals, goalRow, goalLine, levels, lineBytes, rowBytes}
 
 -- ---- a cursor past the buffer's end
-
-sets-past : (vs l : List ℕ) (i : ℕ) → length l ≤ i → sets l i vs ≡ l
-sets-past [] l i h = refl
-sets-past (a ∷ vs) l i h = rw (set-out l i a h) (sets-past vs l (suc i) (omega arith))
 
 pub put-past : (at : ℕ) (vs l : List ℕ) → length l < at → Put at vs l l at
 put-past at vs l h = record { stored = sym (sets-past vs l at (omega arith)); moved = omega arith }

@@ -10,11 +10,11 @@ use native.Mathlib.Omega.{arith}
 use borrow.Author.Tests.{ne-eqb}
 use lib.ListN.{length, getD}
 use Rattle.sizes.specs.Sizes as Size
-use Rattle.sizes.specs.Places.{headingPlace, groupPlace, gatePlace, settingPlace, markPlace}
+use Rattle.sizes.specs.Places.{headingPlace, groupPlace, gatePlace}
 use Rattle.reading.specs.Choice.{pick}
 use Rattle.table.proofs.Places.{getD-fitted}
 use Rattle.plans.specs.Trace.{Mark, markAt}
-use Rattle.cell_library.specs.Cells.{Heading, plain, deep, deepest, depthBits, Row, rowValue, Group, Cell, Column, pin, output, settingColumns, named}
+use Rattle.cell_library.specs.Cells.{Heading, plain, deep, deepest, depthBits, Row, rowValue, Group, Cell, noRow, Column, pin, output}
 use Rattle.cell_library.specs.Cells as C
 use Rattle.cell_library.specs.Library.{columnCount}
 use Rattle.cell_library.specs.Layout.{libraryWords, headingNumber}
@@ -39,13 +39,13 @@ use Rattle.plans.proofs.Laws.{at-getD}
 use Rattle.cost.specs.Cost.{most}
 use Rattle.trace.proofs.Standing.{reported}
 use Rattle.calculation.proofs.Visiting.{getD-listed, MayName, asks-named}
-use Rattle.gates.specs.Tables.{readRow, hasWay, gatePins, byRole, visitGroup, gateTied}
+use Rattle.gates.specs.Tables.{readRow, hasWay, gatePins, visitGroup, gateTied}
 use Rattle.wires.specs.Wires.{onceColumns, sharesLine}
 use Rattle.gates.proofs.Wiring.{way-told, asking-few, asking-named}
 use Rattle.gates.proofs.Naming.{set-node, setting-named}
 use Rattle.gates.proofs.Bridge as B
 use Rattle.trace.specs.Marks.{rowPlace, stepRow, wayRow, gateRow, asWritten, askingColumns, Noted, Unnoted, NotedAs, AllNoted}
-use Rattle.cheapest.specs.Text.{nodeLine, rowText, inputText, noRow, wayRows, driverOf, joined, visitOf, cheapestText}
+use Rattle.cheapest.specs.Text.{nodeLine, rowText, inputText, wayRows, driverOf, joined, visitOf, cheapestText}
 use Rattle.cheapest.specs.Writing.{visitAt, rowAt, columnsAt, lastAt, goalAt, goals, goalRow, goalLine, lineBytes, rowBytes}
 use Rattle.cheapest.proofs.Choosing.{driver-is, trace, Chosen, driver-chosen}
 use Rattle.writer.specs.Put.{Put}
@@ -56,11 +56,6 @@ use Rattle.cheapest.specs.Asked.{PlanPut}
 use Rattle.cheapest.proofs.Timing.{early}
 use Rattle.cheapest.proofs.Planned as P
 use Rattle.cheapest.proofs.Putting.{line-some, row-none}
-
-any-default : {A : Type 0} (xs : List A) (i : ℕ) (a b : A) → i < length xs → getD xs i a ≡ getD xs i b
-any-default [] i a b h = absurd (omega arith)
-any-default (x ∷ xs) zero a b h = refl
-any-default (x ∷ xs) (suc i) a b h = any-default xs i a b (omega arith)
 
 -- A row that sets a value has two columns for each pin.
 setting-width : (k : Kind) (v n : ℕ) → columnCount (wordOf k (setting v)) n ≡ 2 * n
@@ -205,11 +200,11 @@ module _ (cells : List Cell) (ss : List Statement) (sound : BothSound cells ss) 
           rw (B.group-number cells ss sound behind past i inside k (setting v) (placed .1))
           (way-row gate (cellOf cells gate) (setting v) read library noRow rows
           (groupPlace (gateCell netlist i) (visitGroup 0 (kindNumber k) v) + 1) (m .place)
-          (λ x b. B.columns-number cells ss sound behind past i inside k (setting v) (placed .1) x b ∙ ap (λ (y : Row). y .columns) (any-default rows x B.noRow noRow b))
+          (λ x b. B.columns-number cells ss sound behind past i inside k (setting v) (placed .1) x b)
           ways-told within)
 
-      same-row : getD rows found B.noRow ≡ r
-      same-row = any-default rows found B.noRow noRow (found-is .0) ∙ found-is .1
+      same-row : getD rows found noRow ≡ r
+      same-row = found-is .1
 
       listed : List·Memᴰ r rows
       listed = subst (λ (x : Row). List·Memᴰ x rows) (found-is .1) (getD-listed rows found noRow (found-is .0))

@@ -3,7 +3,7 @@
 use mathlib.Core.List.{List, [], _∷_, _++_}
 use mathlib.Core.Option.{Option, none, some}
 use mathlib.Core.Path.{_≡_}
-use Prim.Native.Nat.{ℕ, zero, suc, _+_, _*_, _/_, _%_, _<_}
+use Prim.Native.Nat.{ℕ, zero, suc, _+_, _/_, _%_, _<_}
 use lib.Dec.{eqb}
 use lib.ListN.{length, getD}
 use Rattle.sizes.specs.Sizes as Size
@@ -11,8 +11,8 @@ use Rattle.reading.specs.Choice.{pick}
 use Rattle.text.specs.Bytes.{bytes}
 use Rattle.writer.specs.Decimal.{decimalBytes, decimal-open}
 use Rattle.writer.specs.Octal.{octalBytes, octal-open}
-use Rattle.plans.specs.Trace.{Mark, Trace, markAt}
-use Rattle.cell_library.specs.Cells.{Row, rowValue, Group, Cell}
+use Rattle.plans.specs.Trace.{Mark, markAt}
+use Rattle.cell_library.specs.Cells.{Row, rowValue, Group, Cell, noRow}
 use Rattle.netlist.specs.Netlist.{Gate, Statement, gatesOf}
 use Rattle.netlist.specs.Gates.{noGate}
 use Rattle.calculation.specs.Nodes.{Kind, Purpose, set, node}
@@ -48,10 +48,6 @@ module _ {cells : List Cell} {ss : List Statement} {k : Kind} where
     plansText depth (also p ps) = planText depth p ++ plansText depth ps
 
 -- ---- its rows
-
--- A row that is in no group.
-unfoldable pub noRow : Row
-noRow = record { depth = 0; columns = 0 }
 
 -- The rows by which a gate's output is set to a value: those of its group that are ways there (document 02, K7).
 unfoldable pub wayRows : Kind → List Cell → Gate → ℕ → Group

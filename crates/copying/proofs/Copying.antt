@@ -1,23 +1,24 @@
 -- The new rules accept the copy, and give it the numbers that the old rules gave.
 -- Assumes nothing.
-use mathlib.Core.Bool.{Bool, true, false, not, _&&_, _||_, or-false, or-true, and-false}
+use mathlib.Core.Bool.{Bool, true, false, not, _&&_, _||_, or-false, or-true}
 use mathlib.Core.List.{List, [], _∷_, _++_, append-nil, append-assoc, flatMap}
 use mathlib.Core.Option.{Option, none, some}
-use mathlib.Core.Path.{_≡_, refl, sym, ap, fun-ext, _∙_}
-use Prim.Native.Nat.{ℕ, zero, suc, _+_, _*_, _-_, _^_, _≤_, _<_}
+use mathlib.Core.Path.{_≡_, refl, sym, ap, _∙_}
+use Prim.Native.Nat.{ℕ, zero, suc, _+_, _-_, _≤_, _<_}
 use native.Mathlib.Omega.{arith}
 use lib.Dec.{eqb, leb, ltb}
 use lib.ListN.{length}
 use borrow.Author.Tests.{eq-eqb, ne-eqb, eqb-true, eqb-false, le-leb, leb-true, not-true}
+use Rattle.laws.proofs.Lists.{flatMap-append}
 use Rattle.sizes.specs.Sizes as Size
 use Rattle.reading.specs.Choice.{pick}
 use Rattle.reading.specs.Each.{Each}
 use Rattle.reading.specs.Numbers as No
-use Rattle.reading.specs.Refusal.{Read, refused, read, _>>=_, _>>_, weigh, form}
-use Rattle.reading.proofs.Laws.{by-test, clash, and-left, and-right, or-left, or-right, bind-read, refused-read, each-append}
+use Rattle.reading.specs.Refusal.{refused, read, _>>=_, _>>_, weigh, form}
+use Rattle.reading.proofs.Laws.{by-test, and-left, and-right, or-left, or-right, bind-read, refused-read, each-append}
 use Rattle.text.specs.Bytes.{bytes}
-use Rattle.text.specs.Lines.{split, fields, lines, sameBytes, lines-open}
-use Rattle.text.specs.Numeral.{digitBelow, allDigits, value, noLeadingZero, wellFormed, numeral, decimal, nameForm}
+use Rattle.text.specs.Lines.{fields, lines, sameBytes, lines-open}
+use Rattle.text.specs.Numeral.{digitBelow, allDigits, wellFormed, decimal, nameForm}
 use Rattle.text.proofs.Laws.{numeral-good, numeral-bad, wellFormed-digits}
 use Rattle.writer.specs.Decimal.{decimalBytes}
 use Rattle.writer.proofs.Decimal.{decimal-below, decimal-read}
@@ -25,14 +26,14 @@ use Rattle.cell_library.specs.Cells.{Cell}
 use Rattle.cell_library.specs.Library.{Fields}
 use Rattle.netlist.specs.declared.Rules.{Rules}
 use Rattle.netlist.specs.declared.Rules.the-variants.{Old, New}
-use Rattle.netlist.specs.Netlist.{Gate, Mark, input, output, opened, Statement, mark, gate, lone, decimals, markOf, drivenBy, gateOf, statementOf, rangesIn, rangesOf, someRange, lowPrice}
+use Rattle.netlist.specs.Netlist.{Mark, input, output, opened, Statement, mark, gate, lone, decimals, markOf, drivenBy, gateOf, statementOf, rangesIn, rangesOf, lowPrice}
 use Rattle.netlist.specs.Netlist.{member, linesOf, linesMarked, linesClaimed, linesNeeded, gatesIn, mentionedLines, markedLines}
-use Rattle.netlist.specs.Netlist.{claimedLines, neededLines, gatesOf, mentioned, isMarked, isInput, isOutput, claimed, lineBad}
-use Rattle.netlist.specs.Netlist.{causes, admitted, lineForm, lineForms, textStatements, undeclared, linesWhere, undeclaredLines}
+use Rattle.netlist.specs.Netlist.{claimedLines, neededLines, gatesOf, mentioned, isMarked, claimed}
+use Rattle.netlist.specs.Netlist.{admitted, lineForm, lineForms, textStatements, undeclared, linesWhere, undeclaredLines}
 use Rattle.netlist.specs.Netlist.{someLine, declared, netlist}
 use Rattle.netlist.specs.Admitting.{refusalOf, extended}
-use Rattle.netlist.specs.Lowest.{lowest}
 use Rattle.netlist.specs.Sound.{Apart}
+use Rattle.netlist.proofs.Counting.{each-in}
 use Rattle.netlist.proofs.Unranged.{Unranged, none-unranged, pick-unranged, admitted-unranged, no-range}
 use Rattle.netlist.proofs.Causes.{lineBad-good, member-append, member-more, mark-cause, taken}
 use Rattle.netlist.proofs.Opening.{declared-read, needed-mentioned}
@@ -40,7 +41,7 @@ use Rattle.netlist.proofs.Admitting.{admitted-more, admitted-refused}
 use Rattle.calculation.specs.Prices.{inputCost, pricesOf}
 use Rattle.calculation.specs.Calculation.{startLine, startLines, startAt, analysedAt, analysed}
 use Rattle.copying.specs.Copy.{openLine, openLines, copyOf, opens, declaredToo}
-use Rattle.copying.specs.Kept.{Kept, CopyKeeps}
+use Rattle.copying.specs.Kept.{CopyKeeps}
 use Rattle.copying.proofs.Splitting.{Good, lines-append, Unmarked, split-marked, split-whole, line-first}
 
 -- ---- the netlist itself, by the new rules
@@ -296,14 +297,6 @@ module _ (p : ℕ → Bool) where
       (λ q. rw q (rw rest (or-true (eqb first l))))
       (λ q. rw q rest))
 
-  member-holds : (l : ℕ) (ls : List ℕ) → Each (λ (k : ℕ). p k ≡ true) ls → member l ls ≡ true → p l ≡ true
-  unfolding member Each
-  member-holds l [] h e = clash false e refl
-  member-holds l (k ∷ ls) h e =
-      by-test (eqb k l)
-      (λ t. rw (← eqb-true k l t) (h .0))
-      (λ t. member-holds l ls (h .1) (rw t at e))
-
 where-none : (p : ℕ → Bool) (n first : ℕ) → ((l : ℕ) → first ≤ l → l < first + n → p l ≡ false)
     → someLine (linesWhere p n first) ≡ false
 unfolding linesWhere someLine pick
@@ -312,11 +305,6 @@ where-none p (suc n) first h =
     rw (h first (omega arith) (omega arith)) (where-none p n (suc first) (λ l low high. h l (omega arith) (omega arith)))
 
 -- ---- what the added statements say
-
-flatMap-append : {A B : Type 0} (f : A → List B) (xs ys : List A) → flatMap f (xs ++ ys) ≡ flatMap f xs ++ flatMap f ys
-unfolding flatMap
-flatMap-append f [] ys = refl
-flatMap-append f (x ∷ xs) ys = rw (flatMap-append f xs ys) (sym (append-assoc (f x) (flatMap f xs) (flatMap f ys)))
 
 opens-silent : {B : Type 0} (f : Statement → List B) → ((l : ℕ) → f (mark opened l) ≡ []) → (ss : List Statement) (ls : List ℕ)
     → flatMap f (ss ++ opens ls) ≡ flatMap f ss
@@ -342,7 +330,7 @@ module _ (ss : List Statement) where
 
   listed : (l : ℕ) → member l ls ≡ true → undeclared ss l ≡ true
   unfolding undeclaredLines
-  listed l e = member-holds (undeclared ss) l ls (where-each (undeclared ss) (λ (k : ℕ). undeclared ss k ≡ true) Size.lines 1 (λ k low high t. t)) e
+  listed l e = each-in (λ (k : ℕ). undeclared ss k ≡ true) ls l e (where-each (undeclared ss) (λ (k : ℕ). undeclared ss k ≡ true) Size.lines 1 (λ k low high t. t))
 
   free : Each (Free ss) ls
   unfolding undeclaredLines undeclared

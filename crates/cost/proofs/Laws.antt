@@ -2,17 +2,16 @@
 -- Assumes nothing.
 use mathlib.Core.Bool.{or-true, _||_}
 use mathlib.Core.Logic.{_⊎_, inl, inr}
-use mathlib.Core.Path.{_≡_, refl, sym, _∙_}
+use mathlib.Core.Path.{_≡_, sym, _∙_}
 use Prim.Native.Nat.{ℕ, _+_, _≤_, _<_, min, max}
 use native.Mathlib.Decide.{decLe}
-use native.Mathlib.Nat.{max-comm, add-comm}
 use native.Mathlib.Omega.{arith}
-use lib.Dec.{leb, ltb, eqb}
+use lib.Dec.{leb}
 use borrow.Author.Tests.{le-leb, lt-leb, lt-ltb, le-ltb, eq-eqb, ne-eqb}
 use Rattle.reading.specs.Choice.{pick}
 use Rattle.cost.specs.Order.{standing}
 use Rattle.cost.specs.declared.Standing.the-variants as Standing
-use Rattle.cost.specs.Cost.{most, over, never, counted, isNever, isOver, _⊕_, lesser, capped}
+use Rattle.cost.specs.Cost.{most, over, never, counted, isNever, isOver, _⊕_, capped}
 
 -- ---- document 01's three cases of the sum
 
@@ -62,8 +61,9 @@ sum-bound a b = rw (sum-form a b) (omega arith)
 pub sum-below : (a b : ℕ) → a < never → b < never → a ⊕ b ≡ min (a + b) over
 sum-below a b h k = rw (sum-form a b) (omega arith)
 
-pub sum-comm : (a b : ℕ) → a ⊕ b ≡ b ⊕ a
-sum-comm a b = rw (sum-form a b, sum-form b a, max-comm (min a never) (min b never), add-comm a b)
+-- A sum that is a figure is exact.
+pub sum-small : (a b : ℕ) → a ⊕ b ≤ most → a ⊕ b ≡ a + b
+sum-small a b h = rw (sum-form a b) (omega (arith, rw (sum-form a b) at h))
 
 -- A sum is at least each term.
 pub sum-left : (a b : ℕ) → min a never ≤ a ⊕ b
@@ -71,10 +71,6 @@ sum-left a b = rw (sum-form a b) (omega arith)
 
 pub sum-right : (a b : ℕ) → min b never ≤ a ⊕ b
 sum-right a b = rw (sum-form a b) (omega arith)
-
--- neutral 0
-pub sum-zero : (a : ℕ) → a ≤ never → a ⊕ 0 ≡ a
-sum-zero a h = rw (sum-form a 0) (omega arith)
 
 -- monotony
 mono-cases : (a b c d : ℕ) → a ≤ c → b ≤ d → Dec (never ≤ c) → Dec (never ≤ d) → a ⊕ b ≤ c ⊕ d
@@ -85,24 +81,6 @@ mono-cases a b c d h k (no p) (no q) =
 
 pub sum-mono : (a b c d : ℕ) → a ≤ c → b ≤ d → a ⊕ b ≤ c ⊕ d
 sum-mono a b c d h k = mono-cases a b c d h k (decLe never c) (decLe never d)
-
--- associativity
-assoc-cases : (a b c : ℕ) → Dec (never ≤ a) → Dec (never ≤ b) → Dec (never ≤ c) → (a ⊕ b) ⊕ c ≡ a ⊕ (b ⊕ c)
-assoc-cases a b c (yes p) q r =
-    rw (sum-never a b (inl p), sum-never a (b ⊕ c) (inl p)) (sum-never never c (inl (omega arith)))
-assoc-cases a b c (no p) (yes q) r =
-    rw (sum-never a b (inr q), sum-never b c (inl q), sum-never a never (inr (omega arith)))
-    (sum-never never c (inl (omega arith)))
-assoc-cases a b c (no p) (no q) (yes r) =
-    rw (sum-never (a ⊕ b) c (inr r), sum-never b c (inr r), sum-never a never (inr (omega arith)))
-assoc-cases a b c (no p) (no q) (no r) =
-    rw (sum-below a b (omega arith) (omega arith), sum-below b c (omega arith) (omega arith))
-    (sum-below (min (a + b) over) c (omega arith) (omega arith)
-    ∙ omega arith
-    ∙ sym (sum-below a (min (b + c) over) (omega arith) (omega arith)))
-
-pub sum-assoc : (a b c : ℕ) → (a ⊕ b) ⊕ c ≡ a ⊕ (b ⊕ c)
-sum-assoc a b c = assoc-cases a b c (decLe never a) (decLe never b) (decLe never c)
 
 -- Capping an exact sum gives the capped sum of the capped terms.
 pub capped-sum : (a b : ℕ) → capped (a + b) ≡ capped a ⊕ capped b

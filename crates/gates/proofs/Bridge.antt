@@ -15,7 +15,7 @@ use Rattle.plans.specs.System.{Way}
 use Rattle.reading.specs.Choice.{pick}
 use Rattle.table.proofs.Places.{getD-fitted}
 use Rattle.reading.proofs.Laws.{each-at}
-use Rattle.cell_library.specs.Cells.{Row, Group, Cell}
+use Rattle.cell_library.specs.Cells.{Row, Group, Cell, noRow}
 use Rattle.cell_library.specs.Library.{columnCount, wordGroups}
 use Rattle.cell_library.specs.Layout.{libraryWords, cellGroups, firstGroup}
 use Rattle.cell_library.specs.Sound.{SoundRow}
@@ -38,9 +38,6 @@ use Rattle.wires.proofs.Cells.{one-wire-row, cell-one-wire}
 use Rattle.gates.specs.Fits.{GroupFits, GateFits, TablesFit}
 use Rattle.gates.proofs.Naming.{set-node, observe-node}
 use Rattle.gates.proofs.Wiring.{roleWired, row-read}
-
-pub noRow : Row
-noRow = record { depth = 0; columns = 0 }
 
 -- ---- rows
 

@@ -20,6 +20,7 @@ use Rattle.netlist.specs.Layout.{gateLineWords}
 use Rattle.calculation.specs.Nodes.{Kind, combinational, sequential, kindNumber, node}
 use Rattle.calculation.specs.Nodes as N
 use Rattle.calculation.specs.Ways.{pinLine, asked, needs, Role, setting, observing, wordOf, columnsOf, namedBy}
+use Rattle.wires.proofs.Reading.{pins-length}
 use Rattle.row_sums.specs.Columns.{withNamed, columnPlaces}
 use Rattle.row_sums.proofs.Columns.{fewer-places}
 use Rattle.gates.specs.Tables.{columnPlace, rowPlaces}
@@ -61,11 +62,6 @@ module _ (n : ℕ) (place : ℕ → ℕ) (value : Column → ℕ) (pins : (i v :
       let e : 2 * (n - m) ≡ suc (suc (2 * (n - suc m))) = omega arith in
       let rest : InOrder (suc (suc (2 * (n - suc m)))) (pinColumns m) = rw e at (pins-in-order m (omega arith)) in
       (omega arith, at-bit _ _ _ (omega arith) (pins m 1 (omega arith) (omega arith)), (omega arith, at-bit _ _ _ (omega arith) (pins m 0 (omega arith) (omega arith)), rest))
-
-  pins-length : (m : ℕ) → length (pinColumns m) ≡ 2 * m
-  unfolding pinColumns
-  pins-length zero = refl
-  pins-length (suc m) = omega (arith, pins-length m)
 
   setting-order : InOrder 0 (settingColumns n)
   unfolding settingColumns

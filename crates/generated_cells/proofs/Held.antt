@@ -15,12 +15,9 @@ use Rattle.sizes.specs.Places.{groupPlace}
 use Rattle.sizes.specs.Sizes as Size
 use Rattle.reading.specs.Each.{Each}
 use Rattle.reading.proofs.Laws.{and-left, and-right}
-use Rattle.cell_library.specs.Cells.{Row, Group}
+use Rattle.cell_library.specs.Cells.{Row, Group, noRow}
 use Rattle.truth_tables.specs.Entries.{rowNumber}
 use Rattle.generated_cells.specs.Words.{rowIs, rowsAre, groupsAre}
-
-unfoldable pub noRow : Row
-noRow = record { depth = 0; columns = 0 }
 
 -- A group that starts at a number of the table.
 pub record Stands (table : List ℕ) (at : ℕ) (g : Group) : Type 0 where

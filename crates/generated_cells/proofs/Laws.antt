@@ -13,7 +13,7 @@ use Rattle.sizes.specs.Places.{groupPlace}
 use Rattle.sizes.specs.Sizes as Size
 use Rattle.reading.specs.Each.{Each}
 use Rattle.reading.proofs.Laws.{and-left, and-right, each-at}
-use Rattle.cell_library.specs.Cells.{Row, Group, Cell}
+use Rattle.cell_library.specs.Cells.{Row, Group, Cell, noRow}
 use Rattle.cell_library.specs.Layout.{cellGroups, firstGroup, libraryWords}
 use Rattle.cell_library.specs.Library.{Word, CC, CO, SC, SO, groupCount, wordGroups}
 use Rattle.cell_library.specs.Sound.{SoundGroup, SoundCell, Sound}
@@ -26,7 +26,7 @@ use Rattle.truth_tables.specs.Generated.{Generated}
 use Rattle.truth_tables.specs.Tables.{Term, primes, gives, observing}
 use Rattle.generated_cells.specs.Tabled.{HasTable}
 use Rattle.generated_cells.specs.Words.{groupsAre, groupsOf, pinsAt, tableAt, generatedAt}
-use Rattle.generated_cells.proofs.Held.{noRow, Stands, Shallow, Stand, is-groups}
+use Rattle.generated_cells.proofs.Held.{Stands, Shallow, Stand, is-groups}
 use Rattle.generated_cells.proofs.Steps.{truth-length}
 use Rattle.generated_cells.proofs.Telling.{told}
 

@@ -1,6 +1,6 @@
 -- One step of each walk of the code.
 -- Assumes nothing.
-use mathlib.Core.Bool.{Bool, true, false, _&&_, _||_}
+use mathlib.Core.Bool.{Bool, true, false, _&&_, _||_, and-true}
 use mathlib.Core.List.{List, [], _∷_, _++_, map}
 use mathlib.Core.Path.{_≡_, refl, sym, ap, _∙_}
 use Prim.Native.Nat.{ℕ, zero, suc, _+_, _*_, _-_, _/_, _%_, _^_, _≤_, _<_}
@@ -65,11 +65,7 @@ unfolding groupsAre
 groups-two table cell first g h =
     let a = rowsAre table (groupPlace cell first) 0 (map rowNumber g) in
     let b = rowsAre table (groupPlace cell (suc first)) 0 (map rowNumber h) in
-    rw (add-one first) (ap (λ (x : Bool). a && x) (last b))
-  where
-    last : (b : Bool) → (b && true) ≡ b
-    last true = refl
-    last false = refl
+    rw (add-one first) (ap (λ (x : Bool). a && x) (and-true b))
 
 pub groups-next : (table : List ℕ) (cell first d n k : ℕ) (bits : List Bool) → k < n
     → groupsAre table cell (first + k) (groupsFrom d n bits k (n - k))

@@ -12,16 +12,17 @@ use lib.Seq.{drop-cons}
 use Rattle.sizes.specs.Sizes as Size
 use Rattle.reading.specs.Choice.{pick}
 use Rattle.reading.specs.Each.{Each}
-use Rattle.cell_library.specs.Cells.{Group}
+use Rattle.cell_library.specs.Cells.{Group, noRow}
 use Rattle.cell_library.specs.Library.{anyOf}
 use Rattle.truth_tables.specs.Entries.{literalColumns, termColumns, settingRow, settingGroup}
 use Rattle.truth_tables.specs.Tables.{Setting, Term, digit, settings, place, output, same, fits, meets, primes, gives}
 use Rattle.truth_tables.proofs.Covering.{covered}
 use Rattle.truth_tables.proofs.Lists.{map-map, map-each}
+use Rattle.truth_tables.proofs.Order.{place-below, term-below}
 use Rattle.prime_rows.specs.Masks.{upFrom}
-use Rattle.prime_rows.proofs.Conditions.{places, settings-length, place-below, term-below, primes-length}
+use Rattle.prime_rows.proofs.Conditions.{places, settings-length, primes-length}
 use Rattle.generated_cells.specs.Words.{admits, metBy, rowsAt, metFrom, metAt, truthBits}
-use Rattle.generated_cells.proofs.Held.{noRow, Stands}
+use Rattle.generated_cells.proofs.Held.{Stands}
 
 -- ---- a setting and a row
 

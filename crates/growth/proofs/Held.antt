@@ -16,20 +16,17 @@ use Rattle.text.specs.Lines.{sameBytes}
 use Rattle.text.proofs.Laws.{sameBytes-other, nameForm-length}
 use Rattle.table.specs.Blocks.{fitted, blocks}
 use Rattle.table.proofs.Places.{length-fitted}
-use Rattle.cell_library.specs.Cells.{Heading, plain, deep, Row, Group, Cell}
-use Rattle.cell_library.specs.Library.{CC, CO, SC, SO, groupCount}
+use Rattle.cell_library.specs.Cells.{Heading, plain, deep, Row, Group, Cell, noRow}
+use Rattle.cell_library.specs.Library.{groupCount}
 use Rattle.cell_library.specs.Layout.{libraryWords, groupWords, cellGroups, headingNumber, cellWords}
 use Rattle.cell_library.specs.Sound.{SoundCell, Sound}
 use Rattle.cell_library.proofs.Places.{length-cellGroups, length-libraryWords, library-count, cell-word, cell-pins, group-count, row-depth, row-columns}
 use Rattle.calculation.specs.Ways.{noCell, oneWire}
-use Rattle.calculation.specs.Growth.{sameRow, keeps, pairwise, sameHeading, sameEntry, grownCell, grown}
+use Rattle.calculation.specs.Growth.{keeps, pairwise, sameHeading, sameEntry, grownCell, grown}
 use Rattle.wires.specs.Wires.{cellBoth}
 use Rattle.wires.proofs.Cells.{most-rows, cell-one-wire}
 use Rattle.growth.specs.Held.{listed, entryAt, rowAt, groupAt, groupsAt, HoldsCells}
 use Rattle.growth.proofs.Pairs.{listed-is, left, left-all, pairwise-length, pairwise-join, pairwise-fitted}
-
-noRow : Row
-noRow = record { depth = 0; columns = 0 }
 
 -- ---- a cell of a table
 

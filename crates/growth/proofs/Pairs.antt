@@ -1,8 +1,8 @@
 -- Lists that stand in two tables, compared place by place; and rows looked for one behind the other.
 -- Assumes nothing.
-use mathlib.Core.Bool.{Bool, true, false, _&&_, and-assoc}
+use mathlib.Core.Bool.{Bool, true, false, _&&_, and-assoc, and-false}
 use mathlib.Core.List.{List, [], _∷_, _++_}
-use mathlib.Core.Path.{_≡_, refl, sym, ap, ap₂, _∙_}
+use mathlib.Core.Path.{_≡_, refl, sym, ap, _∙_}
 use Prim.Native.Nat.{ℕ, zero, suc, _+_, _-_, _≤_, _<_}
 use native.Mathlib.Nat.{add-zero, add-suc, suc-add}
 use native.Mathlib.Numerals.{add-one}
@@ -53,11 +53,7 @@ module _ {A : Type 0} (p : A → A → Bool) where
   pairwise-length [] [] h = absurd (h refl)
   pairwise-length [] (y ∷ ys) h = refl
   pairwise-length (x ∷ xs) [] h = refl
-  pairwise-length (x ∷ xs) (y ∷ ys) h = rw (pairwise-length xs ys (λ e. h (ap suc e))) (none (p x y))
-    where
-      none : (b : Bool) → (b && false) ≡ false
-      none true = refl
-      none false = refl
+  pairwise-length (x ∷ xs) (y ∷ ys) h = rw (pairwise-length xs ys (λ e. h (ap suc e))) (and-false (p x y))
 
   pub pairwise-join : (xs ys us vs : List A) → length xs ≡ length ys → pairwise p (xs ++ us) (ys ++ vs) ≡ (pairwise p xs ys && pairwise p us vs)
   unfolding pairwise

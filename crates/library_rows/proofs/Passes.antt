@@ -5,11 +5,12 @@ use mathlib.Core.List.{List, [], _∷_, _++_, append-assoc}
 use mathlib.Core.Option.{Option, none, some}
 use mathlib.Core.Path.{_≡_, refl, sym, ap, _∙_}
 use Prim.Native.Nat.{ℕ, zero, suc, _+_, _*_, _/_, _%_, _^_, _≤_, _<_, max, min}
-use native.Mathlib.Nat.{pow-zero, pow-suc, pow-le-pow-right, div-lt-iff-lt-mul}
+use native.Mathlib.Nat.{pow-suc, pow-le-pow-right, div-lt-iff-lt-mul}
 use native.Mathlib.Numerals.{add-one}
 use native.Mathlib.Omega.{arith}
 use lib.Dec.{leb, ltb, eqb}
 use lib.ListN.{length, getD, drop, length-append}
+use lib.Pow.{pow-pos}
 use borrow.Author.Tests.{ne-eqb, lt-ltb, le-ltb, le-leb, lt-leb, ltb-true, ltb-false, leb-true, leb-false, eqb-true}
 use Rattle.sizes.specs.Sizes as Size
 use Rattle.reading.specs.Numbers as No
@@ -21,7 +22,8 @@ use Rattle.text.specs.declared.Numeral.the-variants.{Value, Bad}
 use Rattle.reading.proofs.Laws.{by-test, clash, and-left, and-right, or-left, or-right}
 use Rattle.text.proofs.Laws.{numeral-good, numeral-bad, fieldsFrom-step, fieldsFrom-end}
 use Rattle.cell_library.specs.Cells.{Heading, plain, deep, Row, rowOf, Group, bit}
-use Rattle.cell_library.specs.Library.{Fields, holds, rowDigits, isRow, isJoin, isZ, Before, word, row, join, mayJoin, mayEnd, rowsForm, joinFirst, withRow, groupsOf, anyOf, aboveRows, above, namesNone, observesNot, Word, CC, CO, SC, SO, wordBytes, groupCount, columnCount, idle, noRow, excepted, rowIdle, rowsAfter}
+use Rattle.cell_library.proofs.Any.{any-append}
+use Rattle.cell_library.specs.Library.{Fields, holds, rowDigits, isRow, isJoin, isZ, Before, word, row, join, mayJoin, mayEnd, rowsForm, joinFirst, withRow, groupsOf, anyOf, aboveRows, above, namesNone, observesNot, Word, CC, CO, SC, SO, wordBytes, groupCount, columnCount, idle, emptyGroup, excepted, rowIdle, rowsAfter}
 use Rattle.library_rows.specs.Passes.{orZero, fieldValue, fieldRow, numberHeading, headed, leastColumns, askedOf, noColumns, nonePassed, marked, opened, groupFor, rowAdded, rowlessAdded, fieldPassed, passed, fieldStored, stored, numberOf, Small, RowsRead, wordAt, setting, rowNumber}
 use Rattle.library_rows.specs.declared.Asked.{Asked}
 use Rattle.library_rows.specs.declared.Passed.{Passed}
@@ -220,11 +222,6 @@ module _ (h : Heading) where
 
 -- ---- tests of groups
 
-pub any-append : {A : Type 0} (p : A → Bool) (xs ys : List A) → anyOf p (xs ++ ys) ≡ (anyOf p xs || anyOf p ys)
-unfolding anyOf
-any-append p [] ys = refl
-any-append p (x ∷ xs) ys = ap (λ (t : Bool). p x || t) (any-append p xs ys) ∙ sym (or-assoc (p x) (anyOf p xs) (anyOf p ys))
-
 -- A number made of the elements from the left.
 over : {A : Type 0} → (ℕ → A → ℕ) → ℕ → List A → ℕ
 over f n [] = n
@@ -343,16 +340,16 @@ unfolding longestOf longer
 longest-none gs = over-last longer 0 gs [] ∙ omega arith
 
 -- Whether a group has no row: a new one has none or a row, and a row more changes nothing where there was one.
-none-new : (gs : List Group) → anyOf noRow (gs ++ ([] ∷ [])) ≡ true
-unfolding anyOf noRow
-none-new gs = any-append noRow gs ([] ∷ []) ∙ or-true (anyOf noRow gs)
+none-new : (gs : List Group) → anyOf emptyGroup (gs ++ ([] ∷ [])) ≡ true
+unfolding anyOf emptyGroup
+none-new gs = any-append emptyGroup gs ([] ∷ []) ∙ or-true (anyOf emptyGroup gs)
 
-none-row : (gs : List Group) (g : Group) → noRow g ≡ false → anyOf noRow (gs ++ (g ∷ [])) ≡ anyOf noRow gs
+none-row : (gs : List Group) (g : Group) → emptyGroup g ≡ false → anyOf emptyGroup (gs ++ (g ∷ [])) ≡ anyOf emptyGroup gs
 unfolding anyOf
-none-row gs g e = any-append noRow gs (g ∷ []) ∙ rw e (or-false (anyOf noRow gs))
+none-row gs g e = any-append emptyGroup gs (g ∷ []) ∙ rw e (or-false (anyOf emptyGroup gs))
 
-pub row-some : (part : Group) (r : Row) → noRow (part ++ (r ∷ [])) ≡ false
-unfolding noRow
+pub row-some : (part : Group) (r : Row) → emptyGroup (part ++ (r ∷ [])) ≡ false
+unfolding emptyGroup
 row-some part r = ne-eqb (length (part ++ (r ∷ []))) 0 (λ e. omega (arith, length-append part (r ∷ [])))
 
 longest-new : (gs : List Group) (r : Row) → longestOf (gs ++ ((r ∷ []) ∷ [])) ≡ max (longestOf gs) 1
@@ -481,14 +478,14 @@ module _ (a : Asked) where
         rows = length part;
         place = a .place + length done * Size.groupWords;
         bad = false;
-        rowless = anyOf noRow (done ++ (part ∷ []));
+        rowless = anyOf emptyGroup (done ++ (part ∷ []));
         longest = longestOf (done ++ (part ∷ []));
         most = mostOf (done ++ (part ∷ []));
         least = leastOf (done ++ (part ∷ []));
       }
 
   rowless-shown : rowlessAdded a nonePassed ≡ shown [] [] word
-  unfolding rowlessAdded beforeNumber anyOf noRow longestOf mostOf leastOf over longer higher deeper
+  unfolding rowlessAdded beforeNumber anyOf emptyGroup longestOf mostOf leastOf over longer higher deeper
   rowless-shown = refl
 
   shown-rowless : (done : List Group) (part : Group) (b : Before) → joined b ≡ false → rowlessAdded a (shown done part b) ≡ shown (done ++ (part ∷ [])) [] word
@@ -499,10 +496,10 @@ module _ (a : Asked) where
 
   module _ (x : Row) where
     shown-first : rowAdded (opened a nonePassed) (x .columns) ≡ shown [] (x ∷ []) row
-    unfolding rowAdded opened beforeNumber anyOf noRow longestOf mostOf leastOf over longer higher deeper
+    unfolding rowAdded opened beforeNumber anyOf emptyGroup longestOf mostOf leastOf over longer higher deeper
     shown-first = refl
 
-    shown-more : (done : List Group) (part : Group) (b : Before) → noRow part ≡ false → rowAdded (shown done part b) (x .columns) ≡ shown done (part ++ (x ∷ [])) row
+    shown-more : (done : List Group) (part : Group) (b : Before) → emptyGroup part ≡ false → rowAdded (shown done part b) (x .columns) ≡ shown done (part ++ (x ∷ [])) row
     unfolding rowAdded beforeNumber mostOf leastOf higher deeper
     shown-more done part b some-row =
         rw
@@ -526,7 +523,7 @@ module _ (a : Asked) where
       unfolding fieldPassed pick
       rowless-passed z j = rw (e, z) (shown-rowless done part b j)
 
-      pub more-passed : isZ f ≡ false → isRow (headed a) f ≡ true → noRow part ≡ closed b → joined b ≡ true → fieldPassed a (shown done part b) f ≡ shown done (part ++ (fieldRow (headed a) f ∷ [])) row
+      pub more-passed : isZ f ≡ false → isRow (headed a) f ≡ true → emptyGroup part ≡ closed b → joined b ≡ true → fieldPassed a (shown done part b) f ≡ shown done (part ++ (fieldRow (headed a) f ∷ [])) row
       unfolding fieldPassed groupFor pick
       more-passed z g k j = rw (e, z, g, joined-number b, j) (shown-more (fieldRow (headed a) f) done part b (k ∙ joined-closed b j))
 
@@ -554,11 +551,11 @@ module _ (a : Asked) where
   weights gs =
       pick (not (eqb (length gs) (a .groups)) || ltb Size.rows (longestOf gs)) No.groupsBad
       (pick (leb (a .limit) (mostOf gs)) No.bitAbove
-      (pick (not (a .excepts && anyOf noRow gs) && ltb (leastOf gs) (a .least)) No.rowIdle 0))
+      (pick (not (a .excepts && anyOf emptyGroup gs) && ltb (leastOf gs) (a .least)) No.rowIdle 0))
 
   module _ (f : List ℕ) (fs : Fields)
-      (rest : (done : List Group) (part : Group) (b : Before) → noRow part ≡ closed b → rowsForm (headed a) b fs ≡ true → lower (passed a (shown done part b) fs) ≡ weights (gather (headed a) done part b fs))
-      (done : List Group) (part : Group) (b : Before) (k : noRow part ≡ closed b) (h : rowsForm (headed a) b (f ∷ fs) ≡ true) where
+      (rest : (done : List Group) (part : Group) (b : Before) → emptyGroup part ≡ closed b → rowsForm (headed a) b fs ≡ true → lower (passed a (shown done part b) fs) ≡ weights (gather (headed a) done part b fs))
+      (done : List Group) (part : Group) (b : Before) (k : emptyGroup part ≡ closed b) (h : rowsForm (headed a) b (f ∷ fs) ≡ true) where
     walked : {p q : Passed} → p ≡ q → lower (passed a p fs) ≡ lower (passed a q fs)
     walked e = ap (λ (q : Passed). lower (passed a q fs)) e
 
@@ -566,13 +563,13 @@ module _ (a : Asked) where
     unfolding passed gather pick mayJoin closed
     lower-join e = go b k (form-join (headed a) b f fs e h .0)
       where
-        go : (b : Before) → noRow part ≡ closed b → mayJoin b ≡ true → lower (passed a (shown done part b) (f ∷ fs)) ≡ weights (gather (headed a) done part b (f ∷ fs))
+        go : (b : Before) → emptyGroup part ≡ closed b → mayJoin b ≡ true → lower (passed a (shown done part b) (f ∷ fs)) ≡ weights (gather (headed a) done part b (f ∷ fs))
         go word k m = clash false m refl
         go row k m = rw e (walked (join-passed f done part e) ∙ rest done part join k (form-join (headed a) b f fs e h .1))
         go join k m = clash false m refl
 
     lower-rowless : isJoin f ≡ false → isZ f ≡ true → lower (passed a (shown done part b) (f ∷ fs)) ≡ weights (gather (headed a) done part b (f ∷ fs))
-    unfolding passed gather pick noRow closed
+    unfolding passed gather pick emptyGroup closed
     lower-rowless e z =
         let good = form-rowless (headed a) b f fs e z h in
         rw (e, z) (walked (rowless-passed f done part b e z (may-joined b (good .0))) ∙ rest (done ++ (part ∷ [])) [] word refl (good .1))
@@ -586,7 +583,7 @@ module _ (a : Asked) where
         (λ j. rw (e, z, j) (walked (more-passed f done part b e z (good .0) k j) ∙ rest done (part ++ (r ∷ [])) row (row-some part r) (good .1)))
         (λ j. rw (e, z, j) (walked (new-passed f done part b e z (good .0) j) ∙ rest (done ++ (part ∷ [])) (r ∷ []) row (row-some [] r) (good .1)))
 
-  lower-gather : (fs : Fields) (done : List Group) (part : Group) (b : Before) → noRow part ≡ closed b → rowsForm (headed a) b fs ≡ true
+  lower-gather : (fs : Fields) (done : List Group) (part : Group) (b : Before) → emptyGroup part ≡ closed b → rowsForm (headed a) b fs ≡ true
       → lower (passed a (shown done part b) fs) ≡ weights (gather (headed a) done part b fs)
   unfolding passed gather
   lower-gather [] done part b k h = rw (length-append done (part ∷ []))
@@ -597,7 +594,7 @@ module _ (a : Asked) where
       (lower-row f fs (λ d p c i g. lower-gather fs d p c i g) done part b k h)
 
   lower-groups : (fs : Fields) → rowsForm (headed a) word fs ≡ true → lower (passed a nonePassed fs) ≡ weights (groupsOf (headed a) fs)
-  unfolding passed groupsOf longestOf mostOf leastOf over anyOf noRow closed
+  unfolding passed groupsOf longestOf mostOf leastOf over anyOf emptyGroup closed
   lower-groups [] h = refl
   lower-groups (f ∷ fs) h =
       let e : isJoin f ≡ false = word-first (headed a) f fs h in
@@ -713,7 +710,7 @@ leastColumns-by CO n = refl
 leastColumns-by SC n = refl
 leastColumns-by SO n = refl
 
-pub excepted-by : (w : Word) (gs : List Group) → excepted w gs ≡ (setting w && anyOf noRow gs)
+pub excepted-by : (w : Word) (gs : List Group) → excepted w gs ≡ (setting w && anyOf emptyGroup gs)
 unfolding excepted setting
 excepted-by CC gs = refl
 excepted-by CO gs = refl
@@ -721,12 +718,6 @@ excepted-by SC gs = refl
 excepted-by SO gs = refl
 
 -- ---- the number of a row line, from its walk
-
-power-some : (k : ℕ) → 0 < 2 ^ k
-power-some k =
-    let two : 0 < 2 = omega arith in
-    let none : 0 ≤ k = omega arith in
-    omega (arith, pow-le-pow-right two none, pow-zero 2)
 
 least-small : (w : Word) (n : ℕ) → n ≤ Size.pins → leastColumns w n ≤ noColumns
 unfolding leastColumns
@@ -739,7 +730,7 @@ least-small SO n h = let two : 0 < 2 = omega arith in let most : 2 * n + 2 ≤ 1
 top-bit : (x k : ℕ) → x < 2 ^ (k + 1) → not (eqb (x / 2 ^ k % 2) 1) ≡ ltb x (2 ^ k)
 top-bit x k h =
     let m = 2 ^ k in
-    let some-power : 0 < m = power-some k in
+    let some-power : 0 < m = pow-pos k in
     let below : x < 2 * m = omega (arith, rw (add-one k, pow-suc 2 k) at h) in
     by-test (ltb x m)
     (λ t.
@@ -795,7 +786,7 @@ module _ (cell k : ℕ) (w : Word) (n : ℕ) (few : n ≤ Size.pins) where
       (pick (rowIdle w n gs) No.rowIdle 0))
   unfolding askedOf above rowIdle pick
   weights-asked gs =
-      rw (longest-above gs, most-above (2 ^ columnCount w n) (power-some (columnCount w n)) gs, least-below (leastColumns w n) (least-small w n few) gs, excepted-by w gs)
+      rw (longest-above gs, most-above (2 ^ columnCount w n) (pow-pos (columnCount w n)) gs, least-below (leastColumns w n) (least-small w n few) gs, excepted-by w gs)
       (by-test (anyOf (anyOf (above (columnCount w n))) gs)
       (λ t. rw t)
       (λ t. rw (t, any-groups (above (columnCount w n)) (λ r. ltb (r .columns) (leastColumns w n)) (idle w n) (idle-low w n) gs t)))

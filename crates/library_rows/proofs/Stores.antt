@@ -16,14 +16,15 @@ use Rattle.table.proofs.Places.{length-fitted, fitted-short, length-blocks, blo
 use Rattle.reading.specs.Choice.{pick}
 use Rattle.reading.proofs.Laws.{by-test, clash, or-left, or-right}
 use Rattle.cell_library.specs.Cells.{Heading, Row, Group, Cell}
-use Rattle.cell_library.specs.Library.{Fields, isRow, isJoin, isZ, Before, word, row, join, mayJoin, rowsForm, groupsOf, noRow, Word, CC, CO, SC, SO, anyOf, aboveRows, wordGroups, withGroups}
+use Rattle.cell_library.proofs.Any.{any-append}
+use Rattle.cell_library.specs.Library.{Fields, isRow, isJoin, isZ, Before, word, row, join, mayJoin, rowsForm, groupsOf, emptyGroup, Word, CC, CO, SC, SO, anyOf, aboveRows, wordGroups, withGroups}
 use Rattle.cell_library.specs.Layout.{rowWords, groupWords, cellGroups, headingNumber, cellWords, firstGroup}
 use Rattle.library_rows.specs.Passes.{fieldRow, headed, askedOf, rowPut, rowlessPut, nonePassed, opened, groupFor, rowlessAdded, fieldPassed, fieldStored, stored}
 use Rattle.library_rows.specs.Passes.{countedWords}
 use Rattle.library_rows.specs.declared.Asked.{Asked}
 use Rattle.library_rows.specs.declared.Passed.{Passed}
 use Rattle.cell_library.proofs.Places.{length-rowWords, length-groupWords, length-cellWords, space, filledGroups, frontGroups, backGroups, groups-open, length-front}
-use Rattle.library_rows.proofs.Passes.{joined, gather, by-field, may-joined, rowless-first, gather-first, form-join, form-rowless, form-row, word-first, any-append, row-some, closed, joined-number, shown, join-passed, rowless-passed, more-passed, new-passed, none-passed, first-passed}
+use Rattle.library_rows.proofs.Passes.{joined, gather, by-field, may-joined, rowless-first, gather-first, form-join, form-rowless, form-row, word-first, row-some, closed, joined-number, shown, join-passed, rowless-passed, more-passed, new-passed, none-passed, first-passed}
 
 -- ---- stores into lists put together from parts
 
@@ -303,7 +304,7 @@ module _ (n : ℕ) (cells : List Cell) (w : Word) (c : Cell) (past : List ℕ) (
   -- What is stored behind `done` and `part`, where what is gathered fits.
   abbrev Puts : Fields → List Group → Group → Before → Type 0
   Puts fs done part b =
-      noRow part ≡ closed b → rowsForm by b fs ≡ true → length (gather by done part b fs) ≤ space w → anyOf aboveRows (gather by done part b fs) ≡ false
+      emptyGroup part ≡ closed b → rowsForm by b fs ≡ true → length (gather by done part b fs) ≤ space w → anyOf aboveRows (gather by done part b fs) ≡ false
       → stored asks (shown asks done part b) fs (partTable (done ++ (part ∷ []))) ≡ partTable (gather by done part b fs)
 
   module _ (f : List ℕ) (fs : Fields) (rest : (done : List Group) (part : Group) (b : Before) → Puts fs done part b) (done : List Group) (part : Group) where
@@ -316,7 +317,7 @@ module _ (n : ℕ) (cells : List Cell) (w : Word) (c : Cell) (past : List ℕ) (
     put-join e join k h q s = clash false (form-join by join f fs e h .0) refl
 
     put-rowless : isJoin f ≡ false → isZ f ≡ true → (b : Before) → Puts (f ∷ fs) done part b
-    unfolding stored gather pick noRow closed
+    unfolding stored gather pick emptyGroup closed
     put-rowless e z b k h q s =
         let good = form-rowless by b f fs e z h in
         let more = done ++ (part ∷ []) in
@@ -367,7 +368,7 @@ module _ (n : ℕ) (cells : List Cell) (w : Word) (c : Cell) (past : List ℕ) (
       (λ j. put-new f fs (λ d p c i x y t. put-groups fs d p c i x y t) done part e z b j k h q s))
 
   -- From a cell without these groups: behind the first of them the others.
-  first-stored : (f : List ℕ) (fs : Fields) (g : Group) (b : Before) → noRow g ≡ closed b → rowsForm by b fs ≡ true → gather by [] g b fs ≡ groupsOf by (f ∷ fs)
+  first-stored : (f : List ℕ) (fs : Fields) (g : Group) (b : Before) → emptyGroup g ≡ closed b → rowsForm by b fs ≡ true → gather by [] g b fs ≡ groupsOf by (f ∷ fs)
       → fieldPassed asks nonePassed f ≡ shown asks [] g b → (0 < space w → fieldStored asks nonePassed f (partTable []) ≡ partTable (g ∷ []))
       → length (groupsOf by (f ∷ fs)) ≤ space w → anyOf aboveRows (groupsOf by (f ∷ fs)) ≡ false
       → stored asks nonePassed (f ∷ fs) (partTable []) ≡ partTable (groupsOf by (f ∷ fs))
@@ -380,7 +381,7 @@ module _ (n : ℕ) (cells : List Cell) (w : Word) (c : Cell) (past : List ℕ) (
 
   pub line-stored : (fs : Fields) → rowsForm by word fs ≡ true → length (groupsOf by fs) ≤ space w → anyOf aboveRows (groupsOf by fs) ≡ false
       → stored asks nonePassed fs (partTable []) ≡ partTable (groupsOf by fs)
-  unfolding stored groupsOf noRow closed
+  unfolding stored groupsOf emptyGroup closed
   line-stored [] h q s = refl
   line-stored (f ∷ fs) h q s =
       let e : isJoin f ≡ false = word-first by f fs h in

@@ -3,7 +3,7 @@
 -- Assumes nothing.
 use mathlib.Core.Bool.{Bool, true, false, not, _&&_, _||_}
 use mathlib.Core.List.{List, [], _∷_}
-use mathlib.Core.Option.{Option, none, some}
+use mathlib.Core.Option.{Option, none, some, Option·none-ne-some}
 use mathlib.Core.Path.{_≡_, refl, _∙_}
 use Prim.Native.Nat.{ℕ, zero, suc, _<_}
 use native.Mathlib.Omega.{arith}
@@ -52,9 +52,6 @@ rowLine-number line h w n (f ∷ fs) = by-test (sameBytes f (wordBytes w) && row
     bad : (sameBytes f (wordBytes w) && rowsForm h word fs) ≡ false
         → rowLine line h w n (f ∷ fs) ≡ pick (eqb (rowNumber h w n (f ∷ fs)) 0) (read (groupsOf h fs)) (refused (rowNumber h w n (f ∷ fs)) line)
     bad e = rw e refl
-
-none-some : {A : Type 0} {a : A} → _≡_ {A = Option A} none (some a) → ⊥
-none-some e = let z : _≡_ {A = ℕ} 0 1 = cc in omega arith
 
 -- A heading by its number is the one that a field is.
 heading-in : (f : List ℕ) → headingOf f ≡ pick (ltb (headingIn f) headings) (some (numberHeading (headingIn f))) none
@@ -117,7 +114,7 @@ pins-form three k name digits n e =
     (λ t.
     let both = and-right three (ltb k headings && nameForm name) t in
     (ltb-true k headings (and-left (ltb k headings) (nameForm name) both), and-right (ltb k headings) (nameForm name) both))
-    (λ t. let z : none ≡ some n = rw t at e in absurd (none-some z))
+    (λ t. let z : none ≡ some n = rw t at e in absurd (Option·none-ne-some _ z))
 
 pub nameLine-number : (line : ℕ) (cells : List Cell) (table : List ℕ) → LibraryHolds table cells → (fs : Fields) (n : ℕ) → pinsOf fs ≡ some n
     → nameLine line cells fs ≡ pick (eqb (headerNumber (getD fs 1 []) n table) 0) (read (headerIn fs n)) (refused (headerNumber (getD fs 1 []) n table) line)

@@ -11,13 +11,12 @@ use lib.Seq.{set-append-seam, set-at, sets, drop-cons}
 use Rattle.sizes.specs.Sizes as Size
 use Rattle.table.specs.Blocks.{fitted, blocks}
 use Rattle.table.proofs.Places.{length-fitted}
-use Rattle.cell_library.specs.Cells.{Heading, Cell}
+use Rattle.cell_library.specs.Cells.{Heading, Cell, noCell}
 use Rattle.cell_library.specs.Library.{begun}
 use Rattle.cell_library.specs.Layout.{groupWords, cellGroups, headingNumber, cellWords, libraryWords}
 use Rattle.library_rows.specs.Passes.{headed}
 use Rattle.library_text.specs.Headers.{headerPut}
 use Rattle.library_rows.specs.Passes.{countedWords}
-use Rattle.cell_library.proofs.Names.{blank}
 use Rattle.library_rows.proofs.Stores.{blocks-last, aheadWords, behindWords, length-ahead, cell-open}
 
 -- ---- the header of a new cell, and the count at its end
@@ -61,9 +60,9 @@ header-over pre name rest m pins heading h =
     ∙ append-assoc pre (m ∷ (named ++ (pins ∷ []))) (heading ∷ rest)
     ∙ ap (λ (l : List ℕ). pre ++ (m ∷ l)) (append-assoc named (pins ∷ []) (heading ∷ rest))
 
-blank-zeros : cellWords blank ≡ replicate Size.cellWords 0
-unfolding cellWords blank headingNumber cellGroups groupWords fitted blocks
-blank-zeros = refl
+none-zeros : cellWords noCell ≡ replicate Size.cellWords 0
+unfolding cellWords noCell headingNumber cellGroups groupWords fitted blocks
+none-zeros = refl
 
 fitted-zeros : (n m : ℕ) (xs : List ℕ) → fitted 0 n (xs ++ replicate m 0) ≡ fitted 0 n xs
 unfolding fitted
@@ -73,24 +72,24 @@ fitted-zeros (suc n) (suc m) [] = ap (λ (l : List ℕ). 0 ∷ l) (fitted-zeros 
 fitted-zeros (suc n) m (x ∷ xs) = ap (λ (l : List ℕ). x ∷ l) (fitted-zeros n m xs)
 
 -- Behind the cells of a table stands a cell of zeros.
-blank-cell : (cells : List Cell) → countedWords (length cells) (cells ++ (blank ∷ [])) ≡ libraryWords cells
+none-cell : (cells : List Cell) → countedWords (length cells) (cells ++ (noCell ∷ [])) ≡ libraryWords cells
 unfolding countedWords libraryWords
-blank-cell cells =
-    ap (λ (l : List ℕ). length cells ∷ fitted 0 (Size.cells * Size.cellWords) l) (blocks-last cellWords cells blank ∙ ap (λ (l : List ℕ). blocks cellWords cells ++ l) blank-zeros)
+none-cell cells =
+    ap (λ (l : List ℕ). length cells ∷ fitted 0 (Size.cells * Size.cellWords) l) (blocks-last cellWords cells noCell ∙ ap (λ (l : List ℕ). blocks cellWords cells ++ l) none-zeros)
     ∙ ap (λ (l : List ℕ). length cells ∷ l) (fitted-zeros (Size.cells * Size.cellWords) Size.cellWords (blocks cellWords cells))
 
 pub header-stored : (cells : List Cell) (past name : List ℕ) (pins : ℕ) (heading : Heading) → length cells < Size.cells → length name ≤ Size.nameBytes
     → headerPut (length cells) name pins (headingNumber heading) (libraryWords cells ++ past)
     ≡ countedWords (length cells) (cells ++ (begun (record { name = name; pins = pins; heading = heading }) ∷ [])) ++ past
-unfolding headerPut begun blank cellWords cellGroups headingNumber
+unfolding headerPut begun noCell cellWords cellGroups headingNumber
 header-stored cells past name pins heading few h =
     let n = length cells in
     let new : Cell = begun (record { name = name; pins = pins; heading = heading }) in
-    let groups = blocks groupWords (cellGroups blank) in
+    let groups = blocks groupWords (cellGroups noCell) in
     let rest = groups ++ behindWords cells past in
     let zeroed : libraryWords cells ++ past ≡ aheadWords n cells ++ (0 ∷ (fitted 0 Size.nameBytes [] ++ (0 ∷ 0 ∷ rest))) =
-    ap (λ (l : List ℕ). l ++ past) (sym (blank-cell cells))
-    ∙ cell-open n cells blank past few
+    ap (λ (l : List ℕ). l ++ past) (sym (none-cell cells))
+    ∙ cell-open n cells noCell past few
     ∙ ap (λ (l : List ℕ). aheadWords n cells ++ (0 ∷ l)) (append-assoc (fitted 0 Size.nameBytes []) (0 ∷ 0 ∷ groups) (behindWords cells past)) in
     let headed : countedWords n (cells ++ (new ∷ [])) ++ past ≡ aheadWords n cells ++ (length name ∷ (fitted 0 Size.nameBytes name ++ (pins ∷ headingNumber heading ∷ rest))) =
     cell-open n cells new past few

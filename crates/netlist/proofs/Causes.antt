@@ -1,7 +1,7 @@
 -- Why a statement is refused, as the tests of the code have it, and what the statements behind one more say.
 -- Assumes nothing.
 use mathlib.Core.Bool.{Bool, true, false, not, _||_, or-false, or-true, or-assoc}
-use mathlib.Core.List.{List, [], _∷_, _++_, append-nil, append-assoc, flatMap}
+use mathlib.Core.List.{List, [], _∷_, _++_, append-nil, flatMap}
 use mathlib.Core.Logic.{_⊎_, ⊎-elim}
 use mathlib.Core.Path.{_≡_, refl, sym, ap, _∙_}
 use Prim.Native.Nat.{ℕ, zero, suc, _+_, _*_, _≤_, _<_}
@@ -11,6 +11,7 @@ use native.Mathlib.Omega.{arith}
 use borrow.Author.Tests.{le-leb, lt-leb, leb-true, leb-false, ltb-false, ne-eqb}
 use lib.Dec.{leb, ltb, eqb}
 use lib.ListN.{length, getD}
+use Rattle.laws.proofs.Lists.{flatMap-append}
 use Rattle.sizes.specs.Sizes as Size
 use Rattle.reading.specs.Choice.{pick}
 use Rattle.reading.specs.Each.{Each}
@@ -64,11 +65,6 @@ member-right l xs ys e = rw (member-append l xs ys, e) (or-true (member l xs))
 
 pub member-cases : (l : ℕ) (xs ys : List ℕ) → member l (xs ++ ys) ≡ true → (member l xs ≡ true) ⊎ (member l ys ≡ true)
 member-cases l xs ys e = or-cases (member l xs) (member l ys) (sym (member-append l xs ys) ∙ e)
-
-pub flatMap-append : {A B : Type 0} (f : A → List B) (xs ys : List A) → flatMap f (xs ++ ys) ≡ flatMap f xs ++ flatMap f ys
-unfolding flatMap
-flatMap-append f [] ys = refl
-flatMap-append f (x ∷ xs) ys = rw (flatMap-append f xs ys) (sym (append-assoc (f x) (flatMap f xs) (flatMap f ys)))
 
 -- What statements have of something, with one statement more.
 pub one-more : {B : Type 0} (f : Statement → List B) (ss : List Statement) (s : Statement)
@@ -146,15 +142,17 @@ driver-taken ss l =
     go false false true h k = refl
     go false false false h k = refl
 
+-- A flag is 0 just where its test fails.
+pub flag-zero : (b : Bool) → eqb (pick b 1 0) 0 ≡ not b
+unfolding pick
+flag-zero true = refl
+flag-zero false = refl
+
 -- The word of a mark is 0 just where it is not taken.
 pub word-taken : (m : Mark) (ss : List Statement) (l : ℕ) → eqb (markWord m ss l) 0 ≡ not (taken m ss l)
 unfolding markWord taken outputWord pick
 word-taken input ss l = driver-taken ss l
-word-taken output ss l = go (isOutput l ss)
-  where
-    go : (o : Bool) → eqb (pick o 1 0) 0 ≡ not o
-    go true = refl
-    go false = refl
+word-taken output ss l = flag-zero (isOutput l ss)
 word-taken opened ss l = driver-taken ss l
 
 -- An input's word is 1, and no other.

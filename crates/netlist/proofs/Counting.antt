@@ -1,79 +1,89 @@
 -- How many gates and outputs there can be: each gate drives a line of its own, no line is an output twice, and there are 1,000
 -- lines.
 -- Assumes nothing.
-use mathlib.Core.Bool.{false}
+use mathlib.Core.Bool.{true, false}
 use mathlib.Core.List.{List, [], _∷_, flatMap}
-use mathlib.Core.Path.{_≡_, refl}
+use mathlib.Core.Path.{_≡_, refl, ap, subst}
 use Prim.Native.Nat.{ℕ, zero, suc, _≤_}
 use native.Mathlib.Omega.{arith}
 use lib.Dec.{eqb}
 use lib.ListN.{length}
-use borrow.Author.Tests.{eqb-true, eqb-false}
+use borrow.Author.Tests.{eqb-true, eqb-false, eq-eqb}
 use Rattle.sizes.specs.Sizes as Size
 use Rattle.reading.specs.Choice.{pick}
 use Rattle.reading.specs.Each.{Each}
-use Rattle.reading.proofs.Laws.{by-test, or-left, or-right, each-append}
+use Rattle.reading.proofs.Laws.{by-test, clash, each-append}
 use Rattle.netlist.specs.Netlist.{Statement, input, output, opened, mark, gate, priced, member, linesOf, linesMarked, linesClaimed, gatesIn, markedLines, claimedLines, gatesOf}
 use Rattle.netlist.specs.Sound.{InRange, LinesInRange, Apart}
+
+-- ---- a list without repetition among others
+
+-- The list without the first x in it.
+unfoldable without : ℕ → List ℕ → List ℕ
+without x [] = []
+without x (y ∷ ys) = pick (eqb y x) ys (y ∷ without x ys)
+
+one-less : (x : ℕ) (ys : List ℕ) → member x ys ≡ true → suc (length (without x ys)) ≤ length ys
+unfolding member without pick
+one-less x [] h = clash false h refl
+one-less x (y ∷ ys) h =
+    by-test (eqb y x)
+    (λ t. rw t (omega arith))
+    (λ t. rw t (let r = one-less x ys (rw t at h) in omega (arith, r)))
+
+still-in : (x k : ℕ) (ys : List ℕ) → eqb x k ≡ false → member k ys ≡ true → member k (without x ys) ≡ true
+unfolding member without pick
+still-in x k [] n h = clash false h refl
+still-in x k (y ∷ ys) n h =
+    by-test (eqb y x)
+    (λ t. rw t (let e : eqb y k ≡ false = rw (eqb-true y x t) n in rw e at h))
+    (λ t. rw t
+    (by-test (eqb y k)
+    (λ u. rw u refl)
+    (λ u. rw u (still-in x k ys n (rw u at h)))))
+
+pub apart-fewer : (xs ys : List ℕ) → Apart xs → ((k : ℕ) → member k xs ≡ true → member k ys ≡ true) → length xs ≤ length ys
+unfolding Apart member
+apart-fewer [] ys a h = omega arith
+apart-fewer (x ∷ xs) ys a h =
+    let in-ys : member x ys ≡ true = h x (rw (eq-eqb x x refl) refl) in
+    let rest = apart-fewer xs (without x ys) (a .1)
+    (λ k m. by-test (eqb x k)
+    (λ t. clash (member x xs) (rw (eqb-true x k t) m) (a .0))
+    (λ t. still-in x k ys t (h k (rw (t) m)))) in
+    omega (arith, rest, one-less x ys in-ys)
 
 -- ---- as many different numbers from 1 to n as n, at most
 
 abbrev UpTo : ℕ → ℕ → Type 0
 UpTo n l = (1 ≤ l) × (l ≤ n)
 
--- A list without the first place of a number.
-unfoldable without : ℕ → List ℕ → List ℕ
-without k [] = []
-without k (x ∷ xs) = pick (eqb x k) xs (x ∷ without k xs)
+upTo : ℕ → List ℕ
+upTo zero = []
+upTo (suc n) = suc n ∷ upTo n
 
-without-length : (k : ℕ) (xs : List ℕ) → length xs ≤ suc (length (without k xs))
-unfolding without pick
-without-length k [] = omega arith
-without-length k (x ∷ xs) = by-test (eqb x k) (λ t. rw t (omega arith)) (λ t. rw t (omega (arith, without-length k xs)))
+length-upTo : (n : ℕ) → length (upTo n) ≡ n
+unfolding upTo
+length-upTo zero = refl
+length-upTo (suc n) = ap suc (length-upTo n)
 
-without-member : (k y : ℕ) (xs : List ℕ) → member y xs ≡ false → member y (without k xs) ≡ false
-unfolding without member pick
-without-member k y [] h = refl
-without-member k y (x ∷ xs) h =
-    by-test (eqb x k)
-    (λ t. rw t (or-right (eqb x y) (member y xs) h))
-    (λ t. rw (t, or-left (eqb x y) (member y xs) h) (without-member k y xs (or-right (eqb x y) (member y xs) h)))
+upTo-member : (n k : ℕ) → UpTo n k → member k (upTo n) ≡ true
+unfolding upTo member
+upTo-member zero k h = absurd (omega (arith, h .0, h .1))
+upTo-member (suc n) k h =
+    by-test (eqb (suc n) k)
+    (λ t. rw t refl)
+    (λ t. rw t (upTo-member n k (h .0, omega (arith, h .1, eqb-false (suc n) k t))))
 
-without-apart : (k : ℕ) (xs : List ℕ) → Apart xs → Apart (without k xs)
-unfolding without Apart pick
-without-apart k [] a = tt
-without-apart k (x ∷ xs) a =
-    by-test (eqb x k) (λ t. rw t (a .1)) (λ t. rw t (without-member k x xs (a .0), without-apart k xs (a .1)))
-
-lower-absent : (n : ℕ) (xs : List ℕ) → member (suc n) xs ≡ false → Each (UpTo (suc n)) xs → Each (UpTo n) xs
+-- What holds of each holds of a member.
+pub each-in : (P : ℕ → Type 0) (xs : List ℕ) (k : ℕ) → member k xs ≡ true → Each P xs → P k
 unfolding member Each
-lower-absent n [] h e = tt
-lower-absent n (x ∷ xs) h e = (
-  (e .0 .0, omega (arith, e .0 .1, eqb-false x (suc n) (or-left (eqb x (suc n)) (member (suc n) xs) h))),
-  lower-absent n xs (or-right (eqb x (suc n)) (member (suc n) xs) h) (e .1),
-)
-
-without-lower : (n : ℕ) (xs : List ℕ) → Apart xs → Each (UpTo (suc n)) xs → Each (UpTo n) (without (suc n) xs)
-unfolding without Apart Each pick
-without-lower n [] a e = tt
-without-lower n (x ∷ xs) a e =
-    by-test (eqb x (suc n))
-    (λ t. rw t (lower-absent n xs (rw (eqb-true x (suc n) t) at (a .0)) (e .1)))
-    (λ t. rw t ((e .0 .0, omega (arith, e .0 .1, eqb-false x (suc n) t)), without-lower n xs (a .1) (e .1)))
-
-none-below : (xs : List ℕ) → Each (UpTo zero) xs → length xs ≤ 0
-unfolding Each
-none-below [] e = omega arith
-none-below (x ∷ xs) e = absurd (omega (arith, e .0 .0, e .0 .1))
+each-in P [] k h e = clash false h refl
+each-in P (x ∷ xs) k h e =
+    by-test (eqb x k) (λ t. subst P (eqb-true x k t) (e .0)) (λ t. each-in P xs k (rw t at h) (e .1))
 
 apart-few : (n : ℕ) (xs : List ℕ) → Apart xs → Each (UpTo n) xs → length xs ≤ n
-apart-few zero xs a e = none-below xs e
-apart-few (suc n) xs a e =
-    omega (
-      arith,
-      without-length (suc n) xs,
-      apart-few n (without (suc n) xs) (without-apart (suc n) xs a) (without-lower n xs a e),
-    )
+apart-few n xs a e = rw (length-upTo n) at (apart-fewer xs (upTo n) a (λ k m. upTo-member n k (each-in (UpTo n) xs k m e)))
 
 -- ---- the gates of statements
 

@@ -1,16 +1,16 @@
 -- A table that holds statements says of their lines. What each law says is in specs/Lines.antt's words.
 -- Assumes nothing.
-use mathlib.Core.Bool.{Bool, true, false, not}
+use mathlib.Core.Bool.{Bool, not, Bool·not-not}
 use mathlib.Core.List.{List, _++_}
 use mathlib.Core.Path.{_≡_, refl, ap, _∙_}
 use Prim.Native.Nat.{ℕ, zero, suc, _+_, _≤_, _<_}
 use native.Mathlib.Omega.{arith}
 use lib.Dec.{eqb}
 use Rattle.sizes.specs.Sizes as Size
-use Rattle.reading.specs.Choice.{pick}
-use Rattle.netlist.specs.Netlist.{Statement, isInput, isOpen, claimed, mentioned, linesWhere}
-use Rattle.netlist.specs.Layout.{driverWord, mentionWord, netlistWords}
+use Rattle.netlist.specs.Netlist.{Statement, isInput, mentioned, linesWhere}
+use Rattle.netlist.specs.Layout.{mentionWord, netlistWords}
 use Rattle.netlist.specs.Lines.{inputAt, mentionAt, inputsHeld, mentionsHeld}
+use Rattle.netlist.proofs.Causes.{flag-zero, driver-input}
 use Rattle.netlist.proofs.Places.{driver-word, mention-word}
 
 pub where-same : (p q : ℕ → Bool) (n first : ℕ) → ((l : ℕ) → first ≤ l → l < first + n → p l ≡ q l)
@@ -28,23 +28,12 @@ module _ (ss : List Statement) (past : List ℕ) where
   table = netlistWords ss ++ past
 
   input-held : (l : ℕ) → 1 ≤ l → l ≤ Size.lines → inputAt table l ≡ isInput l ss
-  unfolding driverWord pick
-  input-held l low high =
-      ap (λ (n : ℕ). eqb n 1) (driver-word ss past l low high) ∙ drives (isInput l ss) (isOpen l ss) (claimed l ss)
-    where
-      drives : (i o d : Bool) → eqb (pick i 1 (pick o 3 (pick d 2 0))) 1 ≡ i
-      drives true o d = refl
-      drives false true d = refl
-      drives false false true = refl
-      drives false false false = refl
+  input-held l low high = ap (λ (n : ℕ). eqb n 1) (driver-word ss past l low high) ∙ driver-input ss l
 
   pub mention-held : (l : ℕ) → 1 ≤ l → l ≤ Size.lines → mentionAt table l ≡ mentioned l ss
-  unfolding mentionWord pick
-  mention-held l low high = ap (λ (n : ℕ). not (eqb n 0)) (mention-word ss past l low high) ∙ says (mentioned l ss)
-    where
-      says : (b : Bool) → not (eqb (pick b 1 0) 0) ≡ b
-      says true = refl
-      says false = refl
+  unfolding mentionWord
+  mention-held l low high =
+      ap (λ (n : ℕ). not (eqb n 0)) (mention-word ss past l low high) ∙ ap not (flag-zero (mentioned l ss)) ∙ Bool·not-not (mentioned l ss)
 
   pub inputs-held : inputsHeld table ≡ linesWhere (λ l. isInput l ss) Size.lines 1
   unfolding inputsHeld

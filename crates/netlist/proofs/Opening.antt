@@ -1,9 +1,9 @@
 -- What the table says of lines that nothing declares, behind refusal 20, and whether there is a range.
 -- Assumes nothing.
-use mathlib.Core.Bool.{Bool, true, false, not, _&&_, and-false}
+use mathlib.Core.Bool.{Bool, true, false, not, _&&_, and-false, Bool·not-not}
 use mathlib.Core.List.{List, [], _∷_, flatMap}
 use mathlib.Core.Logic.{_⊎_, inl, inr, ⊎-elim}
-use mathlib.Core.Path.{_≡_, refl, ap}
+use mathlib.Core.Path.{_≡_, refl, ap, _∙_}
 use Prim.Native.Nat.{ℕ, suc, _+_, _-_, _≤_, _<_}
 use native.Mathlib.Omega.{arith}
 use lib.Dec.{eqb}
@@ -23,7 +23,7 @@ use Rattle.netlist.specs.Netlist.{undeclared, linesWhere, undeclaredLine
 use Rattle.netlist.specs.Layout.{rangedWord, NetlistHolds}
 use Rattle.netlist.specs.Admitting.{wordsUndeclared, someUndeclared, someRanged}
 use Rattle.netlist.specs.Sound.{RangeSound, Sound}
-use Rattle.netlist.proofs.Causes.{member-left, member-right, member-cases, member-among, marked-claimed, driver-taken, rangeLines, ranged-lines}
+use Rattle.netlist.proofs.Causes.{member-left, member-right, member-cases, member-among, marked-claimed, driver-taken, flag-zero, rangeLines, ranged-lines}
 use Rattle.netlist.proofs.HeldLines.{where-same, mention-held}
 use Rattle.netlist.proofs.Places.{driver-word, ranged-word}
 
@@ -119,12 +119,8 @@ some-same {cells} {table} {ss} h so =
 
 -- Whether there is a range, as the table says it.
 pub some-ranged : {table : List ℕ} {ss : List Statement} → NetlistHolds table ss → someRanged table ≡ someRange ss
-unfolding rangedWord pick
-some-ranged {table} {ss} h = rw (h .words, ranged-word ss (h .past)) (says (someRange ss))
-  where
-    says : (b : Bool) → not (eqb (pick b 1 0) 0) ≡ b
-    says true = refl
-    says false = refl
+unfolding rangedWord
+some-ranged {table} {ss} h = rw (h .words, ranged-word ss (h .past)) (ap not (flag-zero (someRange ss)) ∙ Bool·not-not (someRange ss))
 
 -- ---- the loop over the lines
 

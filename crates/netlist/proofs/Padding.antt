@@ -7,6 +7,7 @@ use mathlib.Core.Path.{_≡_, refl, sym, _∙_, ap}
 use Prim.Native.Nat.{ℕ, suc}
 use lib.Dec.{eqb}
 use borrow.Author.Tests.{le-leb, eqb-true, eq-eqb}
+use Rattle.laws.proofs.Lists.{flatMap-append}
 use Rattle.sizes.specs.Sizes as Size
 use Rattle.reading.specs.Choice.{pick}
 use Rattle.reading.specs.Each.{Each}
@@ -18,7 +19,7 @@ use Rattle.netlist.specs.Netlist.{input, output, Statement, mark, member
 use Rattle.netlist.specs.Lowest.{lowest}
 use Rattle.netlist.specs.Admitting.{refusalOf, extended}
 use Rattle.netlist.specs.Sound.{InRange, LinesInRange, Sound}
-use Rattle.netlist.proofs.Causes.{member-more, one-more, flatMap-append}
+use Rattle.netlist.proofs.Causes.{member-more, one-more}
 use Rattle.netlist.proofs.Admitting.{admitted-more}
 use Rattle.netlist.proofs.Sounding.{sound-next}
 use Rattle.netlist.proofs.Laws.{apart-both, mentioned-in-range}

@@ -1,23 +1,22 @@
 -- A netlist read again under another library.
 -- Assumes nothing.
-use mathlib.Core.Bool.{Bool, true, false, not, _&&_}
-use mathlib.Core.List.{List, [], _∷_, _++_, flatMap, append-nil, append-assoc}
+use mathlib.Core.Bool.{_&&_}
+use mathlib.Core.List.{List, [], _∷_, _++_}
 use mathlib.Core.Option.{Option, none, some}
 use mathlib.Core.Path.{_≡_, refl, sym, _∙_, ap, ap₂}
 use Prim.Native.Nat.{ℕ, suc}
 use native.Mathlib.Omega.{arith}
-use lib.ListN.{length}
 use Rattle.text.specs.Bytes.{bytes}
 use Rattle.text.specs.Lines.{lines, sameBytes}
 use Rattle.text.specs.Numeral.{nameForm}
 use Rattle.reading.specs.Choice.{pick}
-use Rattle.reading.specs.Refusal.{Read, read, refused, _>>=_, _>>_, weigh, form}
+use Rattle.reading.specs.Refusal.{read, _>>=_, _>>_, form}
 use Rattle.reading.specs.Numbers as No
-use Rattle.reading.proofs.Laws.{by-test, refused-read, bind-read, then-read, form-read}
+use Rattle.reading.proofs.Laws.{by-test, bind-read, then-read, form-read}
 use Rattle.cell_library.specs.Cells.{Cell}
 use Rattle.cell_library.specs.Library.{Fields, cellNamed}
 use Rattle.netlist.specs.declared.Rules.{Rules}
-use Rattle.netlist.specs.Netlist.{Gate, Statement, mark, gate, priced, input, output, opened, declaring, decimals, lone, markOf, drivenBy, gateOf, rangeOf, statementOf, linesOf, linesMarked, mentionedLines, markedLines, unknownCell, countDiffers, pinsAt, causes, admit, admitted, lineForm, lineForms, textStatements, declared, netlist}
+use Rattle.netlist.specs.Netlist.{Statement, mark, gate, priced, input, output, opened, declaring, decimals, lone, markOf, drivenBy, gateOf, rangeOf, statementOf, linesOf, linesMarked, mentionedLines, markedLines, unknownCell, countDiffers, causes, admit, admitted, lineForm, lineForms, textStatements, declared, netlist}
 use Rattle.netlist.specs.Rereading.{SameEntries, SameLines, Rereadable}
 use Rattle.netlist.proofs.Opening.{declared-read}
 use Rattle.netlist.proofs.Laws.{netlist-sound}
@@ -68,12 +67,9 @@ pub data FormsAlike : List (Option Statement) → List (Option Statement) → Ty
 same-more : {ss ts : List Statement} (s t : Statement) → SameLines ss ts → Alike s t → SameLines (ss ++ (s ∷ [])) (ts ++ (t ∷ []))
 same-more {ss} {ts} s t h a =
     record {
-      mentioned = unfold mentionedLines in one linesOf ts t ∙ ap₂ (λ (x y : List ℕ). x ++ y) (unfold mentionedLines in h .mentioned) (a .mentions) ∙ sym (one linesOf ss s);
-      outputs = unfold markedLines in one (linesMarked output) ts t ∙ ap₂ (λ (x y : List ℕ). x ++ y) (unfold markedLines in h .outputs) (a .marks) ∙ sym (one (linesMarked output) ss s);
+      mentioned = unfold mentionedLines in one-more linesOf ts t ∙ ap₂ (λ (x y : List ℕ). x ++ y) (unfold mentionedLines in h .mentioned) (a .mentions) ∙ sym (one-more linesOf ss s);
+      outputs = unfold markedLines in one-more (linesMarked output) ts t ∙ ap₂ (λ (x y : List ℕ). x ++ y) (unfold markedLines in h .outputs) (a .marks) ∙ sym (one-more (linesMarked output) ss s);
     }
-  where
-    one : (f : Statement → List ℕ) (us : List Statement) (u : Statement) → flatMap f (us ++ (u ∷ [])) ≡ flatMap f us ++ f u
-    one f us u = one-more f us u
 
 -- Two readings that come to their ends.
 pub admitted-lines : (cells more : List Cell) (line : ℕ) (ss ts us vs : List Statement) (xs ys : List (Option Statement)) → FormsAlike xs ys → SameLines ss ts

@@ -4,7 +4,7 @@
 use mathlib.Core.Bool.{Bool, true, false, true≢false}
 use mathlib.Core.List.{List}
 use mathlib.Core.Logic.{_⊎_, inl, inr, ⊎-elim}
-use mathlib.Core.Path.{_≡_, refl, sym, ap, subst, _∙_}
+use mathlib.Core.Path.{_≡_, refl, sym, ap, subst}
 use Prim.Native.Nat.{ℕ, _+_, _≤_, _<_}
 use native.Mathlib.Omega.{arith}
 use borrow.Author.Tests.{le-ltb, ltb-true}
@@ -14,7 +14,7 @@ use Rattle.reading.specs.Choice.{pick}
 use Rattle.reading.specs.Numbers as No
 use Rattle.reading.specs.Refusal.{Read, refused, read, _>>=_, _>>_, weigh}
 use Rattle.reading.proofs.Bounds.{Within, textNumber, text-not-entry, within-weigh}
-use Rattle.reading.proofs.Laws.{by-test, refused-read}
+use Rattle.reading.proofs.Laws.{by-test, refused-read, bind-refused, then-refused}
 use Rattle.cell_library.specs.Cells.{Cell}
 use Rattle.cell_library.specs.Library.{library}
 use Rattle.cell_library.proofs.Bounds.{library-within}
@@ -31,7 +31,6 @@ use Rattle.outcome.specs.Demands.{PairRead, longest, TooShort}
 use Rattle.outcome.specs.Outcome.{Given, Lent, Accepted, entry, outcome, readPair, reading, conclude, answer, summary, reportOf, second, reports, tableShort}
 use Rattle.outcome.proofs.Accepting.{read-as, pair-is, concluded}
 use Rattle.outcome.proofs.Checking.{Checked}
-use Rattle.outcome.proofs.Refusing.{bind-refused, then-refused}
 
 pub longest-most : (ss : List Statement) → longest ss ≤ longestReports
 unfolding longest pick

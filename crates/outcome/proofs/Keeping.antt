@@ -30,7 +30,7 @@ use Rattle.outcome.specs.declared.Summary.{Summary}
 use Rattle.outcome.specs.Outcome.{Given, Lent, Accepted, summary, reportOf, second, reports, entry, outcome, reading, answer, left, leftFrom, leftLater, filled, zeroed}
 use Rattle.outcome.specs.Demands.{NumbersStand, standing, standingReport, PairRead, Acceptance, Calculated, ReportStands, Promised}
 use Rattle.outcome.proofs.Checking.{Checked}
-use Rattle.outcome.proofs.Numbers.{placed, entry-stands, numbers-stand}
+use Rattle.outcome.proofs.Numbers.{placed-purpose, entry-stands, numbers-stand}
 use Rattle.outcome.proofs.Accepting.{concluded, Accepts, accepts}
 use Rattle.outcome.proofs.Fitting.{reports-short, pair-sound, accepts-fitting, entry-number, later-number, refused-where, long-refused}
 
@@ -162,7 +162,7 @@ module _ (g : Given) (checked : Checked g) (before after : Lent) (said : Read Su
                 low = low-within sound;
                 high = high-within sound;
                 analyses = analysis-at cells ss sound;
-                between = λ price w p r. between cells ss sound p (placed p r) price w;
+                between = λ price w p r. between cells ss sound p (placed-purpose p r) price w;
               };
           past = rw (z .report) (drop-at r (drop (length r) (before .report)) (s .length) (sym length-is)) ∙ ap (λ (n : ℕ). drop n (before .report)) (sym length-is);
           fits = rw length-is (z .fits);

@@ -1,4 +1,3 @@
-pub mod Refusing
 pub mod Accepting
 pub mod Checking
 pub mod Entering

@@ -17,10 +17,10 @@ use Rattle.calculation.specs.Acceptance.{BothSound}
 use Rattle.calculation.proofs.Laws.{own-figures, exact, settled, settled-once, few-sweeps, numbers-length, node-inside, Placed}
 use Rattle.outcome.specs.Demands.{Reported, NumbersStand}
 
-pub placed : (p : Purpose) → Reported p → Placed p
+pub placed-purpose : (p : Purpose) → Reported p → Placed p
 unfolding InRange
-placed (set l v) h = ((h .0, h .1), h .2)
-placed (observe l) h = (h .0, h .1)
+placed-purpose (set l v) h = ((h .0, h .1), h .2)
+placed-purpose (observe l) h = (h .0, h .1)
 
 module _ {cells : List Cell} {ss : List Statement} (sound : BothSound cells ss) (numbers rest : List ℕ)
     (stand : numbers ≡ analysed cells ss .numbers ++ rest) where
@@ -39,6 +39,6 @@ module _ {cells : List Cell} {ss : List Statement} (sound : BothSound cells ss) 
         settledOnce = settled-once cells ss sound price figures;
         fewSweeps = few-sweeps cells ss sound price figures;
         exact = λ k p r.
-            subst (λ (y : ℕ). Exact cells ss k p y) (sym (entry-stands (node k p) (node-inside k p (placed p r))))
-            (exact cells ss sound price figures k p (placed p r));
+            subst (λ (y : ℕ). Exact cells ss k p y) (sym (entry-stands (node k p) (node-inside k p (placed-purpose p r))))
+            (exact cells ss sound price figures k p (placed-purpose p r));
       }

@@ -14,7 +14,7 @@ use Rattle.reading.specs.Numbers as No
 use Rattle.reading.specs.Refusal.{Read, refused, read, _>>=_, _>>_, weigh}
 use Rattle.reading.specs.declared.Refusal.{Refusal}
 use Rattle.reading.proofs.Bounds.{Within, text-not-entry, within-then, within-weigh}
-use Rattle.reading.proofs.Laws.{by-test, clash, refused-read, bind-read, then-read}
+use Rattle.reading.proofs.Laws.{by-test, clash, refused-read, bind-read, then-read, bind-refused, then-refused}
 use Rattle.cell_library.specs.Cells.{Cell}
 use Rattle.netlist.specs.Netlist.{Statement}
 use Rattle.writer.specs.Buffer.{textWithin, lengthRead, leftBy}
@@ -26,7 +26,6 @@ use Rattle.outcome.proofs.Accepting.{read-as}
 use Rattle.outcome.proofs.Checking.{Checked}
 use Rattle.outcome.proofs.Fitting.{entry-number, entry-short, pair-number, pair-sound}
 use Rattle.outcome.proofs.Numbers.{numbers-stand}
-use Rattle.outcome.proofs.Refusing.{bind-refused, then-refused}
 use Rattle.read_pair.specs.declared.Progress.{Progress}
 use Rattle.read_pair.specs.declared.Progress.the-variants.{Unrefused, AtEntry, Later}
 use Rattle.read_pair.specs.Progress.{Reached}

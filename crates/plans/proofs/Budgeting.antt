@@ -15,7 +15,7 @@ use borrow.Author.Tests.{ltb-true, ltb-false, leb-true, leb-false, eqb-true, lt-
 use lib.Dec.{eqb, leb, ltb}
 use lib.ListN.{length, set, replicate, length-set, length-replicate}
 use Rattle.reading.specs.Choice.{pick}
-use Rattle.cost.specs.Cost.{over, never, _⊕_, capped, lesser, counted}
+use Rattle.cost.specs.Cost.{never, _⊕_, capped, lesser, counted}
 use Rattle.cost.proofs.Laws.{sum-mono, sum-left, sum-right, capped-sum}
 use Rattle.plans.specs.System.{Way, Visit, System, Offers, Plan, Plan.priced, Plan.chosen, Plans, Plans.done, Plans.also, cost, costs}
 use Rattle.plans.specs.Sweep.{at, sums, way, least}
@@ -40,11 +40,6 @@ unfolding way
 way-fixed xs w h = sums-fixed xs (w .needs) (omega (arith, sum-right (capped (w .depth)) (sums xs (w .needs))))
 
 -- ---- offers
-
-pub offered-bound : (vs : List Visit) (xs : List ℕ) (n : ℕ) → offered vs xs n ≤ never
-unfolding offered
-offered-bound [] xs n = le-refl never
-offered-bound (v ∷ vs) xs n = lesser-bound (pick (eqb (v .node) n) (least xs (v .ways)) never) (offered vs xs n)
 
 -- No offer is above the sum of a way.
 offered-below : (vs : List Visit) (xs : List ℕ) (n : ℕ) (v : Visit) (w : Way) → List·Memᴰ v vs → v .node ≡ n → List·Memᴰ w (v .ways) → offered vs xs n ≤ way xs w
@@ -216,7 +211,7 @@ set-attained S xs n a h i k m = place (ℕ-discrete m n)
     place (yes e) = rw (e, at-set-same xs n a i) k
     place (no e) = rw (at-set-other xs n a m e) (h m)
 
-at-none : (k n : ℕ) → at (replicate k never) n ≡ never
+pub at-none : (k n : ℕ) → at (replicate k never) n ≡ never
 unfolding at
 at-none zero n = refl
 at-none (suc k) zero = refl

@@ -26,7 +26,7 @@ use Rattle.plans.specs.System.{
   cost,
   costs,
 }
-use Rattle.plans.specs.Sweep.{at, sums, way, least, Rule, renew, lower, sweep, sweeps}
+use Rattle.plans.specs.Sweep.{at, sums, way, least, Rule, lower, sweep, sweeps}
 use Rattle.plans.specs.Exact.{Stands, Exact, AttainedBy, Attained}
 use Rattle.plans.proofs.Table.{at-set-same, at-set-other}
 use Rattle.plans.proofs.Falling.{lesser-case, least-of, LeastOf, least-bound}
@@ -85,10 +85,6 @@ module _ (S : System) where
   -- A visit of the system, by this rule, keeps every number attained.
   abbrev pub Attains : Rule → Type 0
   Attains rule = (xs : List ℕ) (v : Visit) → List·Memᴰ v (S .visits) → AllAttained S xs → AllAttained S (rule xs v)
-
-  pub renew-attains : Attains renew
-  unfolding renew
-  renew-attains xs v m h = set-attained xs (v .node) (least xs (v .ways)) h (least-attained xs v m h)
 
   pub lower-attains : Attains lower
   unfolding lower

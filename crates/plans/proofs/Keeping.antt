@@ -62,11 +62,6 @@ module _ (rule : Rule) (stores : Stores rule) where
       sweep-other vs (rule xs v) n (λ s. h (record { visit = s .visit; listed = List·Memᴰ·tail (s .listed); same = s .same }))
       ∙ rule-other xs v n (λ e. h (record { visit = v; listed = List·Memᴰ·head refl; same = e }))
 
-  pub sweep-bounded : (vs : List Visit) (xs : List ℕ) → Bounded xs → Bounded (sweep rule vs xs)
-  unfolding sweep
-  sweep-bounded [] xs b = b
-  sweep-bounded (v ∷ vs) xs b = sweep-bounded vs (rule xs v) (rule-bounded xs v b)
-
   pub sweeps-length : (vs : List Visit) (k : ℕ) (xs : List ℕ) → length (sweeps rule vs k xs) ≡ length xs
   unfolding sweeps
   sweeps-length vs zero xs = refl

@@ -21,6 +21,7 @@ use Rattle.plans.specs.Statements.{
   RenewBound,
   LeadBound,
 }
+use Rattle.plans.specs.Budget.{BidOpen}
 use Rattle.plans.specs.Stages.{Left, RenewingWorks, LeadingWorks}
 use Rattle.plans.proofs.Table.{Under}
 use Rattle.plans.proofs.Falling.{sweep-under, rests-least, least-below, least-mono}
@@ -29,6 +30,7 @@ use Rattle.plans.proofs.Settling as Settling
 use Rattle.plans.proofs.Replacing as Replacing
 use Rattle.plans.proofs.Bounds.{visited-rest, leads-rest}
 use Rattle.plans.proofs.Staging as Staging
+use Rattle.plans.proofs.Budgeting as Budgeting
 -- ---- tables, visits and sweeps, for the crates above
 pub use Rattle.plans.proofs.Table.{at-getD, at-set-same, at-set-other}
 pub use Rattle.plans.proofs.Falling.{least-bound, way-same, lower-still, rests-least, never-above}
@@ -45,17 +47,17 @@ pub use Rattle.plans.proofs.Table.{at-ext}
 pub use Rattle.plans.proofs.Standing.{exact-table, standing-start, priced-start, standing-above, continued, settled-stays, lower-start, between-settles, pad-settles, pad-idle, lowered-stages, lowered-under}
 pub use Rattle.plans.proofs.Alike.{lower-reads, renew-reads, rests-alike, alike-settles}
 -- ---- numbers within a budget (K12), as specs/Budget.antt states it; `way-fixed`, what an offer is, for a reader
-pub use Rattle.plans.proofs.Budgeting.{way-fixed, fixed-exact, other-between, budget-stops, steps-counted, more-budget, budget-ends, budget-same, idle-same, among-most, first-cheapest, step-first, step-none, bid-open, bid-kept, offered-one, offered-none}
+pub use Rattle.plans.proofs.Budgeting.{way-fixed, fixed-exact, other-between, budget-stops, steps-counted, more-budget, budget-ends, budget-same, idle-same, among-most, first-cheapest, step-first, step-none, bid-kept, offered-one, offered-none, at-none}
 -- ---- what request K3 rests on
-pub use Rattle.plans.proofs.Tracing.{first-least, traced-numbers, traces-agree, unmarked-stood, settled-row}
+pub use Rattle.plans.proofs.Tracing.{first-least, sweep-numbers, traced-numbers, traces-agree, unmarked-stood, settled-row}
 
 -- ---- the theorems that specs/Statements.antt states of one run
 
 pub attained-lower : AttainedStays lower
 attained-lower S vs k xs = Exactness.sweeps-attained S lower (Exactness.lower-attains S) vs k xs
 
-pub attained-renew : AttainedStays renew
-attained-renew S vs k xs = Exactness.sweeps-attained S renew (Exactness.renew-attains S) vs k xs
+pub bid-open : BidOpen
+bid-open S xs n = Budgeting.bid-open S xs n
 
 pub none-cheaper : NoneCheaper
 none-cheaper S xs inside prices rest n p =

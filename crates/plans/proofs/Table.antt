@@ -1,9 +1,9 @@
 -- The table as numbers by node: what a store changes, when two tables are the same, and when one lies under another.
 -- Assumes nothing.
-use mathlib.Core.Bool.{Bool, true, false, _&&_}
+use mathlib.Core.Bool.{true}
 use mathlib.Core.List.{List, [], _∷_}
 use mathlib.Core.Logic.{_≢_}
-use mathlib.Core.Path.{_≡_, refl, sym, _∙_, ap₂}
+use mathlib.Core.Path.{_≡_, refl, _∙_, ap₂}
 use Prim.Native.Nat.{ℕ, zero, suc, _≤_, _<_}
 use native.Mathlib.Decide.{ℕ-discrete, decLt}
 use native.Mathlib.Nat.{le-refl, le-trans, le-antisymm}
@@ -12,6 +12,7 @@ use borrow.Author.Tests.{eqb-true, eq-eqb}
 use lib.Dec.{eqb}
 use lib.ListN.{length, getD, set, length-set}
 use lib.Seq.{getD-set-same, getD-set-other, set-out, ext-getD}
+use Rattle.reading.proofs.Laws.{and-left, and-right}
 use Rattle.cost.specs.Cost.{never}
 use Rattle.plans.specs.Sweep.{at, same}
 pub use Rattle.plans.specs.Standing.{Under}
@@ -33,18 +34,14 @@ at-getD (x ∷ xs) (suc n) d h = at-getD xs n d (omega arith)
 
 -- ---- the same table
 
-and-true : (b c : Bool) → (b && c) ≡ true → (b ≡ true) × (c ≡ true)
-and-true true c e = (refl, e)
-and-true false c e = let z : true ≡ false = sym e in (e, cc)
-
 pub same-true : (xs ys : List ℕ) → same xs ys ≡ true → xs ≡ ys
 unfolding same
 same-true [] [] e = refl
 same-true [] (y ∷ ys) e = cc
 same-true (x ∷ xs) [] e = cc
 same-true (x ∷ xs) (y ∷ ys) e =
-    let h : (eqb x y ≡ true) × (same xs ys ≡ true) = and-true (eqb x y) (same xs ys) e in
-    ap₂ (λ (a : ℕ) (l : List ℕ). a ∷ l) (eqb-true x y (h .0)) (same-true xs ys (h .1))
+    ap₂ (λ (a : ℕ) (l : List ℕ). a ∷ l) (eqb-true x y (and-left (eqb x y) (same xs ys) e))
+    (same-true xs ys (and-right (eqb x y) (same xs ys) e))
 
 pub same-refl : (xs : List ℕ) → same xs xs ≡ true
 unfolding same

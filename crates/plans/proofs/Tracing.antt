@@ -14,7 +14,7 @@ use lib.ListN.{length, set, length-set, replicate, length-replicate, getD-replic
 use lib.Seq.{getD-set-same, getD-set-other}
 use Rattle.cost.specs.Cost.{most, never, _⊕_, capped, counted, lesser}
 use Rattle.reading.specs.Choice.{pick}
-use Rattle.cost.proofs.Laws.{sum-form, sum-exact, sum-left, sum-right}
+use Rattle.cost.proofs.Laws.{sum-small, sum-exact, sum-left, sum-right}
 use Rattle.plans.specs.System.{Way, Visit}
 use Rattle.plans.specs.Sweep.{at, sums, way, least, Rule, renew, lower, sweep, sweeps, Rests, Inside, Bounded, Once, Above}
 use Rattle.plans.specs.Trace.{
@@ -90,9 +90,6 @@ way-among (w ∷ ws) zero h = List·Memᴰ·head refl
 way-among (w ∷ ws) (suc p) h = List·Memᴰ·tail (way-among ws p (omega arith))
 
 -- ---- a lower need makes a lower sum
-
-sum-small : (a b : ℕ) → a ⊕ b ≤ most → a ⊕ b ≡ a + b
-sum-small a b h = rw (sum-form a b) (omega (arith, rw (sum-form a b) at h))
 
 sum-strict : (a b c d : ℕ) → a ≤ c → b ≤ d → (a < c) ⊎ (b < d) → c ⊕ d ≤ most → a ⊕ b < c ⊕ d
 sum-strict a b c d h k l m = side (sum-small c d m) l
@@ -337,7 +334,7 @@ module _ (vs : List Visit) (xs : List ℕ) where
 
 -- ---- the numbers are those of the sweeps
 
-sweep-numbers : (rule : Rule) (vs : List Visit) (t : Trace) → traceSweep rule vs t .numbers ≡ sweep rule vs (t .numbers)
+pub sweep-numbers : (rule : Rule) (vs : List Visit) (t : Trace) → traceSweep rule vs t .numbers ≡ sweep rule vs (t .numbers)
 unfolding traceSweep traceVisit sweep
 sweep-numbers rule [] t = refl
 sweep-numbers rule (v ∷ vs) t = sweep-numbers rule vs (traceVisit rule t v)

@@ -32,8 +32,7 @@ use Rattle.plans.specs.Trace.{firstPlace, wayAt, Mark, markAt, traceSwee
 
 -- ---- the numbers
 
--- `attained-lower`, `attained-renew`: by either rule, every number that is not never is the capped cost of some plan, after any
--- sweeps.
+-- `attained-lower`: by the rule `lower`, every number that is not never is the capped cost of some plan, after any sweeps.
 abbrev pub AttainedStays : Rule → Type 0
 AttainedStays rule =
     (S : System) (vs : List Visit) (k : ℕ) (xs : List ℕ) →

@@ -11,13 +11,14 @@ use lib.Dec.{eqb}
 use lib.ListN.{length, getD, List·getD-map}
 use lib.Pow.{pow-add}
 use borrow.Author.Tests.{ne-eqb, eqb-true}
+use Rattle.laws.proofs.Numbers.{two-four}
 use Rattle.reading.specs.Choice.{pick}
 use Rattle.reading.specs.Each.{Each}
 use Rattle.reading.proofs.Laws.{by-test, clash, and-left, and-right, each-append, each-map}
 use Rattle.truth_tables.specs.Entries.{literalColumns, termColumns, observeColumn, settingRow, observingRow, settingGroup, observingGroup, rowNumber}
 use Rattle.truth_tables.specs.Tables.{Setting, Term, Condition, digit, settings, place, output, same, terms, allOf, prime, primes, gives, putIn, changes, observing}
 use Rattle.truth_tables.proofs.Lists.{map-append, map-map, map-each, each-kept}
-use Rattle.truth_tables.proofs.Order.{terms-length, length-putIn}
+use Rattle.truth_tables.proofs.Order.{place-below, term-below, terms-length, length-putIn}
 use Rattle.prime_rows.specs.Masks.{maskOf, wantedMask, isBit, isOne, Bits, askAt, upFrom, primeRows, spread, numberOf}
 use Rattle.prime_rows.proofs.Primes.{prime-rows}
 
@@ -142,19 +143,6 @@ module _ (b m k D x y : ℕ) (positive : 0 < b) (h : k ≤ m) where
       (let e : (x / w + D * b ^ k) * (b * w) ≡ x / w * (b * w) + D * b ^ suc m = add-mul (x / w) (D * b ^ k) (b * w) ∙ ap (λ (i : ℕ). x / w * (b * w) + i) heavy in
       omega arith)
 
-pub place-below : (s : Setting) → place s < 2 ^ length s
-unfolding place digit
-place-below [] = omega arith
-place-below (false ∷ s) = rw (pow-suc 2 (length s)) (omega (arith, place-below s))
-place-below (true ∷ s) = rw (pow-suc 2 (length s)) (omega (arith, place-below s))
-
-pub term-below : (t : Term) → termColumns t < 4 ^ length t
-unfolding termColumns literalColumns
-term-below [] = omega arith
-term-below (none ∷ t) = rw (pow-suc 4 (length t)) (omega (arith, term-below t))
-term-below (some true ∷ t) = rw (pow-suc 4 (length t)) (omega (arith, term-below t))
-term-below (some false ∷ t) = rw (pow-suc 4 (length t)) (omega (arith, term-below t))
-
 -- The place of a setting with one pin more, which stands behind k pins.
 pub place-putIn : (k : ℕ) (s : Setting) (v : Bool) → k ≤ length s
     → place (putIn k v s) ≡ place s / 2 ^ (length s - k) * (2 * 2 ^ (length s - k)) + digit v * 2 ^ (length s - k) + place s % 2 ^ (length s - k)
@@ -248,12 +236,6 @@ module _ (d n : ℕ) (C : Condition) (wanted : ℕ) (e : wanted ≡ wantedMask n
           let columns : termColumns (putIn k none t) ≡ spread (4 ^ (n - k)) (termColumns t) =
           subst (λ (m : ℕ). termColumns (putIn k none t) ≡ spread (4 ^ (m - k)) (termColumns t)) l (columns-putIn k t (omega arith)) in
           rw (b, columns) (omega arith)
-
-pub two-four : (n : ℕ) → 2 ^ (2 * n) ≡ 4 ^ n
-two-four zero = refl
-two-four (suc n) =
-    let more : 2 * suc n ≡ suc (suc (2 * n)) = omega arith in
-    rw (more, pow-suc 2 (suc (2 * n)), pow-suc 2 (2 * n), pow-suc 4 n, two-four n) (omega arith)
 
 pub observe-four : (n : ℕ) → 2 ^ (2 * n + 2) ≡ 4 * 4 ^ n
 observe-four n = pow-add 2 (2 * n) 2 ∙ rw (two-four n) (omega arith)

@@ -1,11 +1,11 @@
 -- Masks put together from those of fewer pins, and rows without their last digit.
 -- Assumes nothing.
-use mathlib.Core.Bool.{Bool, true, false, not, _&&_, _||_}
+use mathlib.Core.Bool.{Bool, true, false, not, and-false}
 use mathlib.Core.List.{List, [], _∷_, _++_, map}
-use mathlib.Core.Option.{Option, none, some}
+use mathlib.Core.Option.{none, some}
 use mathlib.Core.Path.{_≡_, refl, sym, ap, _∙_}
 use Prim.Native.Nat.{ℕ, zero, suc, _+_, _*_, _-_, _/_, _%_, _^_, _≤_, _<_}
-use native.Mathlib.Nat.{pow-suc, pow-zero, div-div-eq-div-mul, mul-le-mul, mul-le-mul-left, mul-le-mul-right, div-add-mod', mul-assoc, mul-comm, pow-le-pow-right}
+use native.Mathlib.Nat.{pow-suc, div-div-eq-div-mul, mul-le-mul-left, mul-le-mul-right, div-add-mod', mul-assoc, mul-comm, pow-le-pow-right}
 use native.Mathlib.Omega.{arith}
 use lib.Dec.{eqb}
 use lib.ListN.{length, length-append, length-map}
@@ -14,9 +14,10 @@ use borrow.Author.Tests.{eqb-true, eqb-false}
 use Rattle.reading.specs.Choice.{pick}
 use Rattle.reading.proofs.Laws.{by-test}
 use Rattle.truth_tables.specs.Entries.{literalColumns, termColumns}
-use Rattle.truth_tables.specs.Tables.{Setting, Term, Condition, digit, settings, same, fits, meets}
+use Rattle.truth_tables.specs.Tables.{Term, Condition, digit, settings, same, fits, meets}
 use Rattle.truth_tables.proofs.Lists.{map-append, map-map}
-use Rattle.prime_rows.specs.Masks.{maskOf, wantedMask, coverMask, upFrom, literal, termOf, termBut, widened, loose, fixed}
+use Rattle.truth_tables.proofs.Order.{digit-most}
+use Rattle.prime_rows.specs.Masks.{maskOf, wantedMask, coverMask, upFrom, literal, termOf, widened, loose, fixed}
 
 -- ---- masks
 
@@ -27,11 +28,6 @@ mask-append (x ∷ xs) ys = rw (mask-append xs ys, pow-suc 2 (length xs)) (turne
   where
     turned : (d m p q : ℕ) → d + 2 * (m + p * q) ≡ d + 2 * m + p * 2 * q
     turned d m p q = rw (mul-assoc p 2 q, mul-comm 2 q, ← mul-assoc p q 2) (omega arith)
-
-digit-most : (b : Bool) → digit b ≤ 1
-unfolding digit
-digit-most true = omega arith
-digit-most false = omega arith
 
 pub mask-below : (xs : List Bool) → maskOf xs < 2 ^ length xs
 unfolding maskOf
@@ -162,8 +158,4 @@ fixed-not wanted n row i zero h e = absurd (omega arith)
 fixed-not wanted n row i (suc m) h e =
     by-test (eqb i m)
     (λ same-pin. rw (← eqb-true i m same-pin, e) refl)
-    (λ other. rw (fixed-not wanted n row i m (omega (arith, eqb-false i m other)) e) (right (not (loose wanted n row (row / 3 ^ m % 3) m))))
-  where
-    right : (b : Bool) → (b && false) ≡ false
-    right true = refl
-    right false = refl
+    (λ other. rw (fixed-not wanted n row i m (omega (arith, eqb-false i m other)) e) (and-false (not (loose wanted n row (row / 3 ^ m % 3) m))))

@@ -43,27 +43,21 @@ and-digits a c M N = and-step (digit a + 2 * M) (digit c + 2 * N) ∙ go a c
         ≡ bitAnd M N * 2 + digit (a && c)
     go a c = rw (half a M, half c N, odd a M, odd c N, least a c) refl
 
+same-test : (x M d : ℕ) → eqb (x * 2 + d) (d + 2 * M) ≡ eqb x M
+same-test x M d =
+    by-test (eqb x M)
+    (λ e. eq-eqb (x * 2 + d) (d + 2 * M) (omega (arith, eqb-true x M e)) ∙ sym e)
+    (λ e. ne-eqb (x * 2 + d) (d + 2 * M) (λ q. eqb-false x M e (omega arith)) ∙ sym e)
+
 -- Two numbers whose lowest bits are known are the same where those are, and the rest.
 eqb-digits : (a c : Bool) (x M : ℕ) → eqb (x * 2 + digit (a && c)) (digit a + 2 * M) ≡ ((not a || c) && eqb x M)
 unfolding digit
 eqb-digits true true x M = same-test x M 1
-  where
-    same-test : (x M d : ℕ) → eqb (x * 2 + d) (d + 2 * M) ≡ eqb x M
-    same-test x M d =
-        by-test (eqb x M)
-        (λ e. eq-eqb (x * 2 + d) (d + 2 * M) (omega (arith, eqb-true x M e)) ∙ sym e)
-        (λ e. ne-eqb (x * 2 + d) (d + 2 * M) (λ q. eqb-false x M e (omega arith)) ∙ sym e)
 eqb-digits true false x M = ne-eqb (x * 2 + 0) (1 + 2 * M) (λ e. odd-even x M e)
   where
     odd-even : (x M : ℕ) → x * 2 + 0 ≡ 1 + 2 * M → ⊥
     odd-even x M e = omega arith
 eqb-digits false c x M = same-test x M 0
-  where
-    same-test : (x M d : ℕ) → eqb (x * 2 + d) (d + 2 * M) ≡ eqb x M
-    same-test x M d =
-        by-test (eqb x M)
-        (λ e. eq-eqb (x * 2 + d) (d + 2 * M) (omega (arith, eqb-true x M e)) ∙ sym e)
-        (λ e. ne-eqb (x * 2 + d) (d + 2 * M) (λ q. eqb-false x M e (omega arith)) ∙ sym e)
 
 within-mask : (m C : Condition) (ss : List Setting) → implied (maskOf (map C ss)) (maskOf (map m ss)) ≡ allOf (λ s. not (m s) || C s) ss
 unfolding implied maskOf allOf

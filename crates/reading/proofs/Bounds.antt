@@ -4,9 +4,10 @@
 use mathlib.Core.Bool.{Bool, true, false, not, _&&_}
 use mathlib.Core.List.{List, [], _∷_}
 use mathlib.Core.Option.{Option, none, some}
-use mathlib.Core.Path.{_≡_, refl, sym}
+use mathlib.Core.Path.{_≡_}
 use Prim.Native.Nat.{ℕ, _≤_}
 use lib.Dec.{leb, eqb}
+use borrow.Author.Tests.{not-true}
 use Rattle.reading.specs.Choice.{pick}
 use Rattle.reading.specs.Numbers as No
 use Rattle.reading.specs.Refusal.{Read, refused, read, _>>=_, _>>_, weigh, form}
@@ -56,10 +57,6 @@ module _ (may : ℕ → Bool) (n : ℕ) where
   within-weigh line (x ∷ xs) k h =
       within-pick (x .1) (refused (x .0) line) (weigh line xs) (and-left (may (x .0)) (numbered may xs) h, k)
       (within-weigh line xs k (and-right (may (x .0)) (numbered may xs) h))
-
-not-true : (b : Bool) → not b ≡ true → b ≡ false
-not-true true h = sym h
-not-true false h = refl
 
 pub text-not-entry : (number : ℕ) → textNumber number ≡ true → No.ofEntry number ≡ false
 text-not-entry number h =

@@ -1,49 +1,19 @@
--- The laws that readers share: of tests, of what holds of each element of a list, and of what reading comes to.
+-- The laws that readers share: of what holds of each element of a list, and of what reading comes to; with those of tests,
+-- which are at home in crate `laws`.
 -- Assumes nothing.
-use mathlib.Core.Bool.{Bool, true, false, true≢false, _&&_, _||_}
+use mathlib.Core.Bool.{Bool, true, false}
 use mathlib.Core.List.{List, [], _∷_, _++_, List·Memᴰ, List·Memᴰ·head, List·Memᴰ·tail}
-use mathlib.Core.Logic.{_⊎_, inl, inr}
 use mathlib.Core.Option.{Option, none, some}
-use mathlib.Core.Path.{_≡_, refl, sym, subst, _∙_}
+use mathlib.Core.Path.{_≡_, refl, sym, subst}
 use Prim.Native.Nat.{ℕ, zero, suc, _<_}
 use native.Mathlib.Nat.{not-suc-le-zero, le-of-suc-le-suc}
 use native.Mathlib.Omega.{arith}
 use lib.ListN.{length, getD}
+pub use Rattle.laws.proofs.Tests.{by-test, clash, and-left, and-right, or-left, or-right, or-cases}
 use Rattle.reading.specs.Choice.{pick}
 use Rattle.reading.specs.Each.{Each}
 use Rattle.reading.specs.Refusal.{Read, refused, read, _>>=_, _>>_, weigh, form}
 use Rattle.reading.specs.Verdict.{doneRead}
-
--- ---- tests
-
--- A test is true or it is false.
-pub by-test : {A : Type 0} (t : Bool) → (t ≡ true → A) → (t ≡ false → A) → A
-by-test true yes-way no-way = yes-way refl
-by-test false yes-way no-way = no-way refl
-
-pub clash : {A : Type 0} (b : Bool) → b ≡ true → b ≡ false → A
-clash b p q = absurd (true≢false (sym p ∙ q))
-
-pub and-left : (a b : Bool) → (a && b) ≡ true → a ≡ true
-and-left true b h = refl
-and-left false b h = h
-
-pub and-right : (a b : Bool) → (a && b) ≡ true → b ≡ true
-and-right true b h = h
-and-right false true h = refl
-and-right false false h = h
-
-pub or-left : (a b : Bool) → (a || b) ≡ false → a ≡ false
-or-left true b e = e
-or-left false b e = refl
-
-pub or-right : (a b : Bool) → (a || b) ≡ false → b ≡ false
-or-right true b e = clash true refl e
-or-right false b e = e
-
-pub or-cases : (a b : Bool) → (a || b) ≡ true → (a ≡ true) ⊎ (b ≡ true)
-or-cases true b e = inl refl
-or-cases false b e = inr e
 
 -- ---- what holds of each
 
@@ -88,6 +58,23 @@ pub then-read : {A B C : Type 0} (m : Read A) (r : Read B) (b : B) → ((a : A) 
 unfolding _>>_
 then-read (refused number line) r b on e = refused-read e
 then-read (read a) r b on e = on a refl e
+
+-- Where two steps are refused, one of them is.
+pub bind-refused : {A B C : Type 0} (m : Read A) (f : A → Read B) (number line : ℕ) → (m ≡ refused number line → C)
+    → ((a : A) → m ≡ read a → f a ≡ refused number line → C) → (m >>= f) ≡ refused number line → C
+unfolding _>>=_
+bind-refused (refused n l) f number line stops goes e = stops cc
+bind-refused (read a) f number line stops goes e = goes a refl e
+
+pub then-refused : {A B C : Type 0} (m : Read A) (r : Read B) (number line : ℕ) → (m ≡ refused number line → C)
+    → ((a : A) → m ≡ read a → r ≡ refused number line → C) → (m >> r) ≡ refused number line → C
+unfolding _>>_
+then-refused (refused n l) r number line stops goes e = stops cc
+then-refused (read a) r number line stops goes e = goes a refl e
+
+-- Two refusals that are the same.
+pub same-refusal : {A : Type 0} (n k m l : ℕ) → _≡_ {A = Read A} (refused n k) (refused m l) → (n ≡ m) × (k ≡ l)
+same-refusal n k m l e = (cc, cc)
 
 pub form-read : {A : Type 0} (number line : ℕ) (o : Option A) (a : A) → form number line o ≡ read a → o ≡ some a
 unfolding form

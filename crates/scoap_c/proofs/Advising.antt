@@ -16,6 +16,7 @@ use Rattle.reading.proofs.Laws.{by-test, refused-read}
 use Rattle.writer.specs.Buffer.{codeOf, LineBelow}
 use Rattle.calculation.specs.declared.Advice.{Advice}
 use Rattle.calculation.specs.declared.Advice.the-variants.{NoneAllowed, Pad}
+use Rattle.calculation.proofs.Advising.{none-pad}
 use Rattle.outcome.specs.Outcome.{givenTexts, answer}
 use Rattle.outcome.specs.Own.{ownTables}
 use Rattle.outcome.proofs.Bounds.{refusal-told}
@@ -46,9 +47,6 @@ module _ {A : Type 0} (lib net : List ℕ) (size : ℕ) (before after : List ℕ
       refusal-told lib net (ownTables []) number line (sym (ap answer o))))
 
 -- ---- the advice
-
-none-pad : (l x : ℕ) → _≡_ {A = Read Advice} (read NoneAllowed) (read (Pad l x)) → ⊥
-none-pad l x e = let z : _≡_ {A = ℕ} 0 1 = cc in omega arith
 
 module _ (lib net forbidden before after : List ℕ) (r : Advised) (p : AdvicePromised (givenTexts lib net) forbidden before after (advisedRead r)) where
   within : Within anyNumber lastLine (advisedRead r)

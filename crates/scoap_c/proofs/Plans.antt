@@ -14,7 +14,7 @@ use Rattle.reading.specs.Numbers as No
 use Rattle.reading.specs.Refusal.{Read, refused, read, _>>=_, weigh}
 use Rattle.reading.specs.declared.Refusal.{Refusal}
 use Rattle.reading.proofs.Bounds.{Within, anyNumber, within-bind, within-then, within-weigh}
-use Rattle.reading.proofs.Laws.{by-test, clash, refused-read, then-read}
+use Rattle.reading.proofs.Laws.{by-test, clash, refused-read, then-read, bind-refused, then-refused}
 use Rattle.writer.specs.declared.Written.{Written}
 use Rattle.writer.specs.declared.Written.the-variants.{Length, Refused}
 use Rattle.writer.specs.Buffer.{textWithin, lengthRead, leftBy, writtenRead, codeLines, codeOf, LineBelow, Refuses}
@@ -28,7 +28,6 @@ use Rattle.outcome.proofs.Bounds.{pair-within, behind-entry}
 use Rattle.outcome.proofs.Checking.{texts-checked}
 use Rattle.outcome.proofs.Entering.{own-fit}
 use Rattle.outcome.proofs.Fitting.{entry-number}
-use Rattle.outcome.proofs.Refusing.{bind-refused, then-refused}
 use Rattle.planning.specs.Promise.{askedNumber, kindOf, planRead, planOutcome, PlanSeen, PlanPromised}
 use Rattle.planning.proofs.Promising.{length-refused}
 use Rattle.planning.proofs.Printing.{text-left}

@@ -13,7 +13,7 @@ use Rattle.reading.specs.Refusal.{Read, refused, read, _>>_}
 use Rattle.reading.specs.Choice.{pick}
 use Rattle.reading.specs.declared.Refusal.{Refusal}
 use Rattle.reading.proofs.Bounds.{Within, anyNumber}
-use Rattle.reading.proofs.Laws.{by-test, refused-read}
+use Rattle.reading.proofs.Laws.{by-test, refused-read, then-refused}
 use Rattle.writer.specs.Buffer.{codeLines, refusalCode, codeOf, LineBelow}
 use Rattle.cell_library.specs.Layout.{libraryWords}
 use Rattle.netlist.specs.Layout.{netlistWords}
@@ -23,7 +23,6 @@ use Rattle.outcome.proofs.Bounds.{pair-within, behind-entry}
 use Rattle.outcome.proofs.Checking.{texts-checked}
 use Rattle.outcome.proofs.Entering.{own-fit}
 use Rattle.outcome.proofs.Fitting.{entry-number, entry-short, pair-number}
-use Rattle.outcome.proofs.Refusing.{then-refused}
 use Rattle.read_pair.specs.declared.Progress.{Progress}
 use Rattle.read_pair.specs.declared.Progress.the-variants.{Unrefused, AtEntry, Later}
 use Rattle.read_pair.specs.Progress.{Reached}

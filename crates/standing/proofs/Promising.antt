@@ -29,6 +29,7 @@ use Rattle.calculation.specs.Standing.{Standing, OnePadMore}
 use Rattle.calculation.proofs.Laws.{own-figures, exact, numbers-length, node-inside}
 use Rattle.calculation.proofs.Padding.{both-sound, padded-more, placeable-sound, said, free}
 use Rattle.calculation.proofs.Standing.{pads-few, step-standing, one-pad-more}
+use Rattle.outcome.proofs.Numbers.{placed-purpose}
 use Rattle.outcome.specs.Outcome.{Given, Pair, readPair}
 use Rattle.outcome.proofs.Accepting.{read-as}
 use Rattle.outcome.proofs.Checking.{Checked}
@@ -37,7 +38,7 @@ use Rattle.standing.specs.Calls.{comes, tableShort, answerShort, ticketO
 use Rattle.standing_table.specs.Table.{answerPlace}
 use Rattle.standing.specs.Promise.{Answered, AskRefused, PadSeen, AskPromised, CommitRefused, CommitPromised}
 use Rattle.standing_table.specs.Table.{standingWords, padsHeld, observedPlace, observedWords, stateHeld, StandsIn}
-use Rattle.standing.proofs.Standing.{placed-purpose, numbers-size, table-long, held-standing, comes-standing, means}
+use Rattle.standing.proofs.Standing.{numbers-size, table-long, held-standing, comes-standing, means}
 use Rattle.standing_table.proofs.Table.{numbers-part, number-at, observed-length, observed-word, observed-at}
 
 -- ---- the checks of an ask and of a commit

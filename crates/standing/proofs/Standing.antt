@@ -13,16 +13,15 @@ use Rattle.reading.specs.Refusal.{Read, read, _>>=_, _>>_, weigh}
 use Rattle.cost.specs.Cost.{never}
 use Rattle.cell_library.specs.Cells.{Cell}
 use Rattle.netlist.specs.Netlist.{Statement}
-use Rattle.netlist.specs.Sound.{InRange}
 use Rattle.calculation.specs.Prices.{pricesOf}
-use Rattle.calculation.specs.Nodes.{Purpose, set, observe, node}
+use Rattle.calculation.specs.Nodes.{node}
 use Rattle.calculation.specs.Calculation.{analysed}
 use Rattle.calculation.specs.Plans.{Exact}
 use Rattle.calculation.specs.Pads.{State, statementsOf, Operation, checked}
 use Rattle.calculation.specs.Standing.{Standing}
-use Rattle.calculation.proofs.Laws.{Placed, own-figures, exact, settled, numbers-length, entry-bounded, node-inside}
+use Rattle.calculation.proofs.Laws.{own-figures, exact, settled, numbers-length, entry-bounded, node-inside}
 use Rattle.calculation.proofs.Standing.{pads-few}
-use Rattle.outcome.specs.Demands.{Reported}
+use Rattle.outcome.proofs.Numbers.{placed-purpose}
 use Rattle.outcome.specs.Outcome.{Given, readPair}
 use Rattle.rerun.specs.Standing.{held}
 use Rattle.standing_texts.specs.Held.{entered, foreign, heldBy}
@@ -30,11 +29,6 @@ use Rattle.standing.specs.Calls.{comes, tableShort}
 use Rattle.standing.specs.Promise.{Meant}
 use Rattle.standing_table.specs.Table.{standingWords, analysisHeld, stateHeld, StandsIn}
 use Rattle.standing_table.proofs.Table.{standing-length, numbers-part, pads-part, counts-part, number-at, held-same}
-
-pub placed-purpose : (p : Purpose) → Reported p → Placed p
-unfolding InRange
-placed-purpose (set l v) h = ((h .0, h .1), h .2)
-placed-purpose (observe l) h = (h .0, h .1)
 
 module _ {given : List Cell → Read (List Statement)} (s : State) (h : Standing given s) where
   pub numbers-size : length (s .analysis .numbers) ≡ Size.numbers

@@ -1,24 +1,23 @@
 -- The laws of texts, fields, numerals and classes that other crates cite, and what this crate's own proofs share.
 -- Assumes nothing.
 use mathlib.Core.Bool.{Bool, true, false, not, _&&_, _||_}
-use mathlib.Core.List.{List, [], _∷_, _++_, List·Memᴰ, List·Memᴰ·head, List·Memᴰ·tail, List·Memᴰ·cases-cons, List·Memᴰ·not-nil}
-use mathlib.Core.Logic.{_↔_, _⊎_, inl, inr, ⊎-elim}
+use mathlib.Core.List.{List, [], _∷_, _++_, List·Memᴰ, List·Memᴰ·head, List·Memᴰ·tail, List·Memᴰ·not-nil}
 use mathlib.Core.Option.{none, some}
-use mathlib.Core.Path.{_≡_, refl, sym, ap, subst, _∙_}
+use mathlib.Core.Path.{_≡_, refl, sym, ap, _∙_}
 use Prim.Native.Nat.{ℕ, suc, _+_, _*_, _-_, _^_, _≤_, _<_}
-use native.Mathlib.Nat.{zero-add, add-zero, add-suc, suc-add, pow-zero, pow-suc, pow-le-pow-right, mul-le-mul-right}
+use native.Mathlib.Nat.{pow-suc, mul-le-mul-right}
 use native.Mathlib.Omega.{arith}
 use lib.Dec.{leb, ltb, eqb, leb·suc-suc}
-use lib.ListN.{length, getD, take, drop, length-take, length-drop, drop-of-length-le}
-use lib.Seq.{drop-drop, getD-drop}
-use borrow.Author.Tests.{le-leb, lt-leb, eq-eqb, ne-eqb, leb-true, leb-false, ltb-true, eqb-true, eqb-false}
+use lib.ListN.{length, take, drop, length-take, length-drop, drop-of-length-le}
+use lib.Seq.{drop-drop}
+use borrow.Author.Tests.{le-leb, lt-leb, eq-eqb, ne-eqb, leb-true, leb-false, ltb-true, eqb-true}
 use Rattle.sizes.specs.Sizes as Size
 use Rattle.reading.proofs.Laws.{by-test, and-left, and-right}
 use Rattle.text.specs.declared.Class.the-variants.{Digit, Letter, Comma, LineEnd, Other}
 use Rattle.reading.specs.Choice.{pick}
 use Rattle.text.specs.Class.{between, classOf, isDigit, isLetterOrDigit, endOf, ends}
 use Rattle.text.specs.Lines.{cut, split, fields, unended, ended, lines, stop, span, part, partsFrom, nextAfter, fieldsFrom, linesFrom, sameBytes}
-use Rattle.text.specs.Numeral.{digitBelow, allDigits, value, noLeadingZero, wellFormed, numeral, decimal, nameByte, allName, nameForm}
+use Rattle.text.specs.Numeral.{digitBelow, allDigits, value, noLeadingZero, wellFormed, numeral, nameByte, allName, nameForm}
 
 -- ---- classes
 
@@ -299,10 +298,6 @@ sameBytes-true (a ∷ s) (b ∷ t) h =
     let tails : s ≡ t = sameBytes-true s t (and-right (eqb a b) (sameBytes s t) h) in
     cc
 
--- Two strings match byte for byte where they are equal, and only there.
-pub sameBytes-iff : (a b : List ℕ) → (sameBytes a b ≡ true) ↔ (a ≡ b)
-sameBytes-iff a b = (sameBytes-true a b, λ e. rw e (sameBytes-refl b))
-
 pub sameBytes-other : (a b : List ℕ) → (length a ≡ length b → ⊥) → sameBytes a b ≡ false
 sameBytes-other a b other = by-test (sameBytes a b) (λ e. absurd (other (ap length (sameBytes-true a b e)))) (λ e. e)
 
@@ -321,25 +316,7 @@ pub digit-step : (base acc k b : ℕ) → acc < base ^ k → digitBelow base b �
 digit-step base acc k b h d =
     omega (arith, pow-suc base k, mul-le-mul-right base h, digit-low base b d, digit-high base b d)
 
-value-grows : (base acc k : ℕ) (f : List ℕ) → acc < base ^ k → allDigits base f ≡ true → value base acc f < base ^ (k + length f)
-unfolding value allDigits
-value-grows base acc k [] h d = rw (add-zero k) h
-value-grows base acc k (b ∷ f) h d =
-    rw (add-suc k (length f), ← suc-add k (length f))
-    (value-grows base (acc * base + (b - 48)) (suc k) f (digit-step base acc k b h (and-left (digitBelow base b) (allDigits base f) d)) (and-right (digitBelow base b) (allDigits base f) d))
-
--- The value of so many digits is below that power of the base.
-pub value-below : (base : ℕ) (f : List ℕ) → allDigits base f ≡ true → value base 0 f < base ^ length f
-value-below base f d = rw zero-add at (value-grows base 0 0 f (omega (arith, pow-zero base)) d)
-
 module _ (base most : ℕ) (f : List ℕ) where
-  pub wellFormed-length : wellFormed base most f ≡ true → length f ≤ most
-  unfolding wellFormed
-  wellFormed-length h =
-      leb-true (length f) most
-      (and-left (leb (length f) most) (noLeadingZero f && allDigits base f)
-      (and-right (leb 1 (length f)) (leb (length f) most && (noLeadingZero f && allDigits base f)) h))
-
   pub wellFormed-digits : wellFormed base most f ≡ true → allDigits base f ≡ true
   unfolding wellFormed
   wellFormed-digits h =
@@ -355,16 +332,12 @@ module _ (base most : ℕ) (f : List ℕ) where
   unfolding numeral pick
   numeral-bad h = rw h
 
-  pub numeral-below : (v : ℕ) → 0 < base → numeral base most f ≡ some v → v < base ^ most
-  numeral-below v positive e = by-test (wellFormed base most f) good bad
-    where
-      good : wellFormed base most f ≡ true → v < base ^ most
-      good h =
-          let same-value : value base 0 f ≡ v = cc (numeral-good h) in
-          omega (arith, value-below base f (wellFormed-digits h), pow-le-pow-right positive (wellFormed-length h))
-
-      bad : wellFormed base most f ≡ false → v < base ^ most
-      bad h = let z : _≡_ {A = ℕ} 0 1 = cc (numeral-bad h) in omega arith
+-- No byte of digits is below "0".
+pub digits-free : (base mark : ℕ) (f : List ℕ) → mark < 48 → allDigits base f ≡ true → List·Memᴰ mark f → ⊥
+unfolding allDigits
+digits-free base mark [] h d m = List·Memᴰ·not-nil m
+digits-free base mark (b ∷ f) h d (List·Memᴰ·head e) = omega (arith, e, digit-low base b (and-left (digitBelow base b) (allDigits base f) d))
+digits-free base mark (b ∷ f) h d (List·Memᴰ·tail m) = digits-free base mark f h (and-right (digitBelow base b) (allDigits base f) d) m
 
 -- ---- names
 

@@ -13,7 +13,7 @@ use Rattle.sizes.specs.Places.{settingPlace, markPlace}
 use Rattle.plans.specs.System.{Visit}
 use Rattle.plans.specs.Sweep.{lower, sweep, Rests, Inside, Bounded}
 use Rattle.plans.specs.Trace.{Mark, Trace, markAt, traceSweep, traceSweeps, untraced}
-use Rattle.plans.proofs.Laws.{traced-numbers}
+use Rattle.plans.proofs.Laws.{sweep-numbers, traced-numbers}
 use Rattle.cell_library.specs.Cells.{Cell}
 use Rattle.netlist.specs.Netlist.{Statement, gatesOf}
 use Rattle.netlist.proofs.Places.{netlist-count}
@@ -33,7 +33,7 @@ use Rattle.trace.specs.Lowered.{settingTrace}
 use Rattle.trace.specs.Marks.{NotedAs, AllNoted, Stands}
 use Rattle.trace.specs.Runs.{Traced}
 use Rattle.trace.proofs.Sweeping.{turns, turns-length, all-turns}
-use Rattle.trace.proofs.Tracing.{trace-time, trace-numbers, traces-last, traces-add, resting}
+use Rattle.trace.proofs.Tracing.{trace-time, traces-last, traces-add, resting}
 use Rattle.trace.proofs.Standing.{visits, trace-lower, visits-inside}
 
 module _ (kind : ℕ) (library netlist : List ℕ) where
@@ -128,7 +128,7 @@ module _ (kind : ℕ) (library netlist : List ℕ) where
         let t = untraced (linesStart false netlist Size.lines 1) in
         let last = after (suc done) in
         let same : last .numbers ≡ after done .numbers = sym (s′ .numbersAre) ∙ still ∙ s .numbersAre in
-        let swept : last .numbers ≡ sweep lower run-visits (after done .numbers) = ap (λ (x : Trace). x .numbers) (traces-last lower run-visits done t) ∙ trace-numbers lower run-visits (after done) in
+        let swept : last .numbers ≡ sweep lower run-visits (after done .numbers) = ap (λ (x : Trace). x .numbers) (traces-last lower run-visits done t) ∙ sweep-numbers lower run-visits (after done) in
         let rests : Rests lower run-visits (last .numbers) = rw same (sym swept ∙ same) in
         let r = resting run-visits more last (inside (last .numbers) (ap length (sym (s′ .numbersAre)) ∙ long)) rests in
         let whole : traceSweeps lower run-visits more last ≡ settingTrace k cells ss = sym (traces-add lower run-visits (suc done) more t) ∙ ap after all ∙ all-is in

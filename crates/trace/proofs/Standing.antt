@@ -23,15 +23,12 @@ use Rattle.calculation.specs.Ways.{cellOf, pinLine, asked, Role, setting, obser
 use Rattle.calculation.specs.Acceptance.{BothSound}
 use Rattle.calculation.specs.Calculation.{start, settingStage, stages, analysed}
 use Rattle.calculation.specs.Settled.{Settled}
-use Rattle.calculation.proofs.Laws.{own-figures}
+use Rattle.calculation.proofs.Laws.{kinds-apart, own-figures}
 use Rattle.calculation.proofs.Placing.{Placed, node-inside, node-injective, start-length}
 use Rattle.calculation.proofs.Visiting.{Sets, Observes, MayName, visiting-node, Offer, offer, offer-need, setting-from, observing-from, sets-has, observes-has, asks-named}
 use Rattle.calculation.proofs.Accepting.{purpose-placed, asked-placed}
 use Rattle.calculation.proofs.Bounding.{works, settled}
 use Rattle.trace.specs.Lowered.{settingTrace}
-
-kind-clash : combinational ≡ sequential → ⊥
-kind-clash e = let z : _≡_ {A = ℕ} 0 1 = cc in omega arith
 
 set-observe : (l v m : ℕ) → set l v ≡ observe m → ⊥
 set-observe l v m e = let z : _≡_ {A = ℕ} 0 1 = cc in omega arith
@@ -156,7 +153,7 @@ module _ (cells : List Cell) (ss : List Statement) (sound : BothSound cells ss) 
         ap (λ (ws : List ℕ). at ws n) e
         ∙ settles-other lower lower-stores s4 n (not-observed combinational l v placed sequential)
         ∙ settles-other lower lower-stores s3 n (not-observed combinational l v placed combinational)
-        ∙ settles-other renew renew-stores s2 n (other-kind combinational l v placed sequential (λ q. kind-clash (sym q)))
+        ∙ settles-other renew renew-stores s2 n (other-kind combinational l v placed sequential (λ q. kinds-apart (sym q)))
         ∙ ap (λ (ws : List ℕ). at ws n) (settles-once renew (visits combinational) (start ss) y1 _ _ _ s1 (settles combinational) .1)
     alone sequential zs counts (stage {ys = y1} s1 (stage {ys = y2} s2 (stage {ys = y3} s3 (stage {ys = y4} s4 (ended e))))) =
         let n = node sequential (set l v) in
@@ -164,7 +161,7 @@ module _ (cells : List Cell) (ss : List Statement) (sound : BothSound cells ss) 
         alike-settles renew renew-stores renew-reads (Own sequential) (visits sequential) y1 (start ss) y2 _ (looks sequential)
         (record {
           long = settles-length renew renew-stores s1;
-          same = λ j o. rw (o .3) (settles-other renew renew-stores s1 (node sequential (set (o .0) (o .1))) (other-kind sequential (o .0) (o .1) (o .2) combinational kind-clash));
+          same = λ j o. rw (o .3) (settles-other renew renew-stores s1 (node sequential (set (o .0) (o .1))) (other-kind sequential (o .0) (o .1) (o .2) combinational kinds-apart));
         })
         s2 in
         ap (λ (ws : List ℕ). at ws n) e

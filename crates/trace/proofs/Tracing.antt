@@ -10,7 +10,7 @@ use borrow.Author.Tests.{le-ltb}
 use lib.ListN.{length}
 use Rattle.reading.specs.Choice.{pick}
 use Rattle.plans.specs.System.{Visit}
-use Rattle.plans.specs.Sweep.{at, least, Rule, lower, sweep, Rests, Inside}
+use Rattle.plans.specs.Sweep.{at, least, Rule, lower, Rests, Inside}
 use Rattle.plans.specs.Trace.{Mark, Trace, traceVisit, traceSweep, traceSweeps}
 use Rattle.plans.proofs.Laws.{least-bound, lower-still, rests-least}
 
@@ -23,11 +23,6 @@ pub trace-time : (rule : Rule) (vs : List Visit) (t : Trace) → traceSweep rule
 unfolding traceSweep traceVisit
 trace-time rule [] t = omega arith
 trace-time rule (v ∷ vs) t = omega (arith, trace-time rule vs (traceVisit rule t v))
-
-pub trace-numbers : (rule : Rule) (vs : List Visit) (t : Trace) → traceSweep rule vs t .numbers ≡ sweep rule vs (t .numbers)
-unfolding traceSweep traceVisit sweep
-trace-numbers rule [] t = refl
-trace-numbers rule (v ∷ vs) t = trace-numbers rule vs (traceVisit rule t v)
 
 -- One sweep more.
 pub traces-last : (rule : Rule) (vs : List Visit) (k : ℕ) (t : Trace) → traceSweeps rule vs (suc k) t ≡ traceSweep rule vs (traceSweeps rule vs k t)

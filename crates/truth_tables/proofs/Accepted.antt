@@ -1,30 +1,29 @@
 -- The entry of every truth table is accepted by the library reader, and read as the table's cell.
 -- Assumes nothing.
-use mathlib.Core.Bool.{Bool, true, false, true≢false, not, _&&_, _||_}
-use mathlib.Core.List.{List, [], _∷_, _++_, map, List·Memᴰ, List·Memᴰ·head, List·Memᴰ·tail, List·Memᴰ·not-nil}
-use mathlib.Core.Option.{Option, none, some}
-use mathlib.Core.Path.{_≡_, refl, sym, ap, subst, _∙_}
+use mathlib.Core.Bool.{Bool, true, false, true≢false, not}
+use mathlib.Core.List.{List, [], _∷_, map, List·Memᴰ, List·Memᴰ·head, List·Memᴰ·tail}
+use mathlib.Core.Option.{none, some}
+use mathlib.Core.Path.{_≡_, refl, sym, ap, _∙_}
 use Prim.Native.Nat.{ℕ, zero, suc, _+_, _*_, _-_, _/_, _%_, _^_, _≤_, _<_}
-use native.Mathlib.Nat.{pow-suc, pow-le-pow-right, one-le-pow, add-mul-div-right, div-eq-of-lt}
+use native.Mathlib.Nat.{pow-le-pow-right, one-le-pow, add-mul-div-right, div-eq-of-lt}
 use native.Mathlib.Omega.{arith}
-use lib.Dec.{leb, ltb, eqb}
 use lib.ListN.{length, length-map}
 use lib.Pow.{pow-add}
-use borrow.Author.Tests.{eq-eqb, ne-eqb, eqb-true, eqb-false, le-ltb, lt-leb}
+use borrow.Author.Tests.{eq-eqb, ne-eqb, le-ltb, lt-leb}
+use Rattle.laws.proofs.Numbers.{two-four}
 use Rattle.sizes.specs.Sizes as Size
-use Rattle.reading.specs.Choice.{pick}
 use Rattle.reading.specs.Each.{Each}
-use Rattle.reading.specs.Refusal.{Read, read}
-use Rattle.reading.proofs.Laws.{by-test, clash, and-left, and-right, or-left, or-right, each-map, each-member}
+use Rattle.reading.specs.Refusal.{read}
+use Rattle.reading.proofs.Laws.{by-test, clash, and-left, each-member}
 use Rattle.text.specs.Numeral.{nameForm}
-use Rattle.cell_library.specs.Cells.{Row, Group, Cell, bit}
-use Rattle.cell_library.specs.Library.{anyOf, aboveRows, above, namesNone, observesNot, Word, CC, CO, SC, SO, groupCount, columnCount, idle, noRow, excepted, rowIdle, library}
+use Rattle.cell_library.specs.Cells.{Row, Group, bit}
+use Rattle.cell_library.specs.Library.{anyOf, aboveRows, above, namesNone, observesNot, Word, CC, CO, SC, SO, groupCount, columnCount, idle, emptyGroup, excepted, rowIdle, library}
 use Rattle.truth_tables.specs.Entries.{literalColumns, termColumns, observeColumn, settingRow, observingRow, settingGroup, observingGroup, settingGroups, groupsFrom, observingGroups, cellOf, rowNumber, entryBytes}
-use Rattle.truth_tables.specs.Tables.{Setting, Term, Condition, output, same, fits, meets, terms, keep, allOf, prime, implicant, dropped, primes, gives, putIn, changes, observing}
-use Rattle.truth_tables.proofs.Lists.{any-found, kept, each-kept, map-member}
+use Rattle.truth_tables.specs.Tables.{Setting, Term, output, same, fits, meets, terms, allOf, prime, implicant, dropped, primes, gives, putIn, changes, observing}
+use Rattle.truth_tables.proofs.Lists.{kept, each-kept}
 use Rattle.truth_tables.proofs.Covering.{same-true, implies}
 use Rattle.truth_tables.proofs.Counting.{sixteen}
-use Rattle.truth_tables.proofs.Order.{Ordered, ordered-primes, ordered-observing, terms-length}
+use Rattle.truth_tables.proofs.Order.{ordered-primes, ordered-observing, terms-length}
 use Rattle.truth_tables.proofs.Reading.{Written, GoodLine, cell-read}
 
 -- ---- of each row of a group
@@ -42,12 +41,6 @@ each-row P w row f (t ∷ ts) e = (f t (e .0), each-row P w row f ts (e .1))
 
 four-most : (n : ℕ) → n ≤ 4 → 4 ^ n ≤ 256
 four-most n h = let four : 0 < 4 = omega arith in pow-le-pow-right four h
-
-two-four : (n : ℕ) → 2 ^ (2 * n) ≡ 4 ^ n
-two-four zero = refl
-two-four (suc n) =
-    let more : 2 * suc n ≡ suc (suc (2 * n)) = omega arith in
-    rw (more, pow-suc 2 (suc (2 * n)), pow-suc 2 (2 * n), pow-suc 4 n, two-four n) (omega arith)
 
 -- What is asked of a group, by its rows.
 record GoodGroup (w : Word) (n : ℕ) (g : Group) : Type 0 where
@@ -110,8 +103,8 @@ named-each d [] never = refl
 named-each d (t ∷ ts) never =
     rw (ne-eqb (termColumns t) 0 (never t (List·Memᴰ·head refl))) (named-each d ts (λ q m. never q (List·Memᴰ·tail m)))
 
-with-some : {D : Type 0} (d : ℕ) (qs : List Term) → noRow (map (settingRow d) qs) ≡ false → ((q : Term) → List·Memᴰ q qs → D) → D
-unfolding noRow
+with-some : {D : Type 0} (d : ℕ) (qs : List Term) → emptyGroup (map (settingRow d) qs) ≡ false → ((q : Term) → List·Memᴰ q qs → D) → D
+unfolding emptyGroup
 with-some d [] s on = clash true refl s
 with-some d (q ∷ qs) s on = on q (List·Memᴰ·head refl)
 
@@ -134,7 +127,7 @@ module _ (n : ℕ) (bits : List Bool) where
       let l : length s ≡ n = sample-length q ∙ prime-length f q k in
       d (sym (prime-implies e t s m l (blank t s (l ∙ sym (prime-length e t m)) z)) ∙ prime-implies f q s k l (sample-met q))
 
-  named-all : (d : ℕ) (e f : Bool) → (e ≡ f → ⊥) → noRow (settingGroup d n bits f) ≡ false → anyOf namesNone (settingGroup d n bits e) ≡ false
+  named-all : (d : ℕ) (e f : Bool) → (e ≡ f → ⊥) → emptyGroup (settingGroup d n bits f) ≡ false → anyOf namesNone (settingGroup d n bits e) ≡ false
   unfolding settingGroup
   named-all d e f a some-row =
       with-some d (primes n (gives bits f)) some-row
@@ -146,9 +139,9 @@ module _ (n : ℕ) (bits : List Bool) where
   setting-useful d =
       let low = settingGroup d n bits false in
       let high = settingGroup d n bits true in
-      by-test (noRow low)
+      by-test (emptyGroup low)
       (λ p. rw p refl)
-      (λ p. by-test (noRow high)
+      (λ p. by-test (emptyGroup high)
       (λ q. rw (p, q) refl)
       (λ q. rw (p, q, named-all d false true (λ e. true≢false (sym e)) q, named-all d true false (λ e. true≢false e) p) refl))
 

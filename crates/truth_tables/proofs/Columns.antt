@@ -1,23 +1,25 @@
 -- Which columns the row of a term names: a pin at a value exactly where the term has that value for the pin.
 -- Assumes nothing.
-use mathlib.Core.Bool.{Bool, true, false, _&&_}
-use mathlib.Core.List.{List, [], _∷_}
+use mathlib.Core.Bool.{Bool, true, false}
+use mathlib.Core.List.{[], _∷_}
 use mathlib.Core.Option.{Option, none, some}
-use mathlib.Core.Path.{_≡_, refl, sym, subst, ap, ap₂, _∙_}
+use mathlib.Core.Path.{_≡_, refl, sym, subst, ap, _∙_}
 use Prim.Native.Nat.{ℕ, zero, suc, _+_, _*_, _-_, _/_, _%_, _^_, _≤_, _<_}
-use native.Mathlib.Nat.{not-suc-le-zero, le-of-suc-le-suc, pow-suc, div-one, mul-comm}
+use native.Mathlib.Nat.{not-suc-le-zero, le-of-suc-le-suc, div-one}
 use native.Mathlib.Numerals.{one-add}
 use native.Mathlib.Omega.{arith}
-use lib.Arith.{digits-div, digits-lt}
+use lib.Arith.{digits-div}
 use lib.Bits.{block-half, block-odd}
 use lib.Pow.{shr-shr}
 use lib.Dec.{eqb}
 use lib.ListN.{length, getD}
 use borrow.Author.Tests.{eqb-true}
+use Rattle.laws.proofs.Numbers.{two-four}
 use Rattle.reading.proofs.Laws.{clash, and-left, and-right}
 use Rattle.cell_library.specs.Cells.{bit}
 use Rattle.truth_tables.specs.Tables.{Term, Setting, digit, same, fits, meets}
 use Rattle.truth_tables.specs.Entries.{literalColumns, termColumns}
+use Rattle.truth_tables.proofs.Order.{term-below}
 
 -- ---- bits of a number in two parts
 
@@ -47,26 +49,6 @@ unfoldable pub says : Option Bool → ℕ → Bool
 says none v = false
 says (some w) v = eqb (digit w) v
 
-pub four : (k : ℕ) → 4 ^ k ≡ 2 ^ (2 * k)
-four zero = refl
-four (suc k) =
-    let twice : 2 * suc k ≡ suc (suc (2 * k)) = omega arith in
-    let once : 2 ^ suc (suc (2 * k)) ≡ 2 ^ (2 * k) * 4 = omega (arith, pow-suc 2 (suc (2 * k)), pow-suc 2 (2 * k)) in
-    pow-suc 4 k ∙ ap (λ (x : ℕ). x * 4) (four k) ∙ sym once ∙ sym (ap (λ (e : ℕ). 2 ^ e) twice)
-
-literal-small : (l : Option Bool) → literalColumns l < 4
-unfolding literalColumns
-literal-small none = omega arith
-literal-small (some false) = omega arith
-literal-small (some true) = omega arith
-
-pub term-small : (t : Term) → termColumns t < 4 ^ length t
-unfolding termColumns
-term-small [] = omega arith
-term-small (l ∷ t) =
-    subst (λ (x : ℕ). literalColumns l * 4 ^ length t + termColumns t < x) (mul-comm 4 (4 ^ length t) ∙ sym (pow-suc 4 (length t)))
-    (digits-lt (literal-small l) (term-small t))
-
 literal-bit : (l : Option Bool) (v : ℕ) → v ≤ 1 → bit (literalColumns l) (1 - v) ≡ says l v
 unfolding bit literalColumns says digit
 literal-bit none zero h = refl
@@ -79,7 +61,7 @@ literal-bit l (suc (suc v)) h = absurd (omega arith)
 
 term-parts : (l : Option Bool) (t : Term) → termColumns (l ∷ t) ≡ literalColumns l * 2 ^ (2 * length t) + termColumns t
 unfolding termColumns
-term-parts l t = ap (λ (x : ℕ). literalColumns l * x + termColumns t) (four (length t))
+term-parts l t = ap (λ (x : ℕ). literalColumns l * x + termColumns t) (sym (two-four (length t)))
 
 -- Pin j + 1 at v.
 pub term-bit : (t : Term) (j v : ℕ) → j < length t → v ≤ 1 → bit (termColumns t) (2 * (length t - suc j) + (1 - v)) ≡ says (getD t j none) v
@@ -88,7 +70,7 @@ term-bit (l ∷ t) zero v h b =
     let here : 2 * (suc (length t) - 1) + (1 - v) ≡ 2 * length t + (1 - v) = omega arith in
     ap (bit (termColumns (l ∷ t))) here
     ∙ ap (λ (x : ℕ). bit x (2 * length t + (1 - v))) (term-parts l t)
-    ∙ high-bit (literalColumns l) (2 * length t) (termColumns t) (1 - v) (subst (λ (x : ℕ). termColumns t < x) (four (length t)) (term-small t))
+    ∙ high-bit (literalColumns l) (2 * length t) (termColumns t) (1 - v) (subst (λ (x : ℕ). termColumns t < x) (sym (two-four (length t))) (term-below t))
     ∙ literal-bit l v b
 term-bit (l ∷ t) (suc j) v h b =
     let here : 2 * (suc (length t) - suc (suc j)) + (1 - v) ≡ 2 * (length t - suc j) + (1 - v) = omega arith in

@@ -2,17 +2,17 @@
 -- reader takes. The prime implicants of n + 1 pins are those of n pins of three conditions, one for what the first pin is named;
 -- so those of four pins are counted by nine conditions on two pins, of which a table of 256 cases is computed.
 -- Assumes nothing.
-use mathlib.Core.Bool.{Bool, true, false, not, _&&_, _||_}
+use mathlib.Core.Bool.{Bool, true, false, not, _&&_, _||_, and-true}
 use mathlib.Core.List.{List, [], _∷_, _++_, map, List·Memᴰ, List·Memᴰ·head, List·Memᴰ·tail}
 use mathlib.Core.Option.{Option, none, some}
-use mathlib.Core.Path.{_≡_, refl, sym, ap, subst, _∙_}
+use mathlib.Core.Path.{_≡_, refl, sym, ap, _∙_}
 use Prim.Native.Nat.{ℕ, zero, suc, _+_, _*_, _≤_}
 use native.Mathlib.Omega.{arith}
 use borrow.Author.Tests.{leb-true}
 use lib.Dec.{leb}
 use lib.ListN.{length, length-append, length-map}
 use Rattle.reading.specs.Choice.{pick}
-use Rattle.reading.proofs.Laws.{by-test, clash, and-left, and-right}
+use Rattle.reading.proofs.Laws.{by-test, and-left, and-right}
 use Rattle.truth_tables.specs.Tables.{Setting, settings, same, Term, fits, meets, dropped, terms, Condition, allOf, keep, implicant, prime, primes, tables-open}
 use Rattle.truth_tables.proofs.Lists.{all-append, all-both, all-same, all-map, keep-append, keep-same, keep-fewer, keep-map}
 
@@ -28,11 +28,7 @@ rest-one : (C : Condition) (l : Option Bool) (m : Bool) (s : Setting)
 unfolding fits same rest
 rest-one C none true s = refl
 rest-one C none false s = refl
-rest-one C (some false) true s = right (C (false ∷ s))
-  where
-    right : (b : Bool) → (b && true) ≡ b
-    right true = refl
-    right false = refl
+rest-one C (some false) true s = and-true (C (false ∷ s))
 rest-one C (some false) false s = refl
 rest-one C (some true) m s = refl
 

@@ -1,19 +1,20 @@
 -- The one fact for all truth tables: a setting is one of a condition exactly when it meets a prime implicant of it.
 -- Assumes nothing.
-use mathlib.Core.Bool.{Bool, true, false, not, _&&_, _||_}
-use mathlib.Core.List.{List, [], _∷_, _++_, map, List·Memᴰ, List·Memᴰ·head, List·Memᴰ·tail, Memᴰ·append-left, Memᴰ·append-right}
+use mathlib.Core.Bool.{Bool, true, false, not, _||_, and-false}
+use mathlib.Core.List.{List, [], _∷_, map, List·Memᴰ, List·Memᴰ·head, Memᴰ·append-left, Memᴰ·append-right}
 use mathlib.Core.Logic.{_↔_}
 use mathlib.Core.Option.{Option, none, some}
 use mathlib.Core.Path.{_≡_, refl, sym, ap, subst, _∙_}
-use Prim.Native.Nat.{ℕ, zero, suc, _+_, _-_, _≤_}
+use Prim.Native.Nat.{ℕ, zero, suc, _-_, _≤_}
 use native.Mathlib.Omega.{arith}
 use lib.ListN.{length}
 use borrow.Author.Tests.{not-false}
 use Rattle.reading.specs.Each.{Each}
-use Rattle.reading.proofs.Laws.{by-test, clash, and-left, and-right, each-member, each-map}
+use Rattle.reading.proofs.Laws.{by-test, clash, and-left, and-right, each-member}
 use Rattle.cell_library.specs.Library.{anyOf}
-use Rattle.truth_tables.specs.Tables.{Setting, settings, output, same, Term, fits, meets, dropped, terms, Condition, allOf, keep, implicant, prime, primes, gives, putIn, changes, observing}
-use Rattle.truth_tables.proofs.Lists.{all-member, all-by, all-fails, any-member, any-found, keep-member, kept, map-member}
+use Rattle.cell_library.proofs.Any.{any-member}
+use Rattle.truth_tables.specs.Tables.{Setting, settings, output, same, Term, fits, meets, dropped, terms, Condition, allOf, implicant, prime, primes, gives, putIn, changes, observing}
+use Rattle.truth_tables.proofs.Lists.{all-member, all-by, all-fails, any-found, keep-member, kept, map-member}
 
 -- ---- values
 
@@ -201,11 +202,7 @@ unfolding meets putIn fits
 meets-putIn zero v t s = refl
 meets-putIn (suc k) v [] [] = refl
 meets-putIn (suc k) v [] (w ∷ s) = no-setting k v s
-meets-putIn (suc k) v (l ∷ t) [] = rw (no-term k t) (go (fits l v))
-  where
-    go : (b : Bool) → (b && false) ≡ false
-    go true = refl
-    go false = refl
+meets-putIn (suc k) v (l ∷ t) [] = rw (no-term k t) (and-false (fits l v))
 meets-putIn (suc k) v (l ∷ t) (w ∷ s) = rw (meets-putIn k v t s) refl
 
 any-putIn : (k : ℕ) (v : Bool) (s : Setting) (ts : List Term)

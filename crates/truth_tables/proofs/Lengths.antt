@@ -1,6 +1,6 @@
 -- No entry of a truth table is long.
 -- Assumes nothing.
-use mathlib.Core.Bool.{Bool, true, false, _&&_}
+use mathlib.Core.Bool.{Bool, true, false}
 use mathlib.Core.List.{List, [], _∷_, _++_, map}
 use mathlib.Core.Option.{none}
 use mathlib.Core.Path.{_≡_, refl}
@@ -11,14 +11,13 @@ use Rattle.reading.specs.Each.{Each}
 use Rattle.text.specs.Bytes.{bytes}
 use Rattle.text.specs.Numeral.{nameForm}
 use Rattle.text.proofs.Laws.{nameForm-length}
-use Rattle.writer.specs.Decimal.{decimalBytes}
-use Rattle.writer.specs.Octal.{octalDigits, octalBytes}
+use Rattle.writer.specs.Octal.{octalBytes}
 use Rattle.writer.proofs.Decimal.{decimal-length}
-use Rattle.cell_library.specs.Cells.{Row, Group, Cell}
+use Rattle.writer.proofs.Octal.{octal-most}
+use Rattle.cell_library.specs.Cells.{Group}
 use Rattle.truth_tables.specs.Entries.{settingRow, observingRow, settingGroup, observingGroup, settingGroups, groupsFrom, observingGroups, cellOf, rowNumber, rowBytes, groupBytes, groupsBytes, lineBytes, nameBytes, entryBytes}
 use Rattle.truth_tables.specs.Tables.{primes, gives, putIn, changes, observing}
 use Rattle.truth_tables.proofs.Counting.{sixteen}
-use Rattle.truth_tables.proofs.Octal.{octal-most}
 
 group-most : (g : Group) → length (groupBytes g) ≤ 1 + 25 * length g
 unfolding groupBytes rowBytes bytes

@@ -1,9 +1,9 @@
 -- What holds of each element of a list, of some element, and of those that are kept.
 -- Assumes nothing.
-use mathlib.Core.Bool.{Bool, true, false, not, _&&_, _||_}
+use mathlib.Core.Bool.{Bool, true, false, _&&_}
 use mathlib.Core.List.{List, [], _∷_, _++_, map, List·Memᴰ, List·Memᴰ·head, List·Memᴰ·tail, List·Memᴰ·not-nil}
 use mathlib.Core.Path.{_≡_, refl, sym, ap, _∙_}
-use Prim.Native.Nat.{ℕ, suc, _+_, _≤_}
+use Prim.Native.Nat.{_+_, _≤_}
 use native.Mathlib.Omega.{arith}
 use lib.ListN.{length}
 use Rattle.reading.specs.Choice.{pick}
@@ -56,15 +56,6 @@ module _ {A : Type 0} where
       (λ e. on x (List·Memᴰ·head refl) e)
 
   -- ---- of some
-
-  pub any-member : (p : A → Bool) {x : A} {xs : List A} → List·Memᴰ x xs → p x ≡ true → anyOf p xs ≡ true
-  unfolding anyOf
-  any-member p {x} {xs = y ∷ xs} (List·Memᴰ·head e) h = rw (sym (ap p e) ∙ h) refl
-  any-member p {x} {xs = y ∷ xs} (List·Memᴰ·tail m) h = rw (any-member p m h) (go (p y))
-    where
-      go : (b : Bool) → (b || true) ≡ true
-      go true = refl
-      go false = refl
 
   pub any-found : {C : Type 0} (p : A → Bool) (xs : List A) → anyOf p xs ≡ true → ((x : A) → List·Memᴰ x xs → p x ≡ true → C) → C
   unfolding anyOf

@@ -14,7 +14,7 @@ use Rattle.reading.proofs.Laws.{by-test, each-append, each-map}
 use Rattle.cell_library.specs.Cells.{Row}
 use Rattle.truth_tables.proofs.Lists.{map-append, map-map, map-same}
 use Rattle.truth_tables.specs.Entries.{literalColumns, termColumns, observeColumn, settingRow, observingRow, settingGroup, observingGroup, rowNumber}
-use Rattle.truth_tables.specs.Tables.{Term, terms, Condition, keep, prime, primes, gives, putIn, changes, observing, Descends}
+use Rattle.truth_tables.specs.Tables.{Setting, digit, place, Term, terms, Condition, keep, prime, primes, gives, putIn, changes, observing, Descends}
 
 -- ---- numbers
 
@@ -65,6 +65,26 @@ ordered-three w vs o =
           (each-shift (λ v. v < w) (λ v. v < 4 * w) (1 * w) (λ v p. omega arith) vs b)
           (each-shift (λ v. v < w) (λ v. v < 4 * w) (0 * w) (λ v p. omega arith) vs b));
     }
+
+-- ---- settings and terms as numbers
+
+pub digit-most : (v : Bool) → digit v ≤ 1
+unfolding digit
+digit-most false = omega arith
+digit-most true = omega arith
+
+pub place-below : (s : Setting) → place s < 2 ^ length s
+unfolding place digit
+place-below [] = omega arith
+place-below (false ∷ s) = rw (pow-suc 2 (length s)) (omega (arith, place-below s))
+place-below (true ∷ s) = rw (pow-suc 2 (length s)) (omega (arith, place-below s))
+
+pub term-below : (t : Term) → termColumns t < 4 ^ length t
+unfolding termColumns literalColumns
+term-below [] = omega arith
+term-below (none ∷ t) = rw (pow-suc 4 (length t)) (omega (arith, term-below t))
+term-below (some true ∷ t) = rw (pow-suc 4 (length t)) (omega (arith, term-below t))
+term-below (some false ∷ t) = rw (pow-suc 4 (length t)) (omega (arith, term-below t))
 
 -- ---- terms
 

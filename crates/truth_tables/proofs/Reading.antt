@@ -1,31 +1,31 @@
 -- The entry of a cell is read as the cell.
 -- Assumes nothing.
-use mathlib.Core.Bool.{Bool, true, false, not, _&&_, _||_}
-use mathlib.Core.List.{List, [], _∷_, _++_, map, append-assoc, append-nil, List·Memᴰ, List·Memᴰ·head, List·Memᴰ·tail, List·Memᴰ·not-nil, List·Memᴰ·append-cases}
-use mathlib.Core.Logic.{_⊎_, inl, inr, ⊎-elim}
-use mathlib.Core.Option.{Option, none, some}
+use mathlib.Core.Bool.{true, false, _&&_}
+use mathlib.Core.List.{List, [], _∷_, _++_, append-assoc, append-nil, List·Memᴰ, List·Memᴰ·head, List·Memᴰ·tail, List·Memᴰ·not-nil, List·Memᴰ·append-cases}
+use mathlib.Core.Logic.{_⊎_, ⊎-elim}
+use mathlib.Core.Option.{some}
 use mathlib.Core.Path.{_≡_, refl, sym, ap, _∙_}
 use Prim.Native.Nat.{ℕ, zero, suc, _+_, _*_, _/_, _%_, _^_, _≤_, _<_}
 use native.Mathlib.Omega.{arith}
-use lib.Dec.{leb, ltb, eqb}
+use lib.Dec.{leb}
 use lib.ListN.{length}
-use borrow.Author.Tests.{eq-eqb, ne-eqb, le-ltb, leb-true}
+use borrow.Author.Tests.{eq-eqb, le-ltb, leb-true}
 use Rattle.sizes.specs.Sizes as Size
 use Rattle.reading.specs.Choice.{pick}
 use Rattle.reading.specs.Each.{Each}
-use Rattle.reading.specs.Refusal.{Read, refused, read, _>>=_, _>>_, weigh, form}
-use Rattle.reading.proofs.Laws.{by-test, clash, and-left, and-right, or-cases}
+use Rattle.reading.specs.Refusal.{read, _>>=_, _>>_, weigh, form}
+use Rattle.reading.proofs.Laws.{by-test, and-left, and-right, or-cases}
 use Rattle.text.specs.Bytes.{bytes}
 use Rattle.text.specs.Class.{between}
 use Rattle.text.specs.Lines.{lines, fields, sameBytes, lines-open}
-use Rattle.text.specs.Numeral.{digitBelow, allDigits, value, numeral, decimal, nameByte, allName, nameForm, numeral-open}
-use Rattle.text.proofs.Laws.{fields-join, lines-join, split-whole, sameBytes-refl, sameBytes-true, digit-high}
+use Rattle.text.specs.Numeral.{digitBelow, allDigits, value, decimal, nameByte, allName, nameForm, numeral-open}
+use Rattle.text.proofs.Laws.{fields-join, lines-join, split-whole, sameBytes-refl, sameBytes-true, digit-high, digits-free}
 use Rattle.writer.specs.Decimal.{decimalBytes, decimal-open}
 use Rattle.writer.specs.Octal.{octalBytes}
-use Rattle.cell_library.specs.Cells.{Heading, plain, Row, rowOf, depthBits, Group, Cell}
+use Rattle.writer.proofs.Octal.{octal-digits, octal-value, octal-read}
+use Rattle.cell_library.specs.Cells.{plain, Row, rowOf, depthBits, Group, Cell}
 use Rattle.cell_library.specs.Library.{Fields, holds, rowDigits, isRow, isJoin, isZ, Before, word, row, join, mayJoin, mayEnd, rowsForm, joinFirst, withRow, groupsOf, anyOf, aboveRows, above, Word, CC, CO, SC, SO, wordBytes, groupCount, columnCount, rowIdle, rowsAfter, rowLine, headingOf, headerOf, nameAfter, endAfter, cellNamed, nameUsed, pinsBad, nameLine, lineAfter, begun, withGroups, libraryLine, libraryEnd, libraryFrom, library}
 use Rattle.truth_tables.specs.Entries.{rowNumber, rowBytes, groupBytes, groupsBytes, lineBytes, nameBytes, entryBytes}
-use Rattle.truth_tables.proofs.Octal.{octal-digits, octal-value, octal-read, digits-free}
 
 -- ---- a row's field
 

@@ -12,6 +12,7 @@ use lib.Dec.{eqb}
 use lib.ListN.{length, getD}
 use borrow.Author.Tests.{eq-eqb, eqb-true}
 use Rattle.reading.specs.Each.{Each}
+use Rattle.laws.proofs.Numbers.{two-four}
 use Rattle.reading.proofs.Laws.{by-test, clash, each-map}
 use Rattle.cell_library.specs.Cells.{Row, Cell, Column, pin, output, observe, bitOf, bit, named, pinColumns, settingColumns, observingColumns}
 use Rattle.cell_library.specs.Library.{anyOf}
@@ -21,8 +22,8 @@ use Rattle.truth_tables.specs.Entries.{termColumns, observeColumn, setti
 use Rattle.truth_tables.specs.Generated.{Generated}
 use Rattle.truth_tables.specs.Rows.{asNamed, meetsRow, Sets, Observes, RowsTell}
 use Rattle.truth_tables.proofs.Lists.{all-member, all-by, each-kept}
-use Rattle.truth_tables.proofs.Order.{terms-length, length-putIn}
-use Rattle.truth_tables.proofs.Columns.{low-bit, high-bit, four, term-small, says, term-bit, meets-said, said-meets}
+use Rattle.truth_tables.proofs.Order.{terms-length, length-putIn, term-below}
+use Rattle.truth_tables.proofs.Columns.{low-bit, high-bit, says, term-bit, meets-said, said-meets}
 use Rattle.truth_tables.proofs.Covering.{setting-fact, observing-fact}
 
 -- ---- a row
@@ -86,7 +87,7 @@ module _ (d n : ℕ) (bits : List Bool) (s : Setting) (l : length s ≡ n) (t : 
       ap (λ (p : ℕ). 2 ^ p + termColumns t) two ∙ ap (λ (p : ℕ). p + termColumns t) times
 
   small : termColumns t < 2 ^ (2 * n)
-  small = subst (λ (p : ℕ). termColumns t < p) (ap (λ (k : ℕ). 4 ^ k) size ∙ four n) (term-small t)
+  small = subst (λ (p : ℕ). termColumns t < p) (ap (λ (k : ℕ). 4 ^ k) size ∙ sym (two-four n)) (term-below t)
 
   observe-at : (j v : ℕ) → j < n → v ≤ 1 → bit x (bitOf n (pin (suc j) v)) ≡ says (getD t j none) v
   unfolding bitOf

@@ -1,7 +1,7 @@
 -- Whether one of the numbers below a count passes.
 -- Assumes nothing.
 use mathlib.Core.Bool.{Bool, true, false, _&&_, _||_}
-use mathlib.Core.List.{List, [], _∷_, _++_}
+use mathlib.Core.List.{List, [], _∷_}
 use mathlib.Core.Path.{_≡_, refl, sym, ap, ap₂, _∙_}
 use Prim.Native.Nat.{ℕ, zero, suc, _+_, _*_, _-_, _≤_, _<_}
 use native.Mathlib.Decide.{ℕ-discrete}
@@ -81,15 +81,6 @@ module _ {A : Type 0} (p : A → Bool) where
   unfolding anyBelow anyOf
   any-list [] d = refl
   any-list (x ∷ xs) d = any-shift (λ i. p (getD (x ∷ xs) i d)) (length xs) ∙ ap (λ (b : Bool). p x || b) (any-list xs d)
-
-  pub any-append : (xs ys : List A) → anyOf p (xs ++ ys) ≡ (anyOf p xs || anyOf p ys)
-  unfolding anyOf
-  any-append [] ys = refl
-  any-append (x ∷ xs) ys = ap (λ (b : Bool). p x || b) (any-append xs ys) ∙ assoc (p x) (anyOf p xs) (anyOf p ys)
-    where
-      assoc : (a b c : Bool) → (a || (b || c)) ≡ ((a || b) || c)
-      assoc true b c = refl
-      assoc false b c = refl
 
   -- Elements that a list is filled up with, where they do not pass.
   pub any-fitted : (d : A) → p d ≡ false → (count : ℕ) (xs : List A) → length xs ≤ count → anyOf p (fitted d count xs) ≡ anyOf p xs

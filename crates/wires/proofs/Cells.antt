@@ -12,7 +12,8 @@ use Rattle.sizes.specs.Places.{cellPlace, groupPlace}
 use Rattle.reading.specs.Each.{Each}
 use Rattle.reading.proofs.Laws.{or-left, or-right, each-at, each-append, each-map}
 use Rattle.table.specs.Blocks.{fitted}
-use Rattle.cell_library.specs.Cells.{Row, Group, Cell}
+use Rattle.cell_library.proofs.Any.{any-append}
+use Rattle.cell_library.specs.Cells.{Row, Group, Cell, noRow}
 use Rattle.cell_library.specs.Library.{Word, CC, CO, SC, SO, groupCount, wordGroups, anyOf}
 use Rattle.cell_library.specs.Layout.{libraryWords, cellGroups}
 use Rattle.cell_library.specs.Sound.{SoundGroup, SoundGroups, SoundCell}
@@ -20,14 +21,11 @@ use Rattle.cell_library.proofs.Places.{length-cellGroups, group-count, row-colu
 use Rattle.calculation.specs.Ways.{bothValues, oneWire}
 use Rattle.calculation.proofs.Visiting.{getD-listed}
 use Rattle.wires.specs.Wires.{anyBelow, groupBoth, cellBoth}
-use Rattle.wires.proofs.Any.{any-same, any-list, any-append, any-fitted}
+use Rattle.wires.proofs.Any.{any-same, any-list, any-fitted}
 
 -- A row of a cell of n pins names both values of one of them.
 abbrev rowBoth : ℕ → Row → Bool
 rowBoth n r = bothValues n n (r .columns)
-
-noRow : Row
-noRow = record { depth = 0; columns = 0 }
 
 -- ---- a one-wire cell has no such row
 

@@ -6,21 +6,12 @@ use borrow.Author.Tests.{ltb-true, ltb-false}
 use mathlib.Core.Path.{_≡_, refl, sym, ap, _∙_}
 use Prim.Native.Nat.{ℕ, suc, _+_, _-_, _≤_, _<_, min}
 use Rattle.reading.proofs.Laws.{by-test}
-use native.Mathlib.Nat.{zero-add, add-zero, add-suc, suc-add}
+use native.Mathlib.Nat.{zero-add, add-zero}
 use native.Mathlib.Omega.{arith}
 use lib.ListN.{length, set, drop, length-append}
-use lib.Seq.{sets, length-sets, set-out, set-comm, sets-eq}
+use lib.Seq.{sets, length-sets, set-comm, sets-eq}
+use Rattle.laws.proofs.Lists.{sets-past, sets-append}
 use Rattle.writer.specs.Put.{Put}
-
-sets-past : (vs l : List ℕ) (i : ℕ) → length l ≤ i → sets l i vs ≡ l
-sets-past [] l i h = refl
-sets-past (a ∷ vs) l i h = rw (set-out l i a h) (sets-past vs l (suc i) (omega arith))
-
-sets-append : (vs ws l : List ℕ) (i : ℕ) → sets l i (vs ++ ws) ≡ sets (sets l i vs) (i + length vs) ws
-sets-append [] ws l i = rw (add-zero i) refl
-sets-append (a ∷ vs) ws l i =
-    sets-append vs ws (set l i a) (suc i)
-    ∙ ap (λ (k : ℕ). sets (sets (set l i a) (suc i) vs) k ws) (suc-add i (length vs) ∙ sym (add-suc i (length vs)))
 
 -- where a cursor is held back it stands past the end
 sets-held : (vs l : List ℕ) (at n : ℕ) → sets l (at + min n (length l + 1 - at)) vs ≡ sets l (at + n) vs

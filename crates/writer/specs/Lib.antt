@@ -1,4 +1,5 @@
 pub mod Put
+pub mod Digits
 pub mod Decimal
 pub mod Octal
 pub mod Refused

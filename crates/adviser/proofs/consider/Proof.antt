@@ -1,5 +1,4 @@
 -- `consider` tries a line that may be padded. Assumes nothing.
-use denote.Ref.{now}
 use Rattle.sweep.proofs.Calculating.{room}
 use Rattle.adviser.proofs.Lines.{line-most}
 use Rattle.adviser.proofs.Considering.{may-said, may-free, considered, passed}

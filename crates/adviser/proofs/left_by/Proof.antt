@@ -1,7 +1,7 @@
 -- `left_by` adds the costs of the mentioned lines, from the highest down. Assumes nothing.
 use mathlib.Core.List.{map}
 use mathlib.Core.Path.{_≡_}
-use Prim.Native.Nat.{ℕ, _≤_}
+use Prim.Native.Nat.{_≤_}
 use native.Mathlib.Omega.{arith}
 use denote.Ref.{now}
 use borrow.Author.Needs.{needs}

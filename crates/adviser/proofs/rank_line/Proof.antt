@@ -1,5 +1,4 @@
 -- `rank_line` lays the rank of a line that may be padded, never of any other. Assumes nothing.
-use native.Mathlib.Omega.{arith}
 use denote.Ref.{now}
 use Rattle.sweep.proofs.Calculating.{room}
 use Rattle.adviser.proofs.Lines.{line-least, line-most}

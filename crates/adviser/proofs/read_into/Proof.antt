@@ -1,6 +1,5 @@
 -- `read_into` refuses a short answer, and reads both texts. Assumes nothing.
 use mathlib.Core.Path.{_∙_}
-use native.Mathlib.Omega.{arith}
 use denote.Ref.{now}
 use Rattle.reading.specs.Verdict.{verdictRead}
 use Rattle.table.proofs.Places.{cleared-all}

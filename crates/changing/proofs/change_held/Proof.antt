@@ -1,13 +1,12 @@
 -- `change_held` reads the new library. Assumes nothing.
-use mathlib.Core.List.{List}
-use mathlib.Core.Path.{_≡_, refl, sym, _∙_}
-use Prim.Native.Nat.{ℕ}
-use lib.ListN.{length, replicate}
+use mathlib.Core.Path.{refl}
+use lib.ListN.{replicate}
 use denote.Ref.{now}
 use borrow.Author.Needs.{needs}
 use Rattle.sizes.specs.Sizes as Size
+use Rattle.standing_texts.proofs.Texts.{zero-cleared}
 use Rattle.changing.specs.Calls.{changedRead}
-use Rattle.changing.proofs.Calling.{zeros-used, new-refused, new-read, new-changed}
+use Rattle.changing.proofs.Calling.{new-refused, new-read, new-changed}
 use Rattle.changing.proofs.change_held.Statement.{statement}
 use Rattle.changing.proofs.change_held.Tie as tie
 
@@ -58,7 +57,7 @@ change-held-spec =
     tie.close
     (tie.spec
     (λ c. search needs)
-    (λ c κs. zeros-used Size.library)
+    (λ c κs. zero-cleared _ Size.library refl)
     (λ c. search needs)
     (λ c. search needs)
     (λ c. search needs)

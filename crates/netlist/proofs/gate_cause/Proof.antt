@@ -1,10 +1,9 @@
 -- `gate_cause` weighs a gate's own numbers. Assumes nothing.
 use mathlib.Core.Bool.{Bool, not, _||_}
-use mathlib.Core.List.{[]}
 use mathlib.Core.Path.{sym, ap, _∙_}
 use Prim.Native.Nat.{ℕ}
 use lib.Dec.{leb, eqb}
-use Rattle.cell_library.specs.Cells.{plain, Cell}
+use Rattle.cell_library.specs.Cells.{noCell}
 use Rattle.netlist.proofs.Causes.{pinsAt-cell}
 use Rattle.netlist.proofs.Outcomes.{gate-flags}
 use borrow.Author.Needs.{needs}
@@ -16,10 +15,6 @@ begun c = c .before .before
 
 abbrev counted : tie.After-pins-of → tie.After-count
 counted c = c .before .before
-
--- No cell, where a reader of a list wants one.
-abbrev noCell : Cell
-noCell = record { name = []; pins = 0; heading = plain; cc = []; co = []; sc = []; so = [] }
 
 returns : tie.Need-returns
 returns c cells g lib is =

@@ -1,9 +1,9 @@
 -- `trace` sweeps until nothing changes: what is marked then is all that the definitions remember. Assumes nothing.
-use mathlib.Core.Bool.{Bool, true, false, not}
 use mathlib.Core.Path.{_≡_, refl, ap, _∙_}
 use Prim.Native.Nat.{ℕ, suc, _+_, _*_, _-_, _≤_}
 use native.Mathlib.Omega.{arith}
 use lib.ListN.{length, getD, length-replicate}
+use borrow.Author.Tests.{not-true}
 use Rattle.sizes.specs.Sizes as Size
 use Rattle.plans.specs.Sweep.{Bounded}
 use Rattle.sweep.proofs.Calculating.{room, link-fits}
@@ -105,10 +105,6 @@ loop-again c =
     let n : 2 * counted b .count .result + 1 - (l .before .loop .left - 1) ≡ suc (2 * counted b .count .result + 1 - l .before .loop .left) = omega arith in
     (omega arith, omega (arith, few b), rw n (m .1 ∙ omega (arith, counted b .count .ensures)), rw n (m .0), o .one-sweep .ensures .long ∙ i .4, o .one-sweep .ensures .marksLong ∙ i .5, o .one-sweep .ensures .bounded (i .6))
 
-untrue : (b : Bool) → not b ≡ true → b ≡ false
-untrue true e = let z : _≡_ {A = ℕ} 0 1 = cc in absurd (omega arith)
-untrue false e = refl
-
 returns : tie.Need-returns Inv-loop μ-loop
 returns c k cells ss e h =
     let o = c .before in
@@ -117,7 +113,7 @@ returns c k cells ss e h =
     let a = began b .args in
     let i = l .before .loop .inv in
     ends-early (a .kind) (a .library .now) (a .netlist .now) k cells ss e h (2 * counted b .count .result + 1 - l .before .loop .left) (l .before .loop .left - 1)
-    (omega (arith, counted b .count .ensures)) _ _ _ _ (o .one-sweep .ensures .long ∙ i .4) (o .one-sweep .ensures .still (untrue (o .one-sweep .result) (c .if1 .taken))) (i .3) (more o .0)
+    (omega (arith, counted b .count .ensures)) _ _ _ _ (o .one-sweep .ensures .long ∙ i .4) (o .one-sweep .ensures .still (not-true (o .one-sweep .result) (c .if1 .taken))) (i .3) (more o .0)
 
 returns-2 : tie.Need-returns-2 Inv-loop μ-loop
 returns-2 c k cells ss e h =

@@ -3,6 +3,7 @@ use mathlib.Core.Path.{_≡_, refl, sym, _∙_}
 use Prim.Native.Nat.{ℕ, _-_, _^_, _≤_, _<_}
 use native.Mathlib.Nat.{one-le-pow}
 use native.Mathlib.Omega.{arith}
+use lib.Pow.{pow-pos}
 use borrow.Author.Needs.{needs}
 use borrow.Author.Tests.{not-true, not-false}
 use Rattle.generated_cells.specs.Words.{metBy}
@@ -18,9 +19,6 @@ abbrev μ-loop : tie.MeasureT-loop
 
 four : (i : ℕ) → 0 < 4 ^ i
 four i = one-le-pow i 4 (omega arith)
-
-two : (i : ℕ) → 0 < 2 ^ i
-two i = one-le-pow i 2 (omega arith)
 
 loop-holds : tie.Need-loop-holds Inv-loop μ-loop
 loop-holds c = (omega arith, refl)
@@ -68,11 +66,11 @@ is-met-spec =
     (λ c κs. search needs)
     (λ c κs. search needs)
     (λ c. omega (arith, c .before .power .ensures, four (c .before .before .before .loop .i - 1)))
-    (λ c. omega (arith, c .power2 .ensures, two (c .before .before .before .loop .i - 1)))
+    (λ c. omega (arith, c .power2 .ensures, pow-pos (c .before .before .before .loop .i - 1)))
     (λ c κs. search needs)
     returns
     (λ c. omega (arith, c .before .before .before .power .ensures, four (c .before .before .before .before .before .loop .i - 1)))
-    (λ c. omega (arith, c .before .before .power2 .ensures, two (c .before .before .before .before .before .loop .i - 1)))
+    (λ c. omega (arith, c .before .before .power2 .ensures, pow-pos (c .before .before .before .before .before .loop .i - 1)))
     (λ c. omega arith)
     loop-again
     returns-2)

@@ -1,7 +1,7 @@
 -- `is_prime` goes over the pins from the last on, to one that can be dropped. Assumes nothing.
-use mathlib.Core.Bool.{Bool, true, false, _&&_}
-use mathlib.Core.Path.{_≡_, refl, sym, _∙_}
-use Prim.Native.Nat.{ℕ, _-_, _/_, _%_, _^_, _≤_}
+use mathlib.Core.Bool.{true, and-false}
+use mathlib.Core.Path.{_≡_, refl, sym}
+use Prim.Native.Nat.{_-_, _/_, _^_, _≤_}
 use native.Mathlib.Numerals.{add-one}
 use native.Mathlib.Omega.{arith}
 use borrow.Author.Needs.{needs}
@@ -16,10 +16,6 @@ Inv-loop wanted pins row rest₀ i₀ rest i = (i ≤ pins) × (rest ≡ row / 3
 
 abbrev μ-loop : tie.MeasureT-loop
 μ-loop wanted pins row rest₀ i₀ rest i = pins - i
-
-none : (b : Bool) → false ≡ (b && false)
-none true = refl
-none false = refl
 
 returns : tie.Need-returns Inv-loop μ-loop
 unfolding primeRow
@@ -37,7 +33,7 @@ returns-2 c =
     let l = k .loop in
     let a = k .before .before .before .before .args in
     rw (fixed-not (a .wanted) (a .pins) (a .row) (l .i) (a .pins) (omega arith) (rw (← l .inv .1, ← c .before .loose .ensures) (c .if2 .taken)))
-    (none (implied (a .wanted) (coverMask (a .pins) (termBut (a .pins) (a .pins) (a .row)))))
+    (sym (and-false (implied (a .wanted) (coverMask (a .pins) (termBut (a .pins) (a .pins) (a .row))))))
 
 loop-again : tie.Need-loop-again Inv-loop μ-loop
 unfolding fixed
