@@ -36,7 +36,7 @@ use Rattle.cheapest.specs.Plan.{Cheapest}
 use Rattle.cheapest.specs.Asked.{PlanPut, PutWhere}
 use Rattle.calculation.specs.Stored.{Holds, Calculated, HoldsAnalysis}
 use Rattle.outcome.specs.Demands.{Reported}
-use Rattle.outcome.proofs.Numbers.{placed}
+use Rattle.outcome.proofs.Numbers.{placed-purpose}
 use Rattle.planning.specs.Promise.{known, askedNumber, kindOf, planRead, PlanConcluded}
 
 -- ---- what is asked for
@@ -113,7 +113,7 @@ pub all-above : (cells : List Cell) (ss : List Statement) → BothSound cells ss
 unfolding askedNumber pick
 all-above cells ss sound l v kind h r k =
     let i : InRange l v kind = record { least = r .0; most = r .1; value = r .2; kinds = k } in
-    stands-above (λ p. cost p) _ (exact cells ss sound (pricesOf ss) (own-figures sound) (kindOf kind) (set l v) (placed (set l v) r))
+    stands-above (λ p. cost p) _ (exact cells ss sound (pricesOf ss) (own-figures sound) (kindOf kind) (set l v) (placed-purpose (set l v) r))
     (entry-bounded cells ss sound (pricesOf ss) (own-figures sound) (node (kindOf kind) (set l v)))
     (rw (kind-node l v kind k) (rw (from-range l v kind i) at h))
 

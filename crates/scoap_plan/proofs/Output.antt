@@ -2,8 +2,8 @@
 -- Assumes nothing.
 use mathlib.Core.List.{List, [], _∷_}
 use mathlib.Core.Bool.{_||_}
-use mathlib.Core.Path.{_≡_, refl, sym, ap, _∙_}
-use Prim.Native.Nat.{ℕ, _≤_}
+use mathlib.Core.Path.{_≡_, refl}
+use Prim.Native.Nat.{ℕ}
 use native.Mathlib.Omega.{arith}
 use lib.ListN.{length, replicate}
 use borrow.Author.Tests.{eq-eqb, ne-eqb}
@@ -53,7 +53,7 @@ pub plan-outputs : (lib net before : List ℕ) (line value kind : ℕ) {clear af
     → Size.reportBytes ≡ length before → PlanPrinted lib net line value kind clear after said
     → Outputs Size.reportBytes (planShown line value kind lib net) after said
 unfolding planShown
-plan-outputs lib net before line value kind f e p = rw (f, ← e) at (prints-outputs p)
+plan-outputs lib net before line value kind f e p = rw (f, ← e) at (prints-outputs (p .bytes))
 
 -- ---- all of it
 

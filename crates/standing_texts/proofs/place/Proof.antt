@@ -5,6 +5,7 @@ use borrow.Author.Tests.{not-true, not-false}
 use native.Mathlib.Omega.{arith}
 use denote.Ref.{now}
 use borrow.Author.Needs.{needs}
+use Rattle.cell_library.proofs.Names.{holds-told}
 use Rattle.netlist.specs.Netlist.{mark, output}
 use Rattle.netlist.specs.Admitting.{StandsFor}
 use Rattle.netlist.specs.Sound.{InRange}
@@ -53,7 +54,7 @@ returns-4 c cells ss h =
     let lib = now (a .library) in
     let net = now (a .netlist) in
     tried lib net cells ss h (a .line) (range i) (sym (m .before .mentioned .ensures) ∙ not-false _ (m .if3 .left)) (d .admit .result) _
-    (d .admit .ensures cells (some (mark output (a .line))) (library-holds lib net cells ss h) (d .before .output-mark .ensures) ss (h .sound .netlist)
+    (d .admit .ensures cells (some (mark output (a .line))) (holds-told lib cells (library-holds lib net cells ss h)) (d .before .output-mark .ensures) ss (h .sound .netlist)
     (netlist-holds lib net cells ss h))
 
 pub place-spec : {M : Type 1} → statement M
