@@ -11,10 +11,10 @@ use Rattle.sizes.specs.Sizes as Size
 use Rattle.plans.specs.System.{Visit}
 use Rattle.plans.specs.Sweep.{at, Rule, renew, lower, Settles, Visited}
 use Rattle.plans.specs.Stages.{Stages, Stages.ended, Stages.stage}
-use Rattle.plans.specs.Standing.{Alike, Looks, Reads}
+use Rattle.plans.specs.Continued.{Alike, Looks, Reads}
 use Rattle.plans.proofs.Laws.{stands-least, Stores, lower-stores, renew-stores, lower-reads, renew-reads, alike-settles, settles-once, settles-length, settles-other}
-use Rattle.cell_library.specs.Cells.{Cell, Column}
-use Rattle.netlist.specs.Netlist.{Gate, Statement, gatesOf, isInput, lowPrice, highPrice}
+use Rattle.library_table.specs.Cells.{Cell, Column}
+use Rattle.netlist_table.specs.Netlist.{Gate, Statement, gatesOf, isInput, lowPrice, highPrice}
 use Rattle.calculation.specs.declared.Counts.{Counts}
 use Rattle.calculation.specs.Nodes.{Kind, combinational, sequential, Purpose, set, observe, node}
 use Rattle.calculation.specs.Prices.{Pricing, inputCost, Figures, WithinRanges}
@@ -24,12 +24,12 @@ use Rattle.calculation.specs.Calculation.{startAt, stages, analysedAt}
 use Rattle.calculation.specs.Settled.{inOrder}
 use Rattle.calculation.specs.Plans.{Plan, Plan.input, Plan.row, Plan.output, Plan.through, Plans, Plans.done, Plans.also, costAt, costsAt}
 use Rattle.calculation.specs.Between.{numberAt, AnalysisAt, Between}
-use Rattle.calculation.proofs.Placing.{Placed, node-injective, firstNumber, start-length, start-at}
-use Rattle.calculation.proofs.Pricing.{within-ends, low-within, high-within, within-figures}
-use Rattle.calculation.proofs.Visiting.{Has, sets-has, observes-has, Visiting, visiting-node, visiting-more, setting-from, observing-from}
-use Rattle.calculation.proofs.Accepting.{asked-placed}
-use Rattle.calculation.proofs.Needing.{column}
-use Rattle.calculation.proofs.Bounding.{visiting-placed, settled, few-sweeps, settled-once}
+use Rattle.calculation.proofs.Places.{Placed, node-injective, firstNumber, start-length, start-at}
+use Rattle.calculation.proofs.Prices.{within-ends, low-within, high-within, within-figures}
+use Rattle.calculation.proofs.Visits.{Has, sets-has, observes-has, Visiting, visiting-node, visiting-more, setting-from, observing-from}
+use Rattle.calculation.proofs.Acceptance.{asked-placed}
+use Rattle.calculation.proofs.Needs.{column}
+use Rattle.calculation.proofs.Bounds.{visiting-placed, settled, few-sweeps, settled-once}
 use Rattle.calculation.proofs.Exactness.{exact}
 
 -- ---- the cost of a plan

@@ -12,8 +12,8 @@ use Rattle.plans.specs.System as General
 use Rattle.plans.specs.Sweep.{at}
 use Rattle.plans.specs.Exact as GeneralExact
 use Rattle.plans.proofs.Laws.{at-getD, first-start, stages-exact, stands-carried}
-use Rattle.cell_library.specs.Cells.{Cell}
-use Rattle.netlist.specs.Netlist.{Statement, gatesOf, mentioned}
+use Rattle.library_table.specs.Cells.{Cell}
+use Rattle.netlist_table.specs.Netlist.{Statement, gatesOf, mentioned}
 use Rattle.calculation.specs.Nodes.{Kind, Purpose, lineOf, node}
 use Rattle.calculation.specs.Prices.{Pricing, Figures}
 use Rattle.calculation.specs.Ways.{pinLine}
@@ -22,14 +22,14 @@ use Rattle.calculation.specs.Calculation.{startAt, stages, analysedAt}
 use Rattle.calculation.specs.Settled.{inOrder}
 use Rattle.calculation.specs.Plans.{Plan, ExactAt, costAt}
 use Rattle.calculation.specs.Plans as P
-use Rattle.calculation.proofs.Placing.{Placed, node-inside}
-use Rattle.calculation.proofs.Visiting.{getD-listed}
-use Rattle.netlist.specs.Netlist as NL
-use Rattle.netlist.proofs.Laws.{marked-mentioned, gate-mentioned}
-use Rattle.calculation.proofs.Accepting.{pin-count}
-use Rattle.calculation.proofs.Bounding.{apart, works, settled, all-inside, numbers-length, numbers-bounded}
+use Rattle.calculation.proofs.Places.{Placed, node-inside}
+use Rattle.calculation.proofs.Visits.{getD-listed}
+use Rattle.netlist_table.specs.Netlist as NL
+use Rattle.netlist_table.proofs.Laws.{marked-mentioned, gate-mentioned}
+use Rattle.calculation.proofs.Acceptance.{pin-count}
+use Rattle.calculation.proofs.Bounds.{apart, works, settled, all-inside, numbers-length, numbers-bounded}
 use Rattle.calculation.specs.Systems.{systemAt}
-use Rattle.calculation.proofs.Planning.{start-first, generally, written}
+use Rattle.calculation.proofs.PlansAlike.{start-first, generally, written}
 
 module _ (cells : List Cell) (ss : List Statement) (sound : BothSound cells ss) (price : Pricing) (figures : Figures price ss) where
   -- The theorem of crate `plans` at this netlist.

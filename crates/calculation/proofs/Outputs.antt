@@ -17,10 +17,10 @@ use Rattle.cost.specs.Cost.{never}
 use Rattle.plans.specs.System.{Visit}
 use Rattle.plans.specs.Sweep.{at, renew, lower, Settles, Run, Visited}
 use Rattle.plans.specs.Stages.{runStage, AllWithin}
-use Rattle.plans.specs.Standing.{Alike, Looks, Under}
+use Rattle.plans.specs.Continued.{Alike, Looks, Under}
 use Rattle.plans.proofs.Laws.{at-ext, at-set-same, at-set-other, lower-stores, renew-stores, settles-length, settles-other, settles-once, renew-reads, lower-reads, alike-settles, lower-start, pad-settles}
-use Rattle.cell_library.specs.Cells.{Cell}
-use Rattle.netlist.specs.Netlist.{Gate, Statement, gatesOf, isInput, isOutput}
+use Rattle.library_table.specs.Cells.{Cell}
+use Rattle.netlist_table.specs.Netlist.{Gate, Statement, gatesOf, isInput, isOutput}
 use Rattle.calculation.specs.Nodes.{Kind, combinational, sequential}
 use Rattle.calculation.specs.Ways.{settingVisits, observingVisits}
 use Rattle.calculation.specs.Acceptance.{BothSound}
@@ -28,8 +28,8 @@ use Rattle.calculation.specs.Prices.{Pricing, Figures, inputCost}
 use Rattle.calculation.specs.Calculation.{startLine, startLines, startAt, settingStage, observingStage, stages, Analysed, analysedAt}
 use Rattle.calculation.specs.Runs.{mixed, ofSetting, relaid, runsFrom, lastRuns, observedAnew}
 use Rattle.calculation.specs.Added.{OutputsAdded}
-use Rattle.calculation.proofs.Placing.{kind-small, start-length}
-use Rattle.calculation.proofs.Bounding.{within, numbers-length, setting-visited, setting-needed, observing-visited, observing-needed}
+use Rattle.calculation.proofs.Places.{kind-small, start-length}
+use Rattle.calculation.proofs.Bounds.{within, numbers-length, setting-visited, setting-needed, observing-visited, observing-needed}
 
 -- ---- two tables mixed
 

@@ -11,12 +11,12 @@ use Rattle.cost.specs.Cost.{capped}
 use Rattle.plans.specs.System.{Way, Visit, Offers}
 use Rattle.plans.specs.Exact.{first}
 use Rattle.plans.specs.Stages.{runStage, Stages, Stages.ended, Stages.stage, AllWork, AllWithin}
-use Rattle.plans.specs.Standing.{WaysAdded, allByLower}
+use Rattle.plans.specs.Continued.{WaysAdded, allByLower}
 use Rattle.plans.proofs.Laws.{first-start, stages-within, stages-once, lowered-stages, standing-above, continued}
-use Rattle.cell_library.specs.Cells.{Row, Cell}
-use Rattle.netlist.specs.Netlist.{Gate, Statement, gatesOf}
-use Rattle.netlist.specs.Sound.{DrivenOnce}
-use Rattle.netlist.proofs.Laws.{driven-once}
+use Rattle.library_table.specs.Cells.{Row, Cell}
+use Rattle.netlist_table.specs.Netlist.{Gate, Statement, gatesOf}
+use Rattle.netlist_table.specs.Sound.{DrivenOnce}
+use Rattle.netlist_table.proofs.Laws.{driven-once}
 use Rattle.calculation.specs.Nodes.{Kind, lineOf}
 use Rattle.calculation.specs.Ways.{cellOf, Role, setting, observing, purposeOf, groupOf, namedBy, merges, asks, isWay, usable, wayOf, waysOf, visit, settingVisits}
 use Rattle.calculation.specs.Acceptance.{BothSound}
@@ -25,12 +25,12 @@ use Rattle.calculation.specs.Calculation.{startAt, stages, Analysed, ana
 use Rattle.calculation.specs.Runs.{runsFrom}
 use Rattle.calculation.specs.Settled.{inOrder, FewSweeps}
 use Rattle.calculation.specs.Added.{RowsAdded, AtGates}
-use Rattle.calculation.proofs.Placing.{node-injective, start-length}
-use Rattle.calculation.proofs.Visiting.{Sets, Has, sets-has, Visiting, visiting-node, setting-from, usable-from, usable-listed}
-use Rattle.calculation.proofs.Accepting.{purpose-placed}
-use Rattle.calculation.proofs.Bounding.{all-from, all-listed, apart, works, works-from, settled, all-inside, sets-never, numbers-length, numbers-bounded}
+use Rattle.calculation.proofs.Places.{node-injective, start-length}
+use Rattle.calculation.proofs.Visits.{Sets, Has, sets-has, Visiting, visiting-node, setting-from, usable-from, usable-listed}
+use Rattle.calculation.proofs.Acceptance.{purpose-placed}
+use Rattle.calculation.proofs.Bounds.{all-from, all-listed, apart, works, works-from, settled, all-inside, sets-never, numbers-length, numbers-bounded}
 use Rattle.calculation.specs.Systems.{priceAt, systemAt}
-use Rattle.calculation.proofs.Planning.{start-first}
+use Rattle.calculation.proofs.PlansAlike.{start-first}
 use Rattle.calculation.proofs.Exactness.{generally-exact}
 
 -- ---- a cell

@@ -4,8 +4,8 @@ use mathlib.Core.Bool.{true}
 use mathlib.Core.List.{List, List·Memᴰ}
 use mathlib.Core.Path.{_≡_}
 use Prim.Native.Nat.{ℕ}
-use Rattle.cell_library.specs.Cells.{Row, Cell}
-use Rattle.netlist.specs.Netlist.{Gate, Statement, gatesOf, isInput, isOutput}
+use Rattle.library_table.specs.Cells.{Row, Cell}
+use Rattle.netlist_table.specs.Netlist.{Gate, Statement, gatesOf, isInput, isOutput}
 use Rattle.calculation.specs.Nodes.{Kind}
 use Rattle.calculation.specs.Ways.{cellOf, Role, groupOf, oneWire}
 

@@ -10,8 +10,8 @@ use Rattle.sizes.specs.Sizes as Size
 use Rattle.reading.specs.Choice.{pick}
 use Rattle.cost.specs.Cost.{most, never, isNever, isOver, _⊕_}
 use Rattle.plans.specs.Sweep.{at}
-use Rattle.cell_library.specs.Cells.{Cell}
-use Rattle.netlist.specs.Netlist.{Statement, mark, output, member, mentioned, isOutput, linesWhere}
+use Rattle.library_table.specs.Cells.{Cell}
+use Rattle.netlist_table.specs.Netlist.{Statement, mark, output, member, mentioned, isOutput, linesWhere}
 use Rattle.calculation.specs.declared.Advice.{Advice}
 use Rattle.calculation.specs.declared.Advice.the-variants.{NoneAllowed, Pad}
 use Rattle.calculation.specs.Nodes.{combinational, observe, node}
@@ -140,7 +140,7 @@ abbrev pub Says : List Cell → List Statement → List ℕ → Advice → Type 
 Says cells ss forbidden NoneAllowed = (m : ℕ) → allowed ss forbidden m ≡ false
 Says cells ss forbidden (Pad l x) = Best cells ss forbidden l x
 
--- `advice-says` of proofs/Advising.antt.
+-- `advice-says` of proofs/AdvisedLine.antt.
 abbrev pub AdviceSays : Type 0
 AdviceSays =
     (cells : List Cell) (ss : List Statement) → BothSound cells ss → (forbidden : List ℕ) →

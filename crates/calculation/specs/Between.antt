@@ -8,8 +8,8 @@ use mathlib.Core.Path.{_≡_}
 use Prim.Native.Nat.{ℕ, _≤_}
 use lib.ListN.{length, getD}
 use Rattle.cost.specs.Cost.{never}
-use Rattle.cell_library.specs.Cells.{Cell}
-use Rattle.netlist.specs.Netlist.{Statement, gatesOf, lowPrice, highPrice}
+use Rattle.library_table.specs.Cells.{Cell}
+use Rattle.netlist_table.specs.Netlist.{Statement, gatesOf, lowPrice, highPrice}
 use Rattle.calculation.specs.Nodes.{Kind, combinational, sequential, Purpose, node}
 use Rattle.calculation.specs.Prices.{Pricing}
 use Rattle.calculation.specs.Calculation.{Analysed, analysedAt}

@@ -13,9 +13,9 @@ use Rattle.cost.specs.Cost.{never}
 use Rattle.plans.specs.System.{System}
 use Rattle.plans.specs.Sweep.{at}
 use Rattle.plans.specs.Budget.{fixed, offer, Budgeted, budgeted}
-use Rattle.cell_library.specs.Cells.{Cell}
-use Rattle.netlist.specs.Netlist.{Statement}
-use Rattle.netlist.specs.Sound.{InRange}
+use Rattle.library_table.specs.Cells.{Cell}
+use Rattle.netlist_table.specs.Netlist.{Statement}
+use Rattle.netlist_table.specs.Sound.{InRange}
 use Rattle.calculation.specs.Nodes.{combinational, set, node}
 use Rattle.calculation.specs.Prices.{pricesOf}
 use Rattle.calculation.specs.Systems.{system}

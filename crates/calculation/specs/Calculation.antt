@@ -8,8 +8,8 @@ use Rattle.reading.specs.Choice.{pick}
 use Rattle.cost.specs.Cost.{never}
 use Rattle.plans.specs.Sweep.{run, Run, renew, lower}
 use Rattle.plans.specs.Stages.{Stage, runStage}
-use Rattle.cell_library.specs.Cells.{Cell}
-use Rattle.netlist.specs.Netlist.{Gate, Statement, gatesOf, isInput, isOutput, netlist-open}
+use Rattle.library_table.specs.Cells.{Cell}
+use Rattle.netlist_table.specs.Netlist.{Gate, Statement, gatesOf, isInput, isOutput, netlist-open}
 use Rattle.calculation.specs.declared.Counts.{Counts}
 use Rattle.calculation.specs.Nodes.{Kind, combinational, sequential}
 use Rattle.calculation.specs.Prices.{Pricing, inputCost, pricesOf}

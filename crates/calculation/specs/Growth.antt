@@ -5,7 +5,7 @@ use mathlib.Core.List.{List, [], _∷_}
 use lib.Dec.{eqb}
 use Rattle.reading.specs.Choice.{pick}
 use Rattle.text.specs.Lines.{sameBytes}
-use Rattle.cell_library.specs.Cells.{Heading, plain, deep, Row, Group, Cell}
+use Rattle.library_table.specs.Cells.{Heading, plain, deep, Row, Group, Cell}
 use Rattle.calculation.specs.Ways.{oneWire}
 
 -- Rows are the same by depth and columns.

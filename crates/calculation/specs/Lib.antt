@@ -10,7 +10,7 @@ pub mod Acceptance
 pub mod Added
 pub mod Pads
 pub mod Growth
-pub mod Standing
+pub mod StandingAnalysis
 pub mod Advice
 pub mod Changes
 pub mod Between

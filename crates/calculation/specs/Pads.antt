@@ -9,8 +9,8 @@ use lib.ListN.{length}
 use Rattle.reading.specs.Choice.{pick}
 use Rattle.reading.specs.Numbers as No
 use Rattle.reading.specs.Refusal.{Read, read, _>>_, weigh}
-use Rattle.cell_library.specs.Cells.{Cell}
-use Rattle.netlist.specs.Netlist.{Statement, mark, output, mentioned, isOutput}
+use Rattle.library_table.specs.Cells.{Cell}
+use Rattle.netlist_table.specs.Netlist.{Statement, mark, output, mentioned, isOutput}
 use Rattle.calculation.specs.Acceptance.{BothSound}
 use Rattle.calculation.specs.Prices.{pricesOf}
 use Rattle.calculation.specs.Calculation.{Analysed, analysed}
@@ -88,7 +88,7 @@ unfoldable pub steps : State → List Operation → State
 steps s [] = s
 steps s (o ∷ os) = steps (step s o) os
 
--- ---- what is shown of them, under the names of proofs/Padding.antt
+-- ---- what is shown of them, under the names of proofs/Pads.antt
 
 -- "the numbers equal those of a new analysis with the committed pads as outputs", and so do the four counts.
 pub record AsNew (s : State) : Type 0 where

@@ -1,13 +1,13 @@
 -- Plans, in document 01's own words ("Plans"), over the cells and the statements as they were read, and what demand 3 says of
--- a number. `proofs/Planning.antt` shows that these plans are those of crate `plans` at the ways and visits of this netlist.
+-- a number. `proofs/PlansAlike.antt` shows that these plans are those of crate `plans` at the ways and visits of this netlist.
 -- Assumes nothing.
 use mathlib.Core.Bool.{true}
 use mathlib.Core.List.{List, [], _∷_, List·Memᴰ}
 use mathlib.Core.Path.{_≡_}
 use Prim.Native.Nat.{ℕ, _+_, _≤_}
 use Rattle.plans.specs.Exact.{Stands}
-use Rattle.cell_library.specs.Cells.{Row, Cell, Column}
-use Rattle.netlist.specs.Netlist.{Gate, Statement, gatesOf, isInput, isOutput}
+use Rattle.library_table.specs.Cells.{Row, Cell, Column}
+use Rattle.netlist_table.specs.Netlist.{Gate, Statement, gatesOf, isInput, isOutput}
 use Rattle.calculation.specs.Nodes.{Kind, Purpose, set, observe}
 use Rattle.calculation.specs.Prices.{Pricing, inputCost, pricesOf}
 use Rattle.calculation.specs.Ways.{cellOf, pinLine, asked, setting, observing, groupOf, asks, isWay}

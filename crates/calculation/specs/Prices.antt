@@ -6,7 +6,7 @@ use mathlib.Core.List.{List, List·Memᴰ}
 use mathlib.Core.Path.{_≡_}
 use Prim.Native.Nat.{ℕ, _≤_}
 use Rattle.cost.specs.Cost.{most}
-use Rattle.netlist.specs.Netlist.{Range, Statement, rangesOf, isInput, hasRange, lowPrice, highPrice}
+use Rattle.netlist_table.specs.Netlist.{Range, Statement, rangesOf, isInput, hasRange, lowPrice, highPrice}
 use Rattle.calculation.specs.Nodes.{Kind, combinational, sequential}
 
 -- What it costs in combinational terms to set a line to either value, where the line is an input.

@@ -9,8 +9,8 @@ use Rattle.sizes.specs.Sizes as Size
 use Rattle.reading.specs.Choice.{pick}
 use Rattle.plans.specs.Sweep.{lower, Run}
 use Rattle.plans.specs.Stages.{Stage, runStage}
-use Rattle.cell_library.specs.Cells.{Cell}
-use Rattle.netlist.specs.Netlist.{Gate, Statement, gatesOf}
+use Rattle.library_table.specs.Cells.{Cell}
+use Rattle.netlist_table.specs.Netlist.{Gate, Statement, gatesOf}
 use Rattle.calculation.specs.declared.Counts.{Counts}
 use Rattle.calculation.specs.Nodes.{combinational, sequential}
 use Rattle.calculation.specs.Prices.{Pricing}
@@ -39,8 +39,8 @@ runsFrom cells gs xs =
     }
 
 -- The four runs where each visit keeps the lesser, whatever its rule: from any costs they settle within the same bounds
--- (`lesser-settled` of proofs/Observing.antt). Where the numbers stand under fewer rows they are `runsFrom` (`lesser-on` of
--- proofs/Changing.antt).
+-- (`lesser-settled` of proofs/AnyNumbers.antt). Where the numbers stand under fewer rows they are `runsFrom` (`lesser-on` of
+-- proofs/NewLibrary.antt).
 abbrev pub lesser : Stage → Stage
 lesser s = record { rule = lower; visits = s .visits; bound = s .bound }
 

@@ -4,8 +4,8 @@
 use mathlib.Core.List.{List, [], _∷_}
 use Prim.Native.Nat.{ℕ, _+_, _*_, _≤_}
 use Rattle.plans.specs.Stages.{Stages}
-use Rattle.cell_library.specs.Cells.{Cell}
-use Rattle.netlist.specs.Netlist.{Statement, gatesOf}
+use Rattle.library_table.specs.Cells.{Cell}
+use Rattle.netlist_table.specs.Netlist.{Statement, gatesOf}
 use Rattle.calculation.specs.declared.Counts.{Counts}
 use Rattle.calculation.specs.Prices.{Pricing, pricesOf}
 use Rattle.calculation.specs.Calculation.{startAt, stages, Analysed}

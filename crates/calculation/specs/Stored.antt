@@ -6,10 +6,10 @@ use mathlib.Core.Path.{_≡_}
 use Prim.Native.Nat.{ℕ, _≤_}
 use lib.ListN.{length, drop}
 use Rattle.sizes.specs.Sizes as Size
-use Rattle.cell_library.specs.Cells.{Cell}
-use Rattle.cell_library.specs.Layout.{libraryWords}
-use Rattle.netlist.specs.Netlist.{Statement}
-use Rattle.netlist.specs.Layout.{netlistWords}
+use Rattle.library_table.specs.Cells.{Cell}
+use Rattle.library_table.specs.Layout.{libraryWords}
+use Rattle.netlist_table.specs.Netlist.{Statement}
+use Rattle.netlist_table.specs.Layout.{netlistWords}
 use Rattle.calculation.specs.Acceptance.{BothSound}
 use Rattle.calculation.specs.Prices.{Pricing}
 use Rattle.calculation.specs.Calculation.{Analysed, analysedAt, analysed}

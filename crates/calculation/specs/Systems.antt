@@ -9,8 +9,8 @@ use Rattle.cost.specs.Cost.{never}
 use Rattle.plans.specs.System.{System}
 use Rattle.plans.specs.Sweep.{at}
 use Rattle.plans.specs.Stages.{allVisits}
-use Rattle.cell_library.specs.Cells.{Cell}
-use Rattle.netlist.specs.Netlist.{Statement, gatesOf}
+use Rattle.library_table.specs.Cells.{Cell}
+use Rattle.netlist_table.specs.Netlist.{Statement, gatesOf}
 use Rattle.calculation.specs.Prices.{Pricing, pricesOf}
 use Rattle.calculation.specs.Calculation.{startAt, stages}
 

@@ -8,10 +8,10 @@ use lib.Dec.{eqb}
 use lib.ListN.{getD}
 use Rattle.reading.specs.Choice.{pick}
 use Rattle.plans.specs.System.{Way, Visit}
-unfoldable pub use Rattle.cell_library.specs.Cells.{noCell}
-use Rattle.cell_library.specs.Cells.{Row, Group, Cell, Column, pin, output, observe, bitOf, settingColumns, observingColumns, bit, named, cells-open}
-use Rattle.cell_library.specs.Library.{Word, CC, CO, SC, SO, wordGroups, anyOf}
-use Rattle.netlist.specs.Netlist.{Gate}
+unfoldable pub use Rattle.library_table.specs.Cells.{noCell}
+use Rattle.library_table.specs.Cells.{Row, Group, Cell, Column, pin, output, observe, bitOf, settingColumns, observingColumns, bit, named, cells-open}
+use Rattle.library_table.specs.Library.{Word, CC, CO, SC, SO, wordGroups, anyOf}
+use Rattle.netlist_table.specs.Netlist.{Gate}
 use Rattle.calculation.specs.Nodes.{Kind, combinational, sequential, Purpose, node, nodes-open}
 use Rattle.calculation.specs.Nodes as N
 

@@ -16,7 +16,7 @@ use Rattle.reading.proofs.Laws.{or-left, or-right}
 use Rattle.files.specs.declared.Filling.the-variants.{More, Done}
 use Rattle.files.specs.declared.Loaded.{Loaded}
 use Rattle.files.specs.declared.Loaded.the-variants.{Bytes, Unreadable}
-use Rattle.files.specs.Loading.{Within, nextOf}
+use Rattle.files.specs.Loads.{Within, nextOf}
 
 module _ (size at : ℕ) where
   pub failed : (got : ℤ) → ltZ got (pos 0) ≡ true → Done Unreadable ≡ nextOf size at got

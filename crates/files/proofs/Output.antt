@@ -20,7 +20,7 @@ use Rattle.writer.specs.Put.{Put}
 use Rattle.writer.proofs.Buffer.{put-prints}
 use Rattle.files.specs.declared.Loaded.{Loaded}
 use Rattle.files.specs.declared.Loaded.the-variants.{Bytes, Unreadable}
-use Rattle.files.specs.Loading.{Within, Seen}
+use Rattle.files.specs.Loads.{Within, Seen}
 use Rattle.files.specs.Output.{unreadable, ofFile, ofFiles, Outputs, longRefused, OneLongRefused, LongRefused, PrintsFile, PrintsFiles}
 
 pub seen : (l : Loaded) (buffer : List ℕ) → Size.textBytes < length buffer → Within l buffer → Seen l buffer

@@ -11,7 +11,7 @@ use Rattle.text.specs.Bytes.{bytes}
 use Rattle.writer.specs.Refused.{refusalBytes}
 use Rattle.files.specs.declared.Loaded.{Loaded}
 use Rattle.files.specs.declared.Loaded.the-variants.{Bytes, Unreadable}
-use Rattle.files.specs.Loading.{Filled}
+use Rattle.files.specs.Loads.{Filled}
 
 -- "when a file can't be read it prints `unreadable` and nothing else"; "Every printed line ends with byte 10."
 unfoldable pub unreadable : List ℕ

@@ -9,7 +9,7 @@ ghost use mathlib.Core.Path.{_≡_};
 ghost use Prim.Native.Nat.{_≤_};
 ghost use lib.ListN.{length, take};
 ghost use Rattle.writer.specs.Put.{Put};
-ghost use Rattle.files.specs.Loading.{Within, Seen, nextOf};
+ghost use Rattle.files.specs.Loads.{Within, Seen, nextOf};
 ghost use Rattle.files.specs.Output.{unreadable};
 
 // One byte more than a text may have.

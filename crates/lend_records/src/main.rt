@@ -1,20 +1,20 @@
 // A program that lends netlists as records: of each list the report, or the refusal's number and the
 // record's place. Its output is stored beside it. It has a list for each number that records can meet,
 // and accepted ones; lists of 2,000 records and more, of which it prints what is left in lent memory;
-// that records and a text that say the same come to the same is proved, in crate `records`,
+// that records and a text that say the same come to the same is proved, in crate `analysis_records`,
 // proofs/Same.antt.
+use analysis_records::Record;
+use analysis_records::analyse_records;
+use demands::Answer;
 use files::FILE_BYTES;
 use files::Loaded;
 use libc::STDOUT_FILENO;
-use outcome::Answer;
 use reading::Refusal;
-use records::Record;
-use records::analyse_records;
 ghost use Prim.Native.Nat.{_+_, _*_, _≤_};
 ghost use lib.ListN.{take};
 ghost use Rattle.sizes.specs.Sizes as Size;
-ghost use Rattle.outcome.specs.Answer.{answerRead, lentOf};
-ghost use Rattle.records.specs.Outcome.{RecordsPromised};
+ghost use Rattle.demands.specs.Answer.{answerRead, lentOf};
+ghost use Rattle.analysis_records.specs.Outcome.{RecordsPromised};
 
 // One entry below the published size, and one byte above what a text may have.
 const NUMBERS_SHORT: usize = sizes::NUMBERS - 1;

@@ -21,13 +21,13 @@ use Rattle.text.specs.declared.Numeral.{Numeral}
 use Rattle.text.specs.declared.Numeral.the-variants.{Value, Bad}
 use Rattle.reading.proofs.Laws.{by-test, clash, and-left, and-right, or-left, or-right}
 use Rattle.text.proofs.Laws.{numeral-good, numeral-bad, fieldsFrom-step, fieldsFrom-end}
-use Rattle.cell_library.specs.Cells.{Heading, plain, deep, Row, rowOf, Group, bit}
-use Rattle.cell_library.proofs.Any.{any-append}
-use Rattle.cell_library.specs.Library.{Fields, holds, rowDigits, isRow, isJoin, isZ, Before, word, row, join, mayJoin, mayEnd, rowsForm, joinFirst, withRow, groupsOf, anyOf, aboveRows, above, namesNone, observesNot, Word, CC, CO, SC, SO, wordBytes, groupCount, columnCount, idle, emptyGroup, excepted, rowIdle, rowsAfter}
+use Rattle.library_table.specs.Cells.{Heading, plain, deep, Row, rowOf, Group, bit}
+use Rattle.library_table.proofs.Any.{any-append}
+use Rattle.library_table.specs.Library.{Fields, holds, rowDigits, isRow, isJoin, isZ, Before, word, row, join, mayJoin, mayEnd, rowsForm, joinFirst, withRow, groupsOf, anyOf, aboveRows, above, namesNone, observesNot, Word, CC, CO, SC, SO, wordBytes, groupCount, columnCount, idle, emptyGroup, excepted, rowIdle, rowsAfter}
 use Rattle.library_rows.specs.Passes.{orZero, fieldValue, fieldRow, numberHeading, headed, leastColumns, askedOf, noColumns, nonePassed, marked, opened, groupFor, rowAdded, rowlessAdded, fieldPassed, passed, fieldStored, stored, numberOf, Small, RowsRead, wordAt, setting, rowNumber}
 use Rattle.library_rows.specs.declared.Asked.{Asked}
 use Rattle.library_rows.specs.declared.Passed.{Passed}
-use Rattle.cell_library.proofs.Places.{first-most}
+use Rattle.library_table.proofs.Places.{first-most}
 
 -- ---- a field
 

@@ -15,15 +15,15 @@ use Rattle.table.specs.Blocks.{fitted, blocks}
 use Rattle.table.proofs.Places.{length-fitted, fitted-short, length-blocks, blocks-append}
 use Rattle.reading.specs.Choice.{pick}
 use Rattle.reading.proofs.Laws.{by-test, clash, or-left, or-right}
-use Rattle.cell_library.specs.Cells.{Heading, Row, Group, Cell}
-use Rattle.cell_library.proofs.Any.{any-append}
-use Rattle.cell_library.specs.Library.{Fields, isRow, isJoin, isZ, Before, word, row, join, mayJoin, rowsForm, groupsOf, emptyGroup, Word, CC, CO, SC, SO, anyOf, aboveRows, wordGroups, withGroups}
-use Rattle.cell_library.specs.Layout.{rowWords, groupWords, cellGroups, headingNumber, cellWords, firstGroup}
+use Rattle.library_table.specs.Cells.{Heading, Row, Group, Cell}
+use Rattle.library_table.proofs.Any.{any-append}
+use Rattle.library_table.specs.Library.{Fields, isRow, isJoin, isZ, Before, word, row, join, mayJoin, rowsForm, groupsOf, emptyGroup, Word, CC, CO, SC, SO, anyOf, aboveRows, wordGroups, withGroups}
+use Rattle.library_table.specs.Layout.{rowWords, groupWords, cellGroups, headingNumber, cellWords, firstGroup}
 use Rattle.library_rows.specs.Passes.{fieldRow, headed, askedOf, rowPut, rowlessPut, nonePassed, opened, groupFor, rowlessAdded, fieldPassed, fieldStored, stored}
 use Rattle.library_rows.specs.Passes.{countedWords}
 use Rattle.library_rows.specs.declared.Asked.{Asked}
 use Rattle.library_rows.specs.declared.Passed.{Passed}
-use Rattle.cell_library.proofs.Places.{length-rowWords, length-groupWords, length-cellWords, space, filledGroups, frontGroups, backGroups, groups-open, length-front}
+use Rattle.library_table.proofs.Places.{length-rowWords, length-groupWords, length-cellWords, space, filledGroups, frontGroups, backGroups, groups-open, length-front}
 use Rattle.library_rows.proofs.Passes.{joined, gather, by-field, may-joined, rowless-first, gather-first, form-join, form-rowless, form-row, word-first, row-some, closed, joined-number, shown, join-passed, rowless-passed, more-passed, new-passed, none-passed, first-passed}
 
 -- ---- stores into lists put together from parts

@@ -1,5 +1,5 @@
 -- The walk over a row line, field by field from the left, as the code makes it, and the refusal number of the line.
--- `proofs/Passes.antt` ties them to the definitions of `cell_library/specs/Library.antt`, which are the ones to read against
+-- `proofs/Passes.antt` ties them to the definitions of `library_table/specs/Library.antt`, which are the ones to read against
 -- document 01, and `proofs/Stores.antt` to the layout of the table.
 -- Assumes nothing.
 use mathlib.Core.Bool.{Bool, true, false, not, _&&_, _||_}
@@ -15,9 +15,9 @@ use Rattle.table.specs.Blocks.{fitted, blocks}
 use Rattle.reading.specs.Numbers as No
 use Rattle.reading.specs.Choice.{pick}
 use Rattle.text.specs.Numeral.{numeral}
-use Rattle.cell_library.specs.Cells.{Heading, plain, deep, Row, rowOf, Cell}
-use Rattle.cell_library.specs.Library.{Fields, holds, rowDigits, isRow, isJoin, isZ, above, Word, CC, CO, SC, SO, groupCount, columnCount, rowIdle, rowsAfter, groupsOf, anyOf, aboveRows}
-use Rattle.cell_library.specs.Layout.{firstGroup, cellWords}
+use Rattle.library_table.specs.Cells.{Heading, plain, deep, Row, rowOf, Cell}
+use Rattle.library_table.specs.Library.{Fields, holds, rowDigits, isRow, isJoin, isZ, above, Word, CC, CO, SC, SO, groupCount, columnCount, rowIdle, rowsAfter, groupsOf, anyOf, aboveRows}
+use Rattle.library_table.specs.Layout.{firstGroup, cellWords}
 use Rattle.library_rows.specs.declared.Asked.{Asked}
 use Rattle.library_rows.specs.declared.Passed.{Passed}
 

@@ -3,9 +3,9 @@ ghost use mathlib.Core.Path.{_≡_};
 ghost use Prim.Native.Nat.{_+_, _≤_};
 ghost use Rattle.sizes.specs.Places.{groupPlace};
 ghost use Rattle.sizes.specs.Sizes as Size;
-ghost use Rattle.cell_library.specs.Layout.{firstGroup};
+ghost use Rattle.library_table.specs.Layout.{firstGroup};
 ghost use Rattle.library_rows.specs.Passes.{wordAt, farthest, rowPut, rowlessPut};
-use cell_library::cells::cell_place;
+use library_table::cells::cell_place;
 use table::put;
 
 // The first group of a word among the groups of a cell.

@@ -16,18 +16,18 @@ use Rattle.reading.specs.Refusal.{Read, refused, read, _>>=_, _>>_, form}
 use Rattle.reading.proofs.Laws.{by-test, and-right}
 use Rattle.text.specs.Lines.{sameBytes}
 use Rattle.text.proofs.Laws.{nameForm-length}
-use Rattle.cell_library.specs.Cells.{Heading, Group, Cell}
-use Rattle.cell_library.specs.Library.{Fields, holds, rowsAfter, nameLine, word, rowsForm, anyOf, aboveRows, groupsOf, Word, CC, CO, SC, SO, wordBytes, wordLine, endLine, lineAfter, Place, outside, inside, Reading, begun, wordGroups, withGroups, rowLine, libraryLine}
-use Rattle.cell_library.specs.Layout.{headingNumber, libraryWords, LibraryHolds}
+use Rattle.library_table.specs.Cells.{Heading, Group, Cell}
+use Rattle.library_table.specs.Library.{Fields, holds, rowsAfter, nameLine, word, rowsForm, anyOf, aboveRows, groupsOf, Word, CC, CO, SC, SO, wordBytes, wordLine, endLine, lineAfter, Place, outside, inside, Reading, begun, wordGroups, withGroups, rowLine, libraryLine}
+use Rattle.library_table.specs.Layout.{headingNumber, libraryWords, LibraryHolds}
 use Rattle.library_rows.specs.Passes.{countedWords, numberHeading, askedOf, nonePassed, stored, wordAt, rowNumber, RowsRead}
 use Rattle.library_text.specs.Headers.{headerPut, headerNumber, endFormed}
-use Rattle.cell_library.specs.Sound.{SoundGroup, wordNumber, endNumber, wantedNumber, SoundEntry, SoundPlace, SoundReading}
+use Rattle.library_table.specs.Sound.{SoundGroup, wordNumber, endNumber, wantedNumber, SoundEntry, SoundPlace, SoundReading}
 use Rattle.library_text.specs.Walk.{placeCells, readingWords, placeNumber, placePins, placeHeading, StateFits, Shows, Leaves}
 use Rattle.library_text.specs.declared.lines.State.{State}
-use Rattle.cell_library.proofs.Laws.{rowLine-sound, libraryLine-sound, sound-fits}
+use Rattle.library_table.proofs.Laws.{rowLine-sound, libraryLine-sound, sound-fits}
 use Rattle.library_text.proofs.Headers.{rowLine-number, headingNo, pinsOf, headerIn, pins-form, heading-number, number-heading, nameAfter-none, nameLine-number, endAfter-formed}
 use Rattle.library_rows.proofs.Passes.{row-formed}
-use Rattle.cell_library.proofs.Places.{space, within-space}
+use Rattle.library_table.proofs.Places.{space, within-space}
 use Rattle.library_rows.proofs.Stores.{partTable, line-stored}
 use Rattle.library_text.proofs.Stores.{header-stored, count-stored}
 

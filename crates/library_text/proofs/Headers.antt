@@ -20,12 +20,12 @@ use Rattle.reading.specs.Refusal.{refused, read, _>>=_, _>>_, weigh, form}
 use Rattle.reading.proofs.Laws.{by-test, and-left, and-right}
 use Rattle.text.proofs.Cursors.{field-nth, field-last}
 use Rattle.text.proofs.Laws.{fieldsFrom-start}
-use Rattle.cell_library.specs.Cells.{Heading, plain, deep, Cell}
-use Rattle.cell_library.specs.Library.{Fields, holds, word, rowsForm, groupsOf, anyOf, aboveRows, above, Word, wordBytes, groupCount, columnCount, rowIdle, rowsAfter, rowLine, Header, headingOf, headerOf, nameAfter, endAfter, cellNamed, nameUsed, pinsBad, nameLine}
-use Rattle.cell_library.specs.Layout.{headingNumber, LibraryHolds}
+use Rattle.library_table.specs.Cells.{Heading, plain, deep, Cell}
+use Rattle.library_table.specs.Library.{Fields, holds, word, rowsForm, groupsOf, anyOf, aboveRows, above, Word, wordBytes, groupCount, columnCount, rowIdle, rowsAfter, rowLine, Header, headingOf, headerOf, nameAfter, endAfter, cellNamed, nameUsed, pinsBad, nameLine}
+use Rattle.library_table.specs.Layout.{headingNumber, LibraryHolds}
 use Rattle.library_rows.specs.Passes.{numberHeading, rowNumber}
 use Rattle.library_text.specs.Headers.{headings, headingIn, pinsIn, headerNumber, endFormed}
-use Rattle.cell_library.proofs.Names.{holds-count, holds-find}
+use Rattle.library_table.proofs.Names.{holds-count, holds-find}
 
 -- ---- the lines by their refusal numbers
 

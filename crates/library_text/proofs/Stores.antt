@@ -11,9 +11,9 @@ use lib.Seq.{set-append-seam, set-at, sets, drop-cons}
 use Rattle.sizes.specs.Sizes as Size
 use Rattle.table.specs.Blocks.{fitted, blocks}
 use Rattle.table.proofs.Places.{length-fitted}
-use Rattle.cell_library.specs.Cells.{Heading, Cell, noCell}
-use Rattle.cell_library.specs.Library.{begun}
-use Rattle.cell_library.specs.Layout.{groupWords, cellGroups, headingNumber, cellWords, libraryWords}
+use Rattle.library_table.specs.Cells.{Heading, Cell, noCell}
+use Rattle.library_table.specs.Library.{begun}
+use Rattle.library_table.specs.Layout.{groupWords, cellGroups, headingNumber, cellWords, libraryWords}
 use Rattle.library_rows.specs.Passes.{headed}
 use Rattle.library_text.specs.Headers.{headerPut}
 use Rattle.library_rows.specs.Passes.{countedWords}

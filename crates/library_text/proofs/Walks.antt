@@ -13,15 +13,15 @@ use Rattle.reading.specs.Numbers as No
 use Rattle.reading.specs.Refusal.{Read, refused, read, _>>=_, form}
 use Rattle.text.specs.Lines.{fields, part, nextAfter, linesFrom}
 use Rattle.text.proofs.Laws.{linesFrom-start, linesFrom-end, linesFrom-line, linesFrom-unended}
-use Rattle.cell_library.specs.Cells.{Cell}
-use Rattle.cell_library.specs.Library.{Place, outside, inside, Reading, libraryLine, libraryEnd, libraryFrom, library}
-use Rattle.cell_library.specs.Layout.{libraryWords}
+use Rattle.library_table.specs.Cells.{Cell}
+use Rattle.library_table.specs.Library.{Place, outside, inside, Reading, libraryLine, libraryEnd, libraryFrom, library}
+use Rattle.library_table.specs.Layout.{libraryWords}
 use Rattle.library_rows.specs.Passes.{countedWords}
 use Rattle.library_text.specs.Walk.{placeCells, readingWords, placeNumber, placePins, placeHeading, Shows, Leaves}
 use Rattle.library_text.specs.declared.lines.State.{State}
 use Rattle.library_text.proofs.Entries.{leaves-number, leaves-onward, outside-at}
-use Rattle.cell_library.proofs.Laws.{start-sound}
-use Rattle.cell_library.proofs.Places.{length-libraryWords}
+use Rattle.library_table.proofs.Laws.{start-sound}
+use Rattle.library_table.proofs.Places.{length-libraryWords}
 
 -- There is a reading that the reader's numbers and the table show, and from which the rest of the text decides.
 pub record Walked (text past : List ℕ) (at line : ℕ) (s : State) (table : List ℕ) : Type 0 where

@@ -8,9 +8,9 @@ use lib.ListN.{length}
 use Rattle.sizes.specs.Sizes as Size
 use Rattle.reading.specs.Numbers as No
 use Rattle.reading.specs.Refusal.{Read, refused, read, _>>_, weigh}
-use Rattle.cell_library.specs.Cells.{Cell}
-use Rattle.cell_library.specs.Library.{library}
-use Rattle.cell_library.specs.Layout.{libraryAfter}
+use Rattle.library_table.specs.Cells.{Cell}
+use Rattle.library_table.specs.Library.{library}
+use Rattle.library_table.specs.Layout.{libraryAfter}
 
 -- "entry (line 0)": "1 a lent table below its published size; 2 a text above 65,535 bytes", by the lengths of both.
 unfoldable pub libraryEntry : ℕ → ℕ → Read (Unit {0})

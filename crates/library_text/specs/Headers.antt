@@ -1,5 +1,5 @@
 -- The Name line and the End line of an entry by their fields, as the code judges them, and the store of a header.
--- `proofs/Headers.antt` ties them to the definitions of `cell_library/specs/Library.antt`, which are the ones to read against
+-- `proofs/Headers.antt` ties them to the definitions of `library_table/specs/Library.antt`, which are the ones to read against
 -- document 01.
 -- Assumes nothing.
 use mathlib.Core.Bool.{Bool, _&&_}
@@ -16,8 +16,8 @@ use Rattle.text.specs.Bytes.{bytes}
 use Rattle.reading.specs.Choice.{pick}
 use Rattle.text.specs.Lines.{sameBytes}
 use Rattle.text.specs.Numeral.{decimal, nameForm}
-use Rattle.cell_library.specs.Library.{Fields, pinsBad}
-use Rattle.cell_library.specs.Layout.{foundAt}
+use Rattle.library_table.specs.Library.{Fields, pinsBad}
+use Rattle.library_table.specs.Layout.{foundAt}
 
 -- The number of the heading that a field is; where it is none, the count of headings.
 abbrev pub headings : ℕ

@@ -7,10 +7,10 @@ use lib.ListN.{length}
 use Rattle.sizes.specs.Sizes as Size
 use Rattle.reading.specs.Refusal.{Read, refused, read}
 use Rattle.text.specs.Lines.{fields}
-use Rattle.cell_library.specs.Cells.{Cell}
-use Rattle.cell_library.specs.Library.{Place, outside, inside, Reading, libraryLine}
-use Rattle.cell_library.specs.Layout.{headingNumber}
-use Rattle.cell_library.specs.Sound.{wantedNumber, SoundReading}
+use Rattle.library_table.specs.Cells.{Cell}
+use Rattle.library_table.specs.Library.{Place, outside, inside, Reading, libraryLine}
+use Rattle.library_table.specs.Layout.{headingNumber}
+use Rattle.library_table.specs.Sound.{wantedNumber, SoundReading}
 use Rattle.library_rows.specs.Passes.{countedWords}
 use Rattle.library_text.specs.declared.lines.State.{State}
 

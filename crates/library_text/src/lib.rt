@@ -8,8 +8,8 @@ ghost use Rattle.sizes.specs.Sizes as Size;
 ghost use Rattle.reading.specs.Verdict.{verdictRead, doneRead};
 ghost use Rattle.table.specs.Blocks.{cleared};
 ghost use Rattle.library_text.specs.Entry.{readLibrary, libraryLeft};
-ghost use Rattle.cell_library.specs.Library.{library};
-ghost use Rattle.cell_library.specs.Layout.{libraryAfter};
+ghost use Rattle.library_table.specs.Library.{library};
+ghost use Rattle.library_table.specs.Layout.{libraryAfter};
 
 mod lines;
 mod store;

@@ -5,7 +5,7 @@ ghost use lib.ListN.{length};
 ghost use lib.Seq.{sets};
 ghost use Rattle.sizes.specs.Sizes as Size;
 ghost use Rattle.library_text.specs.Headers.{headerPut};
-use cell_library::cells::cell_place;
+use library_table::cells::cell_place;
 use table::put;
 
 fn put_bytes(table: &mut [u32], at: usize, name: &[u8])

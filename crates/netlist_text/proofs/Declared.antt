@@ -15,16 +15,16 @@ use Rattle.reading.specs.declared.Verdict.{Verdict}
 use Rattle.reading.specs.declared.Verdict.the-variants.{Accepted, Refused}
 use Rattle.reading.specs.declared.Refusal.{Refusal}
 use Rattle.reading.proofs.Laws.{refused-read}
-use Rattle.cell_library.specs.Cells.{Cell}
-use Rattle.netlist.specs.declared.Rules.{Rules}
-use Rattle.netlist.specs.Netlist.{Statement, declaring, textStatements, undeclaredLines, someLine, declared, netlist}
-use Rattle.netlist.specs.Layout.{netlistWords, NetlistHolds, netlistAfter}
-use Rattle.netlist.specs.Admitting.{someUndeclared}
-use Rattle.netlist.specs.Sound.{Sound}
-use Rattle.netlist.proofs.Laws.{text-sound}
-use Rattle.netlist.proofs.Opening.{some-same}
-use Rattle.netlist.proofs.Places.{length-netlistWords}
-use Rattle.netlist_text.specs.Reading.{ReadsAs}
+use Rattle.library_table.specs.Cells.{Cell}
+use Rattle.netlist_table.specs.declared.Rules.{Rules}
+use Rattle.netlist_table.specs.Netlist.{Statement, declaring, textStatements, undeclaredLines, someLine, declared, netlist}
+use Rattle.netlist_table.specs.Layout.{netlistWords, NetlistHolds, netlistAfter}
+use Rattle.netlist_table.specs.Admission.{someUndeclared}
+use Rattle.netlist_table.specs.Sound.{Sound}
+use Rattle.netlist_table.proofs.Laws.{text-sound}
+use Rattle.netlist_table.proofs.OpenLines.{some-same}
+use Rattle.netlist_table.proofs.Places.{length-netlistWords}
+use Rattle.netlist_text.specs.Reader.{ReadsAs}
 
 held-past : {table : List ℕ} {ss : List Statement} (h : NetlistHolds table ss) → drop Size.netlist table ≡ h .past
 held-past {table} {ss} h = rw (h .words) (drop-at (netlistWords ss) (h .past) Size.netlist (length-netlistWords ss))

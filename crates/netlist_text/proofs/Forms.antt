@@ -18,14 +18,14 @@ use Rattle.text.specs.Numeral.{decimal, nameForm, numeralRead}
 use Rattle.text.specs.declared.Numeral.{Numeral}
 use Rattle.text.specs.declared.Numeral.the-variants.{Value, Bad}
 use Rattle.text.proofs.Laws.{fieldsFrom-start, fieldsFrom-step, fieldsFrom-end}
-use Rattle.cell_library.specs.Cells.{Cell}
-use Rattle.cell_library.specs.Library.{cellNamed}
+use Rattle.library_table.specs.Cells.{Cell}
+use Rattle.library_table.specs.Library.{cellNamed}
 use Rattle.netlist_text.specs.declared.Pins.{Pins}
-use Rattle.netlist.specs.declared.RawStatement.{RawStatement}
-use Rattle.netlist.specs.Netlist.{Statement, gateKind, rangeKind, rangeOf, with, decimals, lone, drivenBy, gateOf, lineBad, anyLineBad}
-use Rattle.netlist.specs.Admitting.{StandsFor}
-use Rattle.netlist_text.specs.Reading.{PinsAre, PinsRead}
-use Rattle.netlist.proofs.Storing.{set-fitted}
+use Rattle.netlist_table.specs.declared.RawStatement.{RawStatement}
+use Rattle.netlist_table.specs.Netlist.{Statement, gateKind, rangeKind, rangeOf, with, decimals, lone, drivenBy, gateOf, lineBad, anyLineBad}
+use Rattle.netlist_table.specs.Admission.{StandsFor}
+use Rattle.netlist_text.specs.Reader.{PinsAre, PinsRead}
+use Rattle.netlist_table.proofs.Stores.{set-fitted}
 
 -- Numbers of bad form stand for no statement.
 pub stands-none : (p : RawStatement) (w : Option Statement) → w ≡ none → p .form ≡ false → StandsFor p w

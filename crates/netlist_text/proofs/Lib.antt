@@ -1,4 +1,4 @@
 pub mod Declared
-pub mod Entering
+pub mod EntryChecks
 pub mod Forms
-pub mod Reading
+pub mod Walk

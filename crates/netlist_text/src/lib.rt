@@ -1,4 +1,4 @@
-// The netlist text, read into the netlist table: its lines one after the other, each a statement that `netlist::admit` checks
+// The netlist text, read into the netlist table: its lines one after the other, each a statement that `netlist_table::admit` checks
 // and stores, and behind them refusal 20.
 //
 // Open to others: `read_netlist`, which has no condition on its input: the library table may be any. For the crates above:
@@ -13,20 +13,20 @@ ghost use Rattle.table.specs.Blocks.{cleared};
 ghost use Rattle.text.specs.Lines.{fields, fieldsFrom};
 ghost use Rattle.reading.specs.Refusal.{refused};
 ghost use Rattle.reading.specs.Verdict.{verdictRead};
-ghost use Rattle.cell_library.specs.Cells.{Cell};
-ghost use Rattle.cell_library.specs.Layout.{CellsTold};
-ghost use Rattle.netlist.specs.Netlist.{Mark, Statement, kindOf, declaring, lone, markOf, gateOf, rangeOf, statementOf, decimals, textStatements, declared, netlist};
-ghost use Rattle.netlist.specs.Layout.{NetlistHolds};
-ghost use Rattle.netlist.specs.Admitting.{IsMark, StandsFor, Admits};
-ghost use Rattle.netlist.specs.Sound.{Sound};
-ghost use Rattle.netlist_text.specs.Reading.{PinsRead, netlistEntry, ReadsAs, ReadsNetlist};
-use cell_library::cells::find;
-use cell_library::cells::told;
-use netlist::RawStatement;
-use netlist::Rules;
-use netlist::admit;
-use netlist::line_bad;
-use netlist::some_undeclared;
+ghost use Rattle.library_table.specs.Cells.{Cell};
+ghost use Rattle.library_table.specs.Layout.{CellsTold};
+ghost use Rattle.netlist_table.specs.Netlist.{Mark, Statement, kindOf, declaring, lone, markOf, gateOf, rangeOf, statementOf, decimals, textStatements, declared, netlist};
+ghost use Rattle.netlist_table.specs.Layout.{NetlistHolds};
+ghost use Rattle.netlist_table.specs.Admission.{IsMark, StandsFor, Admits};
+ghost use Rattle.netlist_table.specs.Sound.{Sound};
+ghost use Rattle.netlist_text.specs.Reader.{PinsRead, netlistEntry, ReadsAs, ReadsNetlist};
+use library_table::cells::find;
+use library_table::cells::told;
+use netlist_table::RawStatement;
+use netlist_table::Rules;
+use netlist_table::admit;
+use netlist_table::line_bad;
+use netlist_table::some_undeclared;
 use reading::Refusal;
 use reading::Verdict;
 use table::clear;
@@ -166,7 +166,7 @@ fn gate_from(line: &[u8], at: usize, library: &[u32]) -> RawStatement
     let pins = p.pins;
     RawStatement {
         form: p.form,
-        kind: netlist::GATE,
+        kind: netlist_table::GATE,
         cell: find(library, name),
         line: l,
         pins: pins,
@@ -184,7 +184,7 @@ fn range_from(line: &[u8], at: usize) -> RawStatement
     let three = p.count == 3;
     RawStatement {
         form: p.form & three,
-        kind: netlist::RANGE,
+        kind: netlist_table::RANGE,
         cell: 0,
         line: pins[0],
         pins: pins,
@@ -200,17 +200,17 @@ fn statement_of(rules: Rules, line: &[u8], library: &[u32]) -> RawStatement
     let f = field(line, 0);
     let at = after(line, 0, f);
     if same(f, b"input") {
-        return mark_from(line, at, netlist::INPUT);
+        return mark_from(line, at, netlist_table::INPUT);
     }
     if same(f, b"output") {
-        return mark_from(line, at, netlist::OUTPUT);
+        return mark_from(line, at, netlist_table::OUTPUT);
     }
     if same(f, b"gate") {
         return gate_from(line, at, library);
     }
     let opens = declaring(rules) & same(f, b"open");
     if opens {
-        return mark_from(line, at, netlist::OPEN);
+        return mark_from(line, at, netlist_table::OPEN);
     }
     let prices = declaring(rules) & same(f, b"range");
     if prices {

@@ -1,2 +1,2 @@
 // Plans written out, by computation over the definitions: whole texts in, whole text out. No code: each is a
-// theorem of specs/Plans.antt.
+// theorem of specs/PlanFigures.antt.

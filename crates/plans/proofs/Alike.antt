@@ -10,10 +10,10 @@ use Rattle.cost.specs.Cost.{lesser}
 use Rattle.plans.specs.System.{Way, Visit}
 use Rattle.plans.specs.Sweep.{at, least, Rule, renew, lower, sweep, sweeps, Rests, Settles}
 use Rattle.plans.specs.Idle.{Needs}
-use Rattle.plans.specs.Standing.{Alike, Looks, Reads, AlikeSettles}
-use Rattle.plans.proofs.Table.{at-set-same, at-ext}
-use Rattle.plans.proofs.Falling.{way-same, lower-here, lower-past}
-use Rattle.plans.proofs.Keeping.{Stores, rule-length, rule-other, sweep-length, sweep-other, sweeps-length}
+use Rattle.plans.specs.Continued.{Alike, Looks, Reads, AlikeSettles}
+use Rattle.plans.proofs.Numbers.{at-set-same, at-ext}
+use Rattle.plans.proofs.Lowered.{way-same, lower-here, lower-past}
+use Rattle.plans.proofs.Kept.{Stores, rule-length, rule-other, sweep-length, sweep-other, sweeps-length}
 use lib.Seq.{set-out}
 
 least-same : (xs ys : List ℕ) (ws : List Way) → ((w : Way) → List·Memᴰ w ws → (n : ℕ) → List·Memᴰ n (w .needs) → at xs n ≡ at ys n) → least xs ws ≡ least ys ws

@@ -14,8 +14,8 @@ use Rattle.cost.specs.Cost.{never, _⊕_, capped, lesser, counted}
 use Rattle.cost.proofs.Laws.{sum-bound, sum-mono, sum-left, sum-right}
 use Rattle.plans.specs.System.{Way, Visit, Offers}
 use Rattle.plans.specs.Sweep.{at, sums, way, least, lower, sweep, sweeps, Rests, Inside, Bounded, Visited, Lead, Leads}
-use Rattle.plans.proofs.Table.{under-antisym}
-use Rattle.plans.proofs.Falling.{
+use Rattle.plans.proofs.Numbers.{under-antisym}
+use Rattle.plans.proofs.Lowered.{
   lesser-right,
   least-below,
   least-bound,
@@ -27,7 +27,7 @@ use Rattle.plans.proofs.Falling.{
   sweep-under,
   sweeps-under,
 }
-use Rattle.plans.proofs.Keeping.{lower-stores, rule-length, rule-other, sweeps-inside}
+use Rattle.plans.proofs.Kept.{lower-stores, rule-length, rule-other, sweeps-inside}
 use Rattle.plans.proofs.Without.{without, Among, without-in, without-mono, without-among, without-swap, without-shorter}
 
 -- The key of a step from a node by a way.

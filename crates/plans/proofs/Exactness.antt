@@ -28,8 +28,8 @@ use Rattle.plans.specs.System.{
 }
 use Rattle.plans.specs.Sweep.{at, sums, way, least, Rule, lower, sweep, sweeps}
 use Rattle.plans.specs.Exact.{Stands, Exact, AttainedBy, Attained}
-use Rattle.plans.proofs.Table.{at-set-same, at-set-other}
-use Rattle.plans.proofs.Falling.{lesser-case, least-of, LeastOf, least-bound}
+use Rattle.plans.proofs.Numbers.{at-set-same, at-set-other}
+use Rattle.plans.proofs.Lowered.{lesser-case, least-of, LeastOf, least-bound}
 
 -- ---- attained
 

@@ -23,33 +23,33 @@ use Rattle.plans.specs.Statements.{
 }
 use Rattle.plans.specs.Budget.{BidOpen}
 use Rattle.plans.specs.Stages.{Left, RenewingWorks, LeadingWorks}
-use Rattle.plans.proofs.Table.{Under}
-use Rattle.plans.proofs.Falling.{sweep-under, rests-least, least-below, least-mono}
+use Rattle.plans.proofs.Numbers.{Under}
+use Rattle.plans.proofs.Lowered.{sweep-under, rests-least, least-below, least-mono}
 use Rattle.plans.proofs.Exactness as Exactness
-use Rattle.plans.proofs.Settling as Settling
-use Rattle.plans.proofs.Replacing as Replacing
+use Rattle.plans.proofs.Settled as Settling
+use Rattle.plans.proofs.BothRules as Replacing
 use Rattle.plans.proofs.Bounds.{visited-rest, leads-rest}
-use Rattle.plans.proofs.Staging as Staging
-use Rattle.plans.proofs.Budgeting as Budgeting
+use Rattle.plans.proofs.Stages as Staging
+use Rattle.plans.proofs.Budget as Budgeting
 -- ---- tables, visits and sweeps, for the crates above
-pub use Rattle.plans.proofs.Table.{at-getD, at-set-same, at-set-other}
-pub use Rattle.plans.proofs.Falling.{least-bound, way-same, lower-still, rests-least, never-above}
-pub use Rattle.plans.proofs.Keeping.{Stores, lower-stores, renew-stores, rule-length, rule-other, sweep-append, sweep-length, sweep-other, settles-length, settles-other}
+pub use Rattle.plans.proofs.Numbers.{at-getD, at-set-same, at-set-other}
+pub use Rattle.plans.proofs.Lowered.{least-bound, way-same, lower-still, rests-least, never-above}
+pub use Rattle.plans.proofs.Kept.{Stores, lower-stores, renew-stores, rule-length, rule-other, sweep-append, sweep-length, sweep-other, settles-length, settles-other}
 -- ---- visits that change nothing, as specs/Idle.antt states it; `idles-rest` and `asleep-settles`, the count, for a reader
-pub use Rattle.plans.proofs.Idling.{turn-listed, idles-rest, asleep-skipped, skipped-sweep, made-watched, asleep-settles}
-pub use Rattle.plans.proofs.Replacing.{lowers-settle, within-lowers}
+pub use Rattle.plans.proofs.Idle.{turn-listed, idles-rest, asleep-skipped, skipped-sweep, made-watched, asleep-settles}
+pub use Rattle.plans.proofs.BothRules.{lowers-settle, within-lowers}
 -- ---- runs one after the other, as specs/Stages.antt states them
-pub use Rattle.plans.proofs.Staging.{settles-under, ranked-apart, stages-within, stages-once, stages-append, stages-left, stages-exact, first-start}
+pub use Rattle.plans.proofs.Stages.{settles-under, ranked-apart, stages-within, stages-once, stages-append, stages-left, stages-exact, first-start}
 -- ---- what a reader may ask of exact numbers, and what requests K10, K11 and K14 rest on
-pub use Rattle.plans.proofs.Comparing.{stands-least, stands-carried, exact-once, plan-within, plan-at-any-prices, attained-more, exact-within, more-ways, more-prices}
--- ---- runs from numbers that stand, as specs/Standing.antt states them: K11, K13 and K14
-pub use Rattle.plans.proofs.Table.{at-ext}
-pub use Rattle.plans.proofs.Standing.{exact-table, standing-start, priced-start, standing-above, continued, settled-stays, lower-start, between-settles, pad-settles, pad-idle, lowered-stages, lowered-under}
+pub use Rattle.plans.proofs.Comparison.{stands-least, stands-carried, exact-once, plan-within, plan-at-any-prices, attained-more, exact-within, more-ways, more-prices}
+-- ---- runs from numbers that stand, as specs/Continued.antt states them: K11, K13 and K14
+pub use Rattle.plans.proofs.Numbers.{at-ext}
+pub use Rattle.plans.proofs.Continued.{exact-table, standing-start, priced-start, standing-above, continued, settled-stays, lower-start, between-settles, pad-settles, pad-idle, lowered-stages, lowered-under}
 pub use Rattle.plans.proofs.Alike.{lower-reads, renew-reads, rests-alike, alike-settles}
 -- ---- numbers within a budget (K12), as specs/Budget.antt states it; `way-fixed`, what an offer is, for a reader
-pub use Rattle.plans.proofs.Budgeting.{way-fixed, fixed-exact, other-between, budget-stops, steps-counted, more-budget, budget-ends, budget-same, idle-same, among-most, first-cheapest, step-first, step-none, bid-kept, offered-one, offered-none, at-none}
+pub use Rattle.plans.proofs.Budget.{way-fixed, fixed-exact, other-between, budget-stops, steps-counted, more-budget, budget-ends, budget-same, idle-same, among-most, first-cheapest, step-first, step-none, bid-kept, offered-one, offered-none, at-none}
 -- ---- what request K3 rests on
-pub use Rattle.plans.proofs.Tracing.{first-least, sweep-numbers, traced-numbers, traces-agree, unmarked-stood, settled-row}
+pub use Rattle.plans.proofs.SettledRow.{first-least, sweep-numbers, traced-numbers, traces-agree, unmarked-stood, settled-row}
 
 -- ---- the theorems that specs/Statements.antt states of one run
 

@@ -6,4 +6,4 @@ pub mod Budget
 pub mod Trace
 pub mod Statements
 pub mod Stages
-pub mod Standing
+pub mod Continued

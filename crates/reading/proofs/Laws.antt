@@ -1,5 +1,5 @@
 -- The laws that readers share: of what holds of each element of a list, and of what reading comes to; with those of tests,
--- which are at home in crate `laws`.
+-- which are at home in crate `common_laws`.
 -- Assumes nothing.
 use mathlib.Core.Bool.{Bool, true, false}
 use mathlib.Core.List.{List, [], _∷_, _++_, List·Memᴰ, List·Memᴰ·head, List·Memᴰ·tail}
@@ -9,7 +9,7 @@ use Prim.Native.Nat.{ℕ, zero, suc, _<_}
 use native.Mathlib.Nat.{not-suc-le-zero, le-of-suc-le-suc}
 use native.Mathlib.Omega.{arith}
 use lib.ListN.{length, getD}
-pub use Rattle.laws.proofs.Tests.{by-test, clash, and-left, and-right, or-left, or-right, or-cases}
+pub use Rattle.common_laws.proofs.Tests.{by-test, clash, and-left, and-right, or-left, or-right, or-cases}
 use Rattle.reading.specs.Choice.{pick}
 use Rattle.reading.specs.Each.{Each}
 use Rattle.reading.specs.Refusal.{Read, refused, read, _>>=_, _>>_, weigh, form}

@@ -7,7 +7,7 @@ use files::front;
 use files::put_unreadable;
 ghost use mathlib.Core.Path.{_≡_};
 ghost use Rattle.sizes.specs.Sizes as Size;
-ghost use Rattle.outcome.specs.Printed.{printed};
+ghost use Rattle.demands.specs.Printed.{printed};
 ghost use Rattle.files.specs.Output.{ofFiles, PrintsFiles};
 
 fn put_output(
@@ -26,7 +26,7 @@ fn put_output(
     let Loaded::Bytes(net_length) = net_loaded else {
         return put_unreadable(output);
     };
-    printing::put_analysis(front(lib, lib_length), front(net, net_length), output)
+    analysis_printed::put_analysis(front(lib, lib_length), front(net, net_length), output)
 }
 
 // Writes what the program prints of its files. The files are handed on for the condition alone.

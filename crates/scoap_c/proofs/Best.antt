@@ -14,11 +14,11 @@ use Rattle.reading.specs.Refusal.{Read, refused, read, _>>_}
 use Rattle.reading.proofs.Bounds.{Within, anyNumber, within-weigh}
 use Rattle.reading.proofs.Laws.{refused-read, or-left, or-right, weigh-one}
 use Rattle.writer.specs.Buffer.{codeOf, LineBelow}
-use Rattle.outcome.specs.Outcome.{Pair, textLong, givenTexts, readPair}
-use Rattle.outcome.specs.Own.{ownTables}
-use Rattle.outcome.proofs.Bounds.{pair-within}
-use Rattle.best.specs.declared.Steps.{Steps}
-use Rattle.best.specs.Promise.{bestEntry, bestPair, stepsOf, stepsRead, BestFound, BestPromised}
+use Rattle.demands.specs.Outcome.{Pair, textLong, givenTexts, readPair}
+use Rattle.demands.specs.Own.{ownTables}
+use Rattle.demands.proofs.Bounds.{pair-within}
+use Rattle.budget_call.specs.declared.Steps.{Steps}
+use Rattle.budget_call.specs.Promise.{bestEntry, bestPair, stepsOf, stepsRead, BestFound, BestPromised}
 use Rattle.scoap_c.specs.Number.{lastLine}
 use Rattle.scoap_c.specs.Best.{BestSeen, BestCoded}
 use Rattle.scoap_c.proofs.Number.{tells, told-read, told-refused, told-entry, told-number, line-below}

@@ -14,9 +14,9 @@ use Rattle.reading.proofs.Laws.{by-test, refused-read}
 use Rattle.writer.specs.declared.Written.{Written}
 use Rattle.writer.specs.Buffer.{textWithin, codeLines, codeOf, lengthRead, writtenRead, LineBelow, Writes}
 use Rattle.writer.proofs.Buffer.{text-fits, text-long}
-use Rattle.generator.specs.Generated.{generatedInto}
-use Rattle.generator.specs.Bounded.{Bounded, LongBelow}
-use Rattle.generator.proofs.Bounded.{bounded}
+use Rattle.truth_entry.specs.Generated.{generatedInto}
+use Rattle.truth_entry.specs.Bounded.{Bounded, LongBelow}
+use Rattle.truth_entry.proofs.Bounded.{bounded}
 use Rattle.scoap_c.specs.Number.{lastLine, Tells}
 use Rattle.scoap_c.specs.Cell.{CellCoded}
 use Rattle.scoap_c.proofs.Number.{tells, line-below, told-number}

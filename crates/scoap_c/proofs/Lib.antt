@@ -1,9 +1,9 @@
 pub mod Number
-pub mod Coding
+pub mod ReportCode
 pub mod Cells
-pub mod Plans
-pub mod Qualifying
-pub mod Standing
+pub mod Plan
+pub mod Qualifies
+pub mod Stand
 pub mod Best
-pub mod Advising
-pub mod Changing
+pub mod Advice
+pub mod Change

@@ -8,9 +8,9 @@ use Rattle.sizes.specs.Sizes as Size
 use Rattle.reading.specs.Refusal.{Read, read}
 use Rattle.calculation.specs.declared.Advice.{Advice}
 use Rattle.calculation.specs.declared.Advice.the-variants.{NoneAllowed, Pad}
-use Rattle.outcome.specs.Outcome.{givenTexts}
-use Rattle.adviser.specs.Calls.{advising, adviceLeft, ranking, ranksLeft}
-use Rattle.adviser.specs.Promise.{AdvicePromised, RankPromised}
+use Rattle.demands.specs.Outcome.{givenTexts}
+use Rattle.advice_calls.specs.Calls.{advising, adviceLeft, ranking, ranksLeft}
+use Rattle.advice_calls.specs.Promise.{AdvicePromised, RankPromised}
 use Rattle.scoap_c.specs.Number.{toldBy, Tells}
 
 -- The line that is named, or 0 where none is allowed.

@@ -10,8 +10,8 @@ use Rattle.reading.specs.Numbers as No
 use Rattle.reading.specs.Refusal.{read}
 use Rattle.writer.specs.Buffer.{codeLines}
 use Rattle.calculation.specs.Budget.{WithinBudget}
-use Rattle.outcome.specs.Outcome.{Pair}
-use Rattle.best.specs.Promise.{bestPair, stepsOf, bestLeft, BestPromised}
+use Rattle.demands.specs.Outcome.{Pair}
+use Rattle.budget_call.specs.Promise.{bestPair, stepsOf, bestLeft, BestPromised}
 use Rattle.scoap_c.specs.Number.{Tells}
 
 -- What a caller has who sees the number and the buffer alone: K12's sentences of what was read.

@@ -5,7 +5,7 @@ use mathlib.Core.Path.{_≡_}
 use Prim.Native.Nat.{ℕ}
 use lib.ListN.{length}
 use Rattle.writer.specs.Buffer.{lengthRead, leftBy}
-use Rattle.built_in.specs.Written.{builtInWithin}
+use Rattle.truth_library.specs.Written.{builtInWithin}
 use Rattle.scoap_c.specs.Number.{Tells}
 
 -- The text's length and the text in the buffer's front; 17 at line 0 of a buffer that is too short, which is then zero.

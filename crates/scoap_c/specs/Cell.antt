@@ -6,8 +6,8 @@ use Prim.Native.Nat.{ℕ, _/_, _<_}
 use lib.ListN.{length}
 use Rattle.reading.specs.Numbers as No
 use Rattle.writer.specs.Buffer.{codeLines, lengthRead, leftBy}
-use Rattle.generator.specs.Bounded.{entryRoom}
-use Rattle.generator.specs.Generated.{generatedInto}
+use Rattle.truth_entry.specs.Bounded.{entryRoom}
+use Rattle.truth_entry.specs.Generated.{generatedInto}
 use Rattle.scoap_c.specs.Number.{Tells}
 
 -- Its number and the whole buffer afterwards, by equation; and that 17 needs a buffer of less than 8,192 bytes.

@@ -8,17 +8,17 @@ use lib.ListN.{length, getD, take, replicate}
 use Rattle.sizes.specs.Sizes as Size
 use Rattle.reading.specs.Numbers as No
 use Rattle.reading.specs.Refusal.{Read}
-use Rattle.netlist.specs.Netlist.{mentioned}
+use Rattle.netlist_table.specs.Netlist.{mentioned}
 use Rattle.calculation.specs.declared.Counts.{Counts}
 use Rattle.calculation.specs.Nodes.{Kind, Purpose, node}
 use Rattle.calculation.specs.Plans.{Exact}
 use Rattle.calculation.specs.Settled.{Settled}
 use Rattle.writer.specs.Buffer.{codeLines}
-use Rattle.report.specs.Report.{reportBytes}
-use Rattle.outcome.specs.declared.Summary.{Summary}
-use Rattle.outcome.specs.Demands.{Reported, PairRead, longest, AtAllPrices, Promised}
-use Rattle.outcome.specs.Outcome as O
-use Rattle.outcome.specs.Own.{ownTables}
+use Rattle.report_text.specs.Report.{reportBytes}
+use Rattle.demands.specs.declared.Summary.{Summary}
+use Rattle.demands.specs.Demands.{Reported, PairRead, longest, AtAllPrices, Promised}
+use Rattle.demands.specs.Outcome as O
+use Rattle.demands.specs.Own.{ownTables}
 use Rattle.scoap_c.specs.Number.{toldBy, Tells}
 
 -- "the report's length when accepted"

@@ -4,7 +4,7 @@ pub mod Cell
 pub mod BuiltIn
 pub mod Plan
 pub mod Qualifies
-pub mod Standing
+pub mod Stand
 pub mod Best
 pub mod Advice
-pub mod Changing
+pub mod Change

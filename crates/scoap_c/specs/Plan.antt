@@ -10,10 +10,10 @@ use Rattle.reading.specs.Refusal.{Read, read}
 use Rattle.cost.specs.Cost.{most}
 use Rattle.writer.specs.Buffer.{codeLines, lengthRead, leftBy}
 use Rattle.calculation.specs.Calculation.{analysed}
-use Rattle.cheapest.specs.Text.{cheapestText}
-use Rattle.outcome.specs.Outcome.{Lent, Pair, readPair, givenTexts}
-use Rattle.outcome.specs.Own.{ownTables}
-use Rattle.planning.specs.Promise.{askedNumber, kindOf, planOutcome, PlanSeen, PlanPromised}
+use Rattle.plan_text.specs.PlanText.{cheapestText}
+use Rattle.demands.specs.Outcome.{Lent, Pair, readPair, givenTexts}
+use Rattle.demands.specs.Own.{ownTables}
+use Rattle.plan_calls.specs.Promise.{askedNumber, kindOf, planOutcome, PlanSeen, PlanPromised}
 use Rattle.scoap_c.specs.Number.{Tells, mostTold, textTold}
 
 -- What the call comes to: what `write_plan` does on tables of its own, and "19 when the text exceeds its buffer" also of a text

@@ -7,11 +7,11 @@ use Prim.Native.Nat.{ℕ, _/_, _≤_}
 use Rattle.reading.specs.Numbers as No
 use Rattle.reading.specs.Refusal.{Read, read, _>>_}
 use Rattle.writer.specs.Buffer.{codeLines}
-use Rattle.cell_library.specs.Layout.{libraryWords}
-use Rattle.netlist.specs.Layout.{netlistWords}
-use Rattle.outcome.specs.Outcome as O
-use Rattle.outcome.specs.Own.{ownTables}
-use Rattle.qualifying.specs.Qualifying.{qualifying, Says}
+use Rattle.library_table.specs.Layout.{libraryWords}
+use Rattle.netlist_table.specs.Layout.{netlistWords}
+use Rattle.demands.specs.Outcome as O
+use Rattle.demands.specs.Own.{ownTables}
+use Rattle.chip_call.specs.Qualified.{qualifying, Says}
 use Rattle.scoap_c.specs.Number.{toldBy, Tells}
 
 -- What the two texts come to, on tables of its own: the entry, then the library and the netlist. Nothing is calculated, and

@@ -4,39 +4,39 @@
 // Open to others: `scoap_report`, `scoap_plan`, `scoap_cell`, `scoap_built_in`, `scoap_qualifies`, `scoap_stand`,
 // `scoap_ask`, `scoap_commit`, `scoap_change`, `scoap_best`, `scoap_advise` and `scoap_rank`. They have no condition
 // on their input; specs/Number.antt says what the number of all of them tells, specs/Coded.antt, specs/Plan.antt,
-// specs/Cell.antt, specs/BuiltIn.antt, specs/Qualifies.antt, specs/Standing.antt, specs/Changing.antt, specs/Best.antt
+// specs/Cell.antt, specs/BuiltIn.antt, specs/Qualifies.antt, specs/Stand.antt, specs/Change.antt, specs/Best.antt
 // and specs/Advice.antt what each promises.
-use adviser::Advised;
-use adviser::Ranked;
-use best::Steps;
+use advice_calls::Advised;
+use advice_calls::Ranked;
+use analysis_texts::Progress;
+use analysis_texts::read_texts;
+use budget_call::Steps;
 use calculation::Advice;
-use changing::Changed;
-use netlist::Rules;
-use outcome::Answer;
-use read_pair::Progress;
-use read_pair::read_texts;
+use demands::Answer;
+use netlist_table::Rules;
 use reading::PLAN_LONG;
-use standing::Pads;
+use standing_calls::Pads;
+use standing_change::Changed;
 use writer::Written;
 use writer::refusal_code;
 ghost use mathlib.Core.Path.{_≡_};
 ghost use Rattle.reading.specs.Numbers as No;
 ghost use Rattle.writer.specs.Buffer.{LineBelow, codeOf, writtenRead};
-ghost use Rattle.outcome.specs.Answer.{answerRead};
-ghost use Rattle.adviser.specs.Calls.{advisedRead, rankedRead};
-ghost use Rattle.best.specs.Promise.{stepsRead};
-ghost use Rattle.standing.specs.Calls.{padsRead};
-ghost use Rattle.changing.specs.Calls.{changedRead};
+ghost use Rattle.demands.specs.Answer.{answerRead};
+ghost use Rattle.advice_calls.specs.Calls.{advisedRead, rankedRead};
+ghost use Rattle.budget_call.specs.Promise.{stepsRead};
+ghost use Rattle.standing_calls.specs.Calls.{padsRead};
+ghost use Rattle.standing_change.specs.Calls.{changedRead};
 ghost use Rattle.scoap_c.specs.Number.{Limits};
 ghost use Rattle.scoap_c.specs.Advice.{adviceLine, lineRead, AdviceCoded, RankCoded};
 ghost use Rattle.scoap_c.specs.Best.{BestCoded};
 ghost use Rattle.scoap_c.specs.BuiltIn.{BuiltInCoded};
 ghost use Rattle.scoap_c.specs.Cell.{CellCoded};
-ghost use Rattle.scoap_c.specs.Changing.{toldNumber, ChangeCoded};
+ghost use Rattle.scoap_c.specs.Change.{toldNumber, ChangeCoded};
 ghost use Rattle.scoap_c.specs.Coded.{reportLength, Coded};
 ghost use Rattle.scoap_c.specs.Plan.{PlanCoded};
 ghost use Rattle.scoap_c.specs.Qualifies.{QualifiesCoded};
-ghost use Rattle.scoap_c.specs.Standing.{StandCoded, AskCoded, CommitCoded};
+ghost use Rattle.scoap_c.specs.Stand.{StandCoded, AskCoded, CommitCoded};
 
 // A report's length, or the refusal, by one number.
 fn answer_code(answer: Answer) -> u64
@@ -58,7 +58,7 @@ pub extern "C" fn scoap_report(lib: &[u8], net: &[u8], report: &mut [u8]) -> u64
     let mut library = [0u32; sizes::LIBRARY];
     let mut netlist = [0u32; sizes::NETLIST];
     let mut numbers = [0u32; sizes::NUMBERS];
-    let answer = analysis::analyse_into(
+    let answer = analysis_call::analyse_into(
         lib,
         net,
         &mut library,
@@ -77,7 +77,7 @@ pub extern "C" fn scoap_report(lib: &[u8], net: &[u8], report: &mut [u8]) -> u64
 pub extern "C" fn scoap_cell(line: &[u8], entry: &mut [u8]) -> u64
     ensures { λ r. ⌜ CellCoded (now (line .entry)) (now (entry .entry)) (now (entry .exit)) r ⌝ }
 {
-    let written = generator::put_entry(line, entry);
+    let written = truth_entry::put_entry(line, entry);
     writer::code(written)
 }
 
@@ -86,7 +86,7 @@ pub extern "C" fn scoap_cell(line: &[u8], entry: &mut [u8]) -> u64
 pub extern "C" fn scoap_built_in(text: &mut [u8]) -> u64
     ensures { λ r. ⌜ BuiltInCoded (now (text .entry)) (now (text .exit)) r ⌝ }
 {
-    let written = built_in::put_built_in(text);
+    let written = truth_library::put_built_in(text);
     writer::code(written)
 }
 
@@ -126,7 +126,7 @@ pub extern "C" fn scoap_plan(
     let mut library = [0u32; sizes::LIBRARY];
     let mut netlist = [0u32; sizes::NETLIST];
     let mut numbers = [0u32; sizes::NUMBERS];
-    let written = planning::write_plan_into(
+    let written = plan_calls::write_plan_into(
         lib,
         net,
         &mut library,
@@ -164,7 +164,7 @@ pub extern "C" fn scoap_qualifies(lib: &[u8], net: &[u8]) -> u64
     match progress {
         Progress::AtEntry(r) => refusal_code(r),
         Progress::Later(r) => refusal_code(r),
-        Progress::Unrefused => qualifying::qualifies(&library, &netlist) as u64,
+        Progress::Unrefused => chip_call::qualifies(&library, &netlist) as u64,
     }
 }
 
@@ -180,7 +180,7 @@ pub extern "C" fn scoap_stand(
     ensures { λ r. ⌜ StandCoded (now (lib .entry)) (now (net .entry)) (now (standing .entry)) (now (report .entry))
         (now (standing .exit)) (now (report .exit)) r ⌝ }
 {
-    let answer = standing::stand(lib, net, standing, report);
+    let answer = standing_calls::stand(lib, net, standing, report);
     answer_code(answer)
 }
 
@@ -208,7 +208,7 @@ pub extern "C" fn scoap_ask(
     ensures { λ r. ⌜ AskCoded (now (lib .entry)) (now (net .entry)) (now (standing .entry)) line
         (now (answer .entry)) (now (answer .exit)) r ⌝ }
 {
-    let asked = standing::ask(lib, net, standing, line as usize, answer);
+    let asked = standing_calls::ask(lib, net, standing, line as usize, answer);
     pads_code(asked)
 }
 
@@ -225,7 +225,7 @@ pub extern "C" fn scoap_commit(
     ensures { λ r. ⌜ CommitCoded (now (lib .entry)) (now (net .entry)) (now (standing .entry)) line count
         (now (standing .exit)) r ⌝ }
 {
-    let committed = standing::commit(lib, net, standing, line as usize, count as usize);
+    let committed = standing_calls::commit(lib, net, standing, line as usize, count as usize);
     pads_code(committed)
 }
 
@@ -247,7 +247,7 @@ fn steps_code(steps: Steps) -> u64
 pub extern "C" fn scoap_best(lib: &[u8], net: &[u8], budget: u64, best: &mut [u32]) -> u64
     ensures { λ r. ⌜ BestCoded (now (lib .entry)) (now (net .entry)) budget (now (best .entry)) (now (best .exit)) r ⌝ }
 {
-    let steps = best::best_within(lib, net, budget as usize, best);
+    let steps = budget_call::best_within(lib, net, budget as usize, best);
     steps_code(steps)
 }
 
@@ -290,7 +290,7 @@ pub extern "C" fn scoap_advise(lib: &[u8], net: &[u8], forbidden: &[u32], answer
     ensures { λ r. ⌜ AdviceCoded (now (lib .entry)) (now (net .entry)) (now (forbidden .entry))
         (now (answer .entry)) (now (answer .exit)) r ⌝ }
 {
-    let advised = adviser::advise(lib, net, forbidden, answer);
+    let advised = advice_calls::advise(lib, net, forbidden, answer);
     advised_code(advised)
 }
 
@@ -301,7 +301,7 @@ pub extern "C" fn scoap_rank(lib: &[u8], net: &[u8], forbidden: &[u32], ranks: &
     ensures { λ r. ⌜ RankCoded (now (lib .entry)) (now (net .entry)) (now (forbidden .entry))
         (now (ranks .entry)) (now (ranks .exit)) r ⌝ }
 {
-    let ranked = adviser::rank(lib, net, forbidden, ranks);
+    let ranked = advice_calls::rank(lib, net, forbidden, ranks);
     ranked_code(ranked)
 }
 
@@ -324,6 +324,6 @@ pub extern "C" fn scoap_change(lib: &[u8], new_lib: &[u8], net: &[u8], standing:
     ensures { λ r. ⌜ ChangeCoded (now (lib .entry)) (now («new_lib» .entry)) (now (net .entry))
         (now (standing .entry)) (now (standing .exit)) r ⌝ }
 {
-    let changed = changing::change(lib, new_lib, net, standing);
+    let changed = standing_change::change(lib, new_lib, net, standing);
     change_code(changed)
 }

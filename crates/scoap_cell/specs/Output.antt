@@ -3,7 +3,7 @@
 use mathlib.Core.List.{List}
 use Prim.Native.Nat.{ℕ}
 use Rattle.writer.specs.Buffer.{shown}
-use Rattle.generator.specs.Generated.{generated}
+use Rattle.truth_entry.specs.Generated.{generated}
 
 -- It "prints a whole entry"; what is refused is "printed as `scoap` prints a refusal".
 unfoldable pub entryPrinted : List ℕ → List ℕ

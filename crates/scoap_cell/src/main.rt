@@ -5,10 +5,10 @@ use files::FILE_BYTES;
 use files::Loaded;
 use files::front;
 use files::put_unreadable;
-use generator::ENTRY_BYTES;
+use truth_entry::ENTRY_BYTES;
 ghost use mathlib.Core.Path.{_≡_};
 ghost use Rattle.files.specs.Output.{ofFile, PrintsFile};
-ghost use Rattle.generator.specs.Bounded.{entryRoom};
+ghost use Rattle.truth_entry.specs.Bounded.{entryRoom};
 ghost use Rattle.scoap_cell.specs.Output.{entryPrinted};
 
 fn put_output(loaded: Loaded, text: &[u8; FILE_BYTES], output: &mut [u8; ENTRY_BYTES]) -> usize
@@ -17,7 +17,7 @@ fn put_output(loaded: Loaded, text: &[u8; FILE_BYTES], output: &mut [u8; ENTRY_B
     let Loaded::Bytes(length) = loaded else {
         return put_unreadable(output);
     };
-    generator::put_printed(front(text, length), output)
+    truth_entry::put_printed(front(text, length), output)
 }
 
 // Writes what the program prints of its file. The file is handed on for the condition alone.

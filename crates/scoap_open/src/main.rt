@@ -5,10 +5,10 @@ use files::FILE_BYTES;
 use files::Loaded;
 use files::front;
 use files::put_unreadable;
-use open_lines::COPY_BYTES;
+use netlist_open::COPY_BYTES;
 ghost use mathlib.Core.Path.{_≡_};
 ghost use Rattle.files.specs.Output.{ofFiles, PrintsFiles};
-ghost use Rattle.open_lines.specs.Copied.{copyBytes, copyPrinted};
+ghost use Rattle.netlist_open.specs.Copied.{copyBytes, copyPrinted};
 
 fn put_output(
     lib_loaded: Loaded,
@@ -26,7 +26,7 @@ fn put_output(
     let Loaded::Bytes(net_length) = net_loaded else {
         return put_unreadable(output);
     };
-    open_lines::put_copy(front(lib, lib_length), front(net, net_length), output)
+    netlist_open::put_copy(front(lib, lib_length), front(net, net_length), output)
 }
 
 // Writes what the program prints of its files. The files are handed on for the condition alone.

@@ -14,11 +14,11 @@ use Rattle.reading.specs.Refusal.{weigh}
 use Rattle.text.specs.Bytes.{bytes}
 use Rattle.text.specs.Numeral.{decimal}
 use Rattle.writer.specs.Put.{Put}
-use Rattle.outcome.specs.Outcome as O
-use Rattle.outcome.specs.Outcome.{givenBy, givenTexts, textLong}
-use Rattle.outcome.specs.Own.{ownTables}
-use Rattle.planning.specs.Promise.{planOutcome}
-use Rattle.planning.specs.Printed.{planPrinted, PlanPrinted}
+use Rattle.demands.specs.Outcome as O
+use Rattle.demands.specs.Outcome.{givenBy, givenTexts, textLong}
+use Rattle.demands.specs.Own.{ownTables}
+use Rattle.plan_calls.specs.Promise.{planOutcome}
+use Rattle.plan_calls.specs.Printed.{planPrinted, PlanPrinted}
 use Rattle.files.specs.declared.Loaded.{Loaded}
 use Rattle.files.specs.Output.{Outputs, LongRefused, PrintsFiles}
 use Rattle.files.proofs.Output.{prints-outputs, put-outputs, long-shown, either-long}

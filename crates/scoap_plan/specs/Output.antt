@@ -13,7 +13,7 @@ use Rattle.text.specs.Bytes.{bytes}
 use Rattle.text.specs.Numeral.{decimal}
 use Rattle.files.specs.declared.Loaded.{Loaded}
 use Rattle.files.specs.Output.{ofFiles, Outputs, PrintsFiles}
-use Rattle.planning.specs.Printed.{planPrinted}
+use Rattle.plan_calls.specs.Printed.{planPrinted}
 use Rattle.scoap_plan.specs.declared.Arguments.{Arguments}
 use Rattle.scoap_plan.specs.declared.Arguments.the-variants.{Plan, Usage}
 

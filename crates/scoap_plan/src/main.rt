@@ -81,7 +81,7 @@ fn put_of_files(
         return put_unreadable(output);
     };
     table::clear_bytes(output);
-    planning::put_plan(
+    plan_calls::put_plan(
         front(lib, lib_length),
         front(net, net_length),
         line as usize,

@@ -187,7 +187,7 @@ rankWords = 4
 abbrev pub ranks : ℕ
 ranks = lines * rankWords
 
--- ---- the set of crate `awake`
+-- ---- the set of crate `sweep_awake`
 
 -- A bit for each gate, in words.
 abbrev pub wordBits : ℕ
@@ -196,7 +196,7 @@ wordBits = 64
 abbrev pub awakeWords : ℕ
 awakeWords = gates / wordBits + 1
 
--- ---- the links of crate `links`
+-- ---- the links of crate `sweep_links`
 
 -- A number for each line, and one for each pin of each gate. Both count from 1: place 0 is for none.
 abbrev pub linePlaces : ℕ
@@ -222,7 +222,7 @@ tiedAt = driversAt + linePlaces
 abbrev pub links : ℕ
 links = tiedAt + gates
 
--- ---- the marks of crate `trace`
+-- ---- the marks of crate `plan_marks`
 
 -- For each line, counted from 0, and each value: the visit, the row as its entry writes it, the columns by which it asks, and
 -- where the line of the gate's last pin stands in the netlist table.
@@ -234,7 +234,7 @@ marks = linePlaces * values * markWords
 
 -- ---- best numbers within a budget
 
--- The queue of crate `queue`: a leaf for each line and value, and as many places before the leaves, of which the first is for
+-- The queue of crate `budget_queue`: a leaf for each line and value, and as many places before the leaves, of which the first is for
 -- none.
 abbrev pub leaves : ℕ
 leaves = lines * values

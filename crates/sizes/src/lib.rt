@@ -130,14 +130,14 @@ pub const RANK_WORDS: usize = 4;
 
 pub const RANKS: usize = LINES * RANK_WORDS;
 
-// ---- the set of crate `awake`
+// ---- the set of crate `sweep_awake`
 
 // A bit for each gate, in words.
 pub const WORD_BITS: usize = 64;
 
 pub const AWAKE_WORDS: usize = GATES / WORD_BITS + 1;
 
-// ---- the links of crate `links`
+// ---- the links of crate `sweep_links`
 
 // A number for each line, and one for each pin of each gate. Both count from 1: place 0 is for none.
 pub const LINE_PLACES: usize = 1 + LINES;
@@ -156,7 +156,7 @@ pub const TIED_AT: usize = DRIVERS_AT + LINE_PLACES;
 
 pub const LINKS: usize = TIED_AT + GATES;
 
-// ---- the marks of crate `trace`
+// ---- the marks of crate `plan_marks`
 
 // For each line, counted from 0, and each value: the visit, the row as its entry writes it, the columns
 // by which it asks, and where the line of the gate's last pin stands in the netlist table.
@@ -166,7 +166,7 @@ pub const MARKS: usize = LINE_PLACES * VALUES * MARK_WORDS;
 
 // ---- best numbers within a budget
 
-// The queue of crate `queue`: a leaf for each line and value, and as many places before the leaves, of
+// The queue of crate `budget_queue`: a leaf for each line and value, and as many places before the leaves, of
 // which the first is for none.
 pub const LEAVES: usize = LINES * VALUES;
 

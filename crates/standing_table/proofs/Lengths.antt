@@ -12,15 +12,15 @@ use Rattle.plans.specs.System.{Visit}
 use Rattle.plans.specs.Sweep.{lower, sweep, same, afterOne, run}
 use Rattle.plans.specs.Stages.{runStage}
 use Rattle.plans.proofs.Laws.{lower-stores, sweep-length}
-use Rattle.cell_library.specs.Cells.{Cell}
-use Rattle.netlist.specs.Netlist.{Statement, gatesOf}
+use Rattle.library_table.specs.Cells.{Cell}
+use Rattle.netlist_table.specs.Netlist.{Statement, gatesOf}
 use Rattle.calculation.specs.declared.Counts.{Counts}
 use Rattle.calculation.specs.Calculation.{Analysed}
 use Rattle.calculation.specs.Prices.{pricesOf}
 use Rattle.calculation.specs.Runs.{relaid, lastRuns}
-use Rattle.sweep.specs.declared.Sweeps.{Sweeps}
-use Rattle.rerun.specs.Standing.{held, ObservedAnew}
-use Rattle.rerun.proofs.Keeping.{relaid-length}
+use Rattle.sweep_runs.specs.declared.Sweeps.{Sweeps}
+use Rattle.sweep_reruns.specs.Kept.{held, ObservedAnew}
+use Rattle.sweep_reruns.proofs.Kept.{relaid-length}
 
 run-length : (vs : List Visit) (fuel : ℕ) (xs : List ℕ) → length (run lower vs fuel xs .numbers) ≡ length xs
 unfolding run afterOne pick

@@ -11,16 +11,16 @@ use Rattle.sizes.specs.Places.{observingPlace}
 use Rattle.table.specs.Blocks.{fitted, cleared}
 use Rattle.table.proofs.Places.{length-fitted, fitted-short}
 use Rattle.cost.specs.Cost.{never}
-use Rattle.cell_library.specs.Cells.{Cell}
-use Rattle.netlist.specs.Netlist.{Statement}
-use Rattle.netlist.proofs.Places.{length-lineWords, getD-lineWords}
+use Rattle.library_table.specs.Cells.{Cell}
+use Rattle.netlist_table.specs.Netlist.{Statement}
+use Rattle.netlist_table.proofs.Places.{length-lineWords, getD-lineWords}
 use Rattle.calculation.specs.declared.Counts.{Counts}
 use Rattle.calculation.specs.Nodes.{Kind, kindNumber}
 use Rattle.calculation.specs.Calculation.{Analysed}
 use Rattle.calculation.specs.Runs.{observedAnew}
 use Rattle.calculation.proofs.Laws.{kind-small}
-use Rattle.sweep.specs.declared.Sweeps.{Sweeps}
-use Rattle.rerun.specs.Standing.{asCost, held, ObservedAnew}
+use Rattle.sweep_runs.specs.declared.Sweeps.{Sweeps}
+use Rattle.sweep_reruns.specs.Kept.{asCost, held, ObservedAnew}
 use Rattle.calculation.specs.Stored.{whole}
 use Rattle.standing_table.specs.Table.{StoresPad}
 use Rattle.standing_table.specs.Table.{answerPlace}

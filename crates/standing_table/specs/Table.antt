@@ -9,19 +9,19 @@ use Rattle.sizes.specs.Sizes as Size
 use Rattle.sizes.specs.Places.{observingPlace}
 use Rattle.table.specs.Blocks.{fitted}
 use Rattle.reading.specs.Refusal.{read}
-use Rattle.cell_library.specs.Cells.{Cell}
-use Rattle.cell_library.specs.Library.{library}
-use Rattle.netlist.specs.Layout.{lineWords}
-use Rattle.netlist.specs.Netlist.{Statement}
+use Rattle.library_table.specs.Cells.{Cell}
+use Rattle.library_table.specs.Library.{library}
+use Rattle.netlist_table.specs.Layout.{lineWords}
+use Rattle.netlist_table.specs.Netlist.{Statement}
 use Rattle.calculation.specs.declared.Counts.{Counts}
 use Rattle.calculation.specs.Calculation.{Analysed}
 use Rattle.calculation.specs.Nodes.{Kind, kindNumber}
 use Rattle.calculation.specs.Pads.{State}
 use Rattle.calculation.specs.Prices.{pricesOf}
 use Rattle.calculation.specs.Runs.{observedAnew}
-use Rattle.calculation.specs.Standing.{Standing}
-use Rattle.rerun.specs.Standing.{held}
-use Rattle.outcome.specs.Outcome.{Given}
+use Rattle.calculation.specs.StandingAnalysis.{Standing}
+use Rattle.sweep_reruns.specs.Kept.{held}
+use Rattle.demands.specs.Outcome.{Given}
 
 -- The count of pads, the counts of the four runs, the pads in the order of their commits, 0 after the last, and the numbers:
 -- the published size.

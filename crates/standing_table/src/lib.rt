@@ -4,9 +4,9 @@
 // `hand_observed`, which lays them into an answer; `put_standing`, which lays an analysis into a standing table; `put_pad`, which
 // makes one pad more stand.
 use calculation::Counts;
-use rerun::observe_anew;
-use sweep::Sweeps;
-use sweep::hand_over;
+use sweep_reruns::observe_anew;
+use sweep_runs::Sweeps;
+use sweep_runs::hand_over;
 use table::put;
 use table::word;
 ghost use mathlib.Core.List.{List, _++_};
@@ -15,10 +15,10 @@ ghost use Prim.Native.Nat.{_+_, _-_, _≤_, _<_};
 ghost use lib.ListN.{length, take, drop};
 ghost use Rattle.sizes.specs.Sizes as Size;
 ghost use Rattle.table.specs.Blocks.{cleared};
-ghost use Rattle.cell_library.specs.Cells.{Cell};
-ghost use Rattle.netlist.specs.Netlist.{Statement};
+ghost use Rattle.library_table.specs.Cells.{Cell};
+ghost use Rattle.netlist_table.specs.Netlist.{Statement};
 ghost use Rattle.calculation.specs.Stored.{Holds, Ready, whole};
-ghost use Rattle.rerun.specs.Standing.{ObservedAnew};
+ghost use Rattle.sweep_reruns.specs.Kept.{ObservedAnew};
 ghost use Rattle.standing_table.specs.Table.{standingWords, observedWords, StoresPad};
 
 // CO and SO run again, over the values that stand in a standing table.

@@ -15,19 +15,19 @@ use Rattle.reading.specs.Choice.{pick}
 use Rattle.reading.specs.Numbers as No
 use Rattle.reading.specs.Refusal.{refused, read, weigh}
 use Rattle.reading.proofs.Laws.{by-test, refused-read}
-use Rattle.cell_library.specs.Cells.{Cell}
-use Rattle.cell_library.specs.Layout.{LibraryHolds}
-use Rattle.cell_library.proofs.Laws.{sound-fits}
-use Rattle.netlist.specs.Netlist.{Statement, mark, output, mentioned, isOutput}
-use Rattle.netlist.specs.Layout.{netlistWords, NetlistHolds}
-use Rattle.netlist.specs.Lines.{mentionAt}
-use Rattle.netlist.specs.Sound.{InRange}
-use Rattle.netlist.specs.Admitting.{extended, wordsAfter, Decided}
-use Rattle.netlist.proofs.Laws.{mentioned-in-range}
-use Rattle.netlist.proofs.Padding.{pad-admitted, pad-refused, pad-sound}
-use Rattle.netlist.proofs.HeldLines.{mention-held}
+use Rattle.library_table.specs.Cells.{Cell}
+use Rattle.library_table.specs.Layout.{LibraryHolds}
+use Rattle.library_table.proofs.Laws.{sound-fits}
+use Rattle.netlist_table.specs.Netlist.{Statement, mark, output, mentioned, isOutput}
+use Rattle.netlist_table.specs.Layout.{netlistWords, NetlistHolds}
+use Rattle.netlist_table.specs.Lines.{mentionAt}
+use Rattle.netlist_table.specs.Sound.{InRange}
+use Rattle.netlist_table.specs.Admission.{extended, wordsAfter, Decided}
+use Rattle.netlist_table.proofs.Laws.{mentioned-in-range}
+use Rattle.netlist_table.proofs.Pad.{pad-admitted, pad-refused, pad-sound}
+use Rattle.netlist_table.proofs.HeldLines.{mention-held}
 use Rattle.calculation.specs.Pads.{padded, takesNone, placeable}
-use Rattle.calculation.proofs.Padding.{padded-more, placeable-append, placeable-more}
+use Rattle.calculation.proofs.Pads.{padded-more, placeable-append, placeable-more}
 use Rattle.calculation.specs.Stored.{Holds}
 use Rattle.standing_texts.specs.Held.{foreign}
 use Rattle.standing_texts.specs.Parts.{PadTried, PadsTried, PadsJudged}

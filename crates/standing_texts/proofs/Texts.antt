@@ -18,18 +18,18 @@ use Rattle.reading.specs.declared.Refusal.{Refusal}
 use Rattle.reading.specs.declared.Verdict.{Verdict}
 use Rattle.reading.specs.declared.Verdict.the-variants.{Accepted, Refused}
 use Rattle.reading.proofs.Laws.{refused-read, weigh-one}
-use Rattle.cell_library.specs.Cells.{Cell}
-use Rattle.netlist.specs.Netlist.{Statement}
+use Rattle.library_table.specs.Cells.{Cell}
+use Rattle.netlist_table.specs.Netlist.{Statement}
 use Rattle.calculation.specs.Pads.{State, statementsOf, unpaddable, takesNone, placed}
 use Rattle.calculation.specs.Stored.{Holds}
-use Rattle.calculation.proofs.Padding.{padded-more}
-use Rattle.outcome.specs.Outcome.{Given, Pair, readPair, givenBy, givenTexts, textLong, entryBy}
-use Rattle.outcome.proofs.Checking.{Checked}
-use Rattle.read_pair.specs.declared.Progress.{Progress}
-use Rattle.read_pair.specs.declared.Progress.the-variants.{Unrefused, AtEntry, Later}
-use Rattle.read_pair.specs.Progress.{Reached}
-use Rattle.read_pair.proofs.Own.{zeros-cleared}
-use Rattle.read_pair.proofs.Reached.{stands-hold}
+use Rattle.calculation.proofs.Pads.{padded-more}
+use Rattle.demands.specs.Outcome.{Given, Pair, readPair, givenBy, givenTexts, textLong, entryBy}
+use Rattle.demands.proofs.Given.{Checked}
+use Rattle.analysis_texts.specs.declared.Progress.{Progress}
+use Rattle.analysis_texts.specs.declared.Progress.the-variants.{Unrefused, AtEntry, Later}
+use Rattle.analysis_texts.specs.Progress.{Reached}
+use Rattle.analysis_texts.proofs.Own.{zeros-cleared}
+use Rattle.analysis_texts.proofs.Reached.{stands-hold}
 use Rattle.standing_texts.specs.Held.{entered, foreign, heldBy, padCauses}
 use Rattle.standing_texts.specs.Parts.{PadTried, PadsJudged, Zero, TextsRead, HeldRead, PadRead}
 use Rattle.standing_table.specs.Table.{stateHeld}

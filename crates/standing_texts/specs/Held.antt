@@ -9,7 +9,7 @@ use Rattle.sizes.specs.Sizes as Size
 use Rattle.reading.specs.Numbers as No
 use Rattle.reading.specs.Refusal.{Read, read, _>>=_, _>>_, weigh}
 use Rattle.calculation.specs.Pads.{State, placeable}
-use Rattle.outcome.specs.Outcome as O
+use Rattle.demands.specs.Outcome as O
 use Rattle.standing_table.specs.Table.{stateHeld}
 
 -- "1 a lent table below its published size; 2 a text above 65,535 bytes"

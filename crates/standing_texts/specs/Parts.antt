@@ -9,11 +9,11 @@ use Rattle.sizes.specs.Sizes as Size
 use Rattle.reading.specs.Numbers as No
 use Rattle.reading.specs.Refusal.{Read, read, _>>=_, _>>_, weigh}
 use Rattle.reading.specs.Verdict.{doneRead}
-use Rattle.cell_library.specs.Cells.{Cell}
-use Rattle.netlist.specs.Netlist.{Statement, mark, output}
+use Rattle.library_table.specs.Cells.{Cell}
+use Rattle.netlist_table.specs.Netlist.{Statement, mark, output}
 use Rattle.calculation.specs.Pads.{padded, State, statementsOf, takesNone, unpaddable, placeable, placed}
 use Rattle.calculation.specs.Stored.{Holds}
-use Rattle.outcome.specs.Outcome.{Given, Pair, readPair}
+use Rattle.demands.specs.Outcome.{Given, Pair, readPair}
 use Rattle.standing_table.specs.Table.{stateHeld}
 use Rattle.standing_texts.specs.Held.{entered, foreign, heldBy, padCauses}
 

@@ -3,14 +3,14 @@
 //
 // For the crates above, each with what it asks and leaves (specs/Parts.antt): `mark_pads`, the pads of a standing table in a
 // netlist table; `read_held`, both texts and these pads; `read_pad`, one pad more, whose ticket may be stale; `refusal`.
-use netlist::RawStatement;
-use netlist::Rules;
-use read_pair::Progress;
+use analysis_texts::Progress;
+use netlist_table::RawStatement;
+use netlist_table::Rules;
 use reading::Refusal;
 use reading::TICKET_STALE;
 use reading::UNPADDABLE;
 use reading::Verdict;
-use row_sums::kinds::wide;
+use sweep_sums::kinds::wide;
 use table::word;
 ghost use mathlib.Core.Bool.{not};
 ghost use mathlib.Core.List.{List};
@@ -20,11 +20,11 @@ ghost use lib.ListN.{length, take, drop};
 ghost use Rattle.sizes.specs.Sizes as Size;
 ghost use Rattle.reading.specs.Refusal.{weigh};
 ghost use Rattle.reading.specs.Verdict.{verdictRead};
-ghost use Rattle.cell_library.specs.Cells.{Cell};
-ghost use Rattle.netlist.specs.Netlist.{Statement, output};
-ghost use Rattle.netlist.specs.Admitting.{IsMark};
+ghost use Rattle.library_table.specs.Cells.{Cell};
+ghost use Rattle.netlist_table.specs.Netlist.{Statement, output};
+ghost use Rattle.netlist_table.specs.Admission.{IsMark};
 ghost use Rattle.calculation.specs.Stored.{Holds};
-ghost use Rattle.outcome.specs.Outcome.{givenTexts};
+ghost use Rattle.demands.specs.Outcome.{givenTexts};
 ghost use Rattle.standing_texts.specs.Held.{padCauses};
 ghost use Rattle.standing_texts.specs.Parts.{PadTried, PadsTried, PadsJudged, Zero, TextsRead, HeldRead, PadRead};
 
@@ -35,7 +35,7 @@ fn output_mark(l: u32) -> RawStatement
 {
     RawStatement {
         form: true,
-        kind: netlist::OUTPUT,
+        kind: netlist_table::OUTPUT,
         cell: 0,
         line: l,
         pins: [0; sizes::PINS],
@@ -57,10 +57,10 @@ fn place(library: &[u32], netlist: &mut [u32], line: usize) -> bool
         return false;
     }
     let l = line as u32;
-    if !netlist::lines::mentioned(netlist, l) {
+    if !netlist_table::lines::mentioned(netlist, l) {
         return false;
     }
-    let cause = netlist::admit(netlist, library, output_mark(l));
+    let cause = netlist_table::admit(netlist, library, output_mark(l));
     cause == 0
 }
 
@@ -115,7 +115,7 @@ fn read_both(lib: &[u8], net: &[u8], library: &mut [u32], netlist: &mut [u32]) -
     ensures { λ r. ⌜ TextsRead (givenTexts (now (lib .entry)) (now (net .entry)))
         (now (library .exit)) (now (netlist .exit)) (verdictRead r) ⌝ }
 {
-    let progress = read_pair::read_texts(
+    let progress = analysis_texts::read_texts(
         Rules::New,
         lib,
         net,

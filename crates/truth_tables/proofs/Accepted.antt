@@ -10,21 +10,21 @@ use native.Mathlib.Omega.{arith}
 use lib.ListN.{length, length-map}
 use lib.Pow.{pow-add}
 use borrow.Author.Tests.{eq-eqb, ne-eqb, le-ltb, lt-leb}
-use Rattle.laws.proofs.Numbers.{two-four}
+use Rattle.common_laws.proofs.Numbers.{two-four}
 use Rattle.sizes.specs.Sizes as Size
 use Rattle.reading.specs.Each.{Each}
 use Rattle.reading.specs.Refusal.{read}
 use Rattle.reading.proofs.Laws.{by-test, clash, and-left, each-member}
 use Rattle.text.specs.Numeral.{nameForm}
-use Rattle.cell_library.specs.Cells.{Row, Group, bit}
-use Rattle.cell_library.specs.Library.{anyOf, aboveRows, above, namesNone, observesNot, Word, CC, CO, SC, SO, groupCount, columnCount, idle, emptyGroup, excepted, rowIdle, library}
+use Rattle.library_table.specs.Cells.{Row, Group, bit}
+use Rattle.library_table.specs.Library.{anyOf, aboveRows, above, namesNone, observesNot, Word, CC, CO, SC, SO, groupCount, columnCount, idle, emptyGroup, excepted, rowIdle, library}
 use Rattle.truth_tables.specs.Entries.{literalColumns, termColumns, observeColumn, settingRow, observingRow, settingGroup, observingGroup, settingGroups, groupsFrom, observingGroups, cellOf, rowNumber, entryBytes}
 use Rattle.truth_tables.specs.Tables.{Setting, Term, output, same, fits, meets, terms, allOf, prime, implicant, dropped, primes, gives, putIn, changes, observing}
 use Rattle.truth_tables.proofs.Lists.{kept, each-kept}
-use Rattle.truth_tables.proofs.Covering.{same-true, implies}
-use Rattle.truth_tables.proofs.Counting.{sixteen}
+use Rattle.truth_tables.proofs.Cover.{same-true, implies}
+use Rattle.truth_tables.proofs.Counts.{sixteen}
 use Rattle.truth_tables.proofs.Order.{ordered-primes, ordered-observing, terms-length}
-use Rattle.truth_tables.proofs.Reading.{Written, GoodLine, cell-read}
+use Rattle.truth_tables.proofs.EntryRead.{Written, GoodLine, cell-read}
 
 -- ---- of each row of a group
 

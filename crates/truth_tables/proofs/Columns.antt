@@ -14,9 +14,9 @@ use lib.Pow.{shr-shr}
 use lib.Dec.{eqb}
 use lib.ListN.{length, getD}
 use borrow.Author.Tests.{eqb-true}
-use Rattle.laws.proofs.Numbers.{two-four}
+use Rattle.common_laws.proofs.Numbers.{two-four}
 use Rattle.reading.proofs.Laws.{clash, and-left, and-right}
-use Rattle.cell_library.specs.Cells.{bit}
+use Rattle.library_table.specs.Cells.{bit}
 use Rattle.truth_tables.specs.Tables.{Term, Setting, digit, same, fits, meets}
 use Rattle.truth_tables.specs.Entries.{literalColumns, termColumns}
 use Rattle.truth_tables.proofs.Order.{term-below}

@@ -14,10 +14,10 @@ use Rattle.text.proofs.Laws.{nameForm-length}
 use Rattle.writer.specs.Octal.{octalBytes}
 use Rattle.writer.proofs.Decimal.{decimal-length}
 use Rattle.writer.proofs.Octal.{octal-most}
-use Rattle.cell_library.specs.Cells.{Group}
+use Rattle.library_table.specs.Cells.{Group}
 use Rattle.truth_tables.specs.Entries.{settingRow, observingRow, settingGroup, observingGroup, settingGroups, groupsFrom, observingGroups, cellOf, rowNumber, rowBytes, groupBytes, groupsBytes, lineBytes, nameBytes, entryBytes}
 use Rattle.truth_tables.specs.Tables.{primes, gives, putIn, changes, observing}
-use Rattle.truth_tables.proofs.Counting.{sixteen}
+use Rattle.truth_tables.proofs.Counts.{sixteen}
 
 group-most : (g : Group) → length (groupBytes g) ≤ 1 + 25 * length g
 unfolding groupBytes rowBytes bytes

@@ -1,8 +1,8 @@
 pub mod Lists
-pub mod Covering
-pub mod Counting
+pub mod Cover
+pub mod Counts
 pub mod Order
-pub mod Reading
+pub mod EntryRead
 pub mod Accepted
 pub mod Lengths
 pub mod Columns

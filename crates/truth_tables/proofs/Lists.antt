@@ -9,7 +9,7 @@ use lib.ListN.{length}
 use Rattle.reading.specs.Choice.{pick}
 use Rattle.reading.specs.Each.{Each}
 use Rattle.reading.proofs.Laws.{by-test, clash, and-left, and-right}
-use Rattle.cell_library.specs.Library.{anyOf}
+use Rattle.library_table.specs.Library.{anyOf}
 use Rattle.truth_tables.specs.Tables.{allOf, keep}
 
 module _ {A : Type 0} where

@@ -11,7 +11,7 @@ use lib.ListN.{length}
 use Rattle.reading.specs.Choice.{pick}
 use Rattle.reading.specs.Each.{Each}
 use Rattle.reading.proofs.Laws.{by-test, each-append, each-map}
-use Rattle.cell_library.specs.Cells.{Row}
+use Rattle.library_table.specs.Cells.{Row}
 use Rattle.truth_tables.proofs.Lists.{map-append, map-map, map-same}
 use Rattle.truth_tables.specs.Entries.{literalColumns, termColumns, observeColumn, settingRow, observingRow, settingGroup, observingGroup, rowNumber}
 use Rattle.truth_tables.specs.Tables.{Setting, digit, place, Term, terms, Condition, keep, prime, primes, gives, putIn, changes, observing, Descends}

@@ -12,11 +12,11 @@ use lib.Dec.{eqb}
 use lib.ListN.{length, getD}
 use borrow.Author.Tests.{eq-eqb, eqb-true}
 use Rattle.reading.specs.Each.{Each}
-use Rattle.laws.proofs.Numbers.{two-four}
+use Rattle.common_laws.proofs.Numbers.{two-four}
 use Rattle.reading.proofs.Laws.{by-test, clash, each-map}
-use Rattle.cell_library.specs.Cells.{Row, Cell, Column, pin, output, observe, bitOf, bit, named, pinColumns, settingColumns, observingColumns}
-use Rattle.cell_library.specs.Library.{anyOf}
-use Rattle.cell_library.proofs.Columns.{named-from, named-bit, named-listed, pin-column, PinAt, column-pin}
+use Rattle.library_table.specs.Cells.{Row, Cell, Column, pin, output, observe, bitOf, bit, named, pinColumns, settingColumns, observingColumns}
+use Rattle.library_table.specs.Library.{anyOf}
+use Rattle.library_table.proofs.Columns.{named-from, named-bit, named-listed, pin-column, PinAt, column-pin}
 use Rattle.truth_tables.specs.Tables.{Setting, Term, digit, meets, terms, allOf, prime, primes, Condition, gives, putIn, changes, observing}
 use Rattle.truth_tables.specs.Entries.{termColumns, observeColumn, settingRow, observingRow, settingGroup, observingGroup, settingGroups, groupsFrom, observingGroups, cellOf}
 use Rattle.truth_tables.specs.Generated.{Generated}
@@ -24,7 +24,7 @@ use Rattle.truth_tables.specs.Rows.{asNamed, meetsRow, Sets, Observes, R
 use Rattle.truth_tables.proofs.Lists.{all-member, all-by, each-kept}
 use Rattle.truth_tables.proofs.Order.{terms-length, length-putIn, term-below}
 use Rattle.truth_tables.proofs.Columns.{low-bit, high-bit, says, term-bit, meets-said, said-meets}
-use Rattle.truth_tables.proofs.Covering.{setting-fact, observing-fact}
+use Rattle.truth_tables.proofs.Cover.{setting-fact, observing-fact}
 
 -- ---- a row
 

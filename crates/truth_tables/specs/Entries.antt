@@ -8,7 +8,7 @@ use lib.ListN.{length}
 use Rattle.text.specs.Bytes.{bytes, bytes-open}
 use Rattle.writer.specs.Decimal.{decimalBytes, decimal-open}
 use Rattle.writer.specs.Octal.{octalBytes, octal-open}
-use Rattle.cell_library.specs.Cells.{plain, Row, Group, Cell}
+use Rattle.library_table.specs.Cells.{plain, Row, Group, Cell}
 use Rattle.truth_tables.specs.Tables.{Term, primes, gives, observing, tables-open}
 
 -- ---- the cell of a truth table

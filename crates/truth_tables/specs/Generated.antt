@@ -5,7 +5,7 @@ use mathlib.Core.List.{List}
 use mathlib.Core.Path.{_≡_}
 use Prim.Native.Nat.{_≤_, _^_}
 use lib.ListN.{length}
-use Rattle.cell_library.specs.Cells.{Cell}
+use Rattle.library_table.specs.Cells.{Cell}
 use Rattle.truth_tables.specs.Entries.{settingGroups, observingGroups}
 
 -- A cell whose groups are those that the generator makes of the truth table with these bits, whatever its name. One without

@@ -8,8 +8,8 @@ use mathlib.Core.Path.{_≡_}
 use Prim.Native.Nat.{ℕ, suc, _-_, _<_}
 use lib.Dec.{eqb}
 use lib.ListN.{length, getD}
-use Rattle.cell_library.specs.Cells.{Row, Group, Cell, Column, pin, output, observe, named, settingColumns, observingColumns}
-use Rattle.cell_library.specs.Library.{anyOf}
+use Rattle.library_table.specs.Cells.{Row, Group, Cell, Column, pin, output, observe, named, settingColumns, observingColumns}
+use Rattle.library_table.specs.Library.{anyOf}
 use Rattle.truth_tables.specs.Tables as Table
 
 -- Whether a setting of the pins is as a column of a row says: "pin at 0", "pin at 1", "cell output at 0", "at 1". "observe the

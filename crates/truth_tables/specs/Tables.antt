@@ -60,7 +60,7 @@ dropped (none ∷ t) = map (λ q. none ∷ q) (dropped t)
 dropped (some v ∷ t) = (none ∷ t) ∷ map (λ q. some v ∷ q) (dropped t)
 
 -- The terms of n pins, "by descending octal value": pin 1 is the heaviest, and of a pin "at 0" is heavier than "at 1"
--- (proofs/Order.antt), and none is missing (`term-listed` of proofs/Covering.antt).
+-- (proofs/Order.antt), and none is missing (`term-listed` of proofs/Cover.antt).
 unfoldable pub terms : ℕ → List Term
 terms zero = [] ∷ []
 terms (suc n) =

@@ -1,6 +1,6 @@
 // Truth tables and the cells that they make, document 02, K6: settings of the pins, implicants and prime
 // implicants, the groups of rows of a truth table, the cell and its entry's text. The crate holds
-// definitions (specs/) and theorems (proofs/); the generator, crate `generator`, is proved against them.
+// definitions (specs/) and theorems (proofs/); the generator, crate `truth_entry`, is proved against them.
 //
 // No call is open to others, since there is no code. Other crates cite specs.Tables (the rows of a truth
 // table), specs.Entries (its cell, and the text of a cell), specs.Generated (cells that have a truth table),

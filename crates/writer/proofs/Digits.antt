@@ -10,7 +10,7 @@ use native.Mathlib.Omega.{arith}
 use lib.Dec.{ltb, eqb}
 use lib.ListN.{length, length-append}
 use borrow.Author.Tests.{lt-ltb, le-ltb, le-leb, ne-eqb, ltb-true, ltb-false}
-use Rattle.laws.proofs.Numbers.{quotient-below}
+use Rattle.common_laws.proofs.Numbers.{quotient-below}
 use Rattle.reading.specs.Choice.{pick}
 use Rattle.reading.proofs.Laws.{by-test, clash, and-left, and-right}
 use Rattle.text.specs.Numeral.{digitBelow, allDigits, value, noLeadingZero, wellFormed, numeral}

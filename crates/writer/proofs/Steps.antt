@@ -10,7 +10,7 @@ use native.Mathlib.Nat.{zero-add, add-zero}
 use native.Mathlib.Omega.{arith}
 use lib.ListN.{length, set, drop, length-append}
 use lib.Seq.{sets, length-sets, set-comm, sets-eq}
-use Rattle.laws.proofs.Lists.{sets-past, sets-append}
+use Rattle.common_laws.proofs.Lists.{sets-past, sets-append}
 use Rattle.writer.specs.Put.{Put}
 
 -- where a cursor is held back it stands past the end

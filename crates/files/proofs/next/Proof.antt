@@ -14,7 +14,7 @@ use Rattle.io.specs.Counts.{clamped}
 use Rattle.reading.specs.Choice.{pick}
 use Rattle.files.specs.declared.Filling.the-variants.{More, Done}
 use Rattle.files.specs.declared.Loaded.the-variants.{Bytes}
-use Rattle.files.specs.Loading.{nextOf}
+use Rattle.files.specs.Loads.{nextOf}
 use Rattle.files.proofs.Answers.{failed, went}
 use Rattle.files.proofs.next.Statement.{statement}
 use Rattle.files.proofs.next.Tie as tie

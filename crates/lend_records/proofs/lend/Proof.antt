@@ -1,6 +1,6 @@
 -- `lend_records::lend` meets its contract: a walk of its MIR, by hand. The array of records stands in a local, whose first
 -- `count` elements are lent as a slice for a lifetime that is made for the call, and come back.
--- All that the proof knows of `records::analyse_records` is that it meets its contract.
+-- All that the proof knows of `analysis_records::analyse_records` is that it meets its contract.
 -- Assumes nothing.
 use mathlib.Core.Path.{_≡_, refl, sym, subst}
 use Prim.Native.Nat.{ℕ, zero, suc, _+_, _*_, _-_, _≤_, _<_, _^_}
@@ -50,18 +50,18 @@ use denote.Triple.Walked.{says, needs, Stays, gave-slice, stay-none-slice, stay-
 use denote.Exit.{yes}
 use denote.Signature.{plain}
 use Rattle.sizes.specs.Sizes as Size
-use Rattle.outcome.specs.Answer.{answerRead, lentOf}
-use Rattle.records.specs.Outcome.{RecordsPromised}
-use Rattle.records.specs.declared.Record.{Record}
-use Rattle.outcome.specs.declared.Answer.{Answer}
-use Rattle.records.proofs.Record as R
-use Rattle.records.proofs.Record.Laws as R′
-use Rattle.outcome.proofs.Answer as Ans
-use Rattle.outcome.proofs.Answer.Laws as Ans′
-use Rattle.records.proofs.analyse_records as callee
-use Rattle.records.proofs.analyse_records.Symbol as callee-def
-use Rattle.records.proofs.analyse_records.Symbol.{name as #records·analyse_records}
-use Rattle.records.proofs.analyse_records.Met as callee-thm
+use Rattle.demands.specs.Answer.{answerRead, lentOf}
+use Rattle.analysis_records.specs.Outcome.{RecordsPromised}
+use Rattle.analysis_records.specs.declared.Record.{Record}
+use Rattle.demands.specs.declared.Answer.{Answer}
+use Rattle.analysis_records.proofs.Record as R
+use Rattle.analysis_records.proofs.Record.Laws as R′
+use Rattle.demands.proofs.Answer as Ans
+use Rattle.demands.proofs.Answer.Laws as Ans′
+use Rattle.analysis_records.proofs.analyse_records as callee
+use Rattle.analysis_records.proofs.analyse_records.Symbol as callee-def
+use Rattle.analysis_records.proofs.analyse_records.Symbol.{name as #analysis_records·analyse_records}
+use Rattle.analysis_records.proofs.analyse_records.Met as callee-thm
 use Rattle.lend_records.proofs.Front.{beyond, row-cut, row-join, array-out, array-in}
 use Rattle.lend_records.proofs.lend.Key.{name as #lend_records·lend}
 use Rattle.lend_records.proofs.lend as lend
@@ -192,7 +192,7 @@ module _ {M : Type 1} (𝓤 : URA M) (H : Heap 𝓤) (A : Atoms 𝓤) (W : Given
   typed : Holds (hasTy (tyArray R′.mir most) v) × WT v
   typed = array-lawful 𝓤 H A W R.the-row (LL.lawful R.the-type R′.the-laws 𝓤 H A W) most .typed recs _ is .0
 
-  module _ (𝓣 : Tables 𝓤 H) (fm : FmC 𝓤 H (W .laws) (𝓣 .C)) (known : Triple 𝓤 (𝓣 .C #records·analyse_records) (Callee 𝓤 H A mem run)) where
+  module _ (𝓣 : Tables 𝓤 H) (fm : FmC 𝓤 H (W .laws) (𝓣 .C)) (known : Triple 𝓤 (𝓣 .C #analysis_records·analyse_records) (Callee 𝓤 H A mem run)) where
     walks : ent 𝓤 (onEntry 𝓤 H A lend.signature (κ₀, (κ₁, (κ₂, (κ₃, (κ₄, tt))))) (q₀, (q₁, (q₂, (q₃, (q₄, tt))))) a vals) (WpFn 𝓤 H (𝓣 .C) (𝓣 .Λ) code.function (v₀ ∷ v ∷ vint w64 count ∷ v₁ ∷ v₂ ∷ v₃ ∷ v₄ ∷ []) Post)
     walks =
         qed W ((‵ (flft κ₀ q₀) ⊛ ‵ (flft κ₁ q₁) ⊛ ‵ (flft κ₂ q₂) ⊛ ‵ (flft κ₃ q₃) ⊛ ‵ (flft κ₄ q₄) ⊛ ‵ ftrue) ∷ ‵ (owns (ShrSlice (named 0) κ₀ u8 ∷ List-of ∷ usize ∷ MutSlice (named 1) κ₁ u32 ∷ MutSlice (named 2) κ₂ u32 ∷ MutSlice (named 3) κ₃ u32 ∷ MutSlice (named 4) κ₄ u8 ∷ []) a vals) ∷ []) ∵
@@ -242,14 +242,14 @@ module _ {M : Type 1} (𝓤 : URA M) (H : Heap 𝓤) (A : Atoms 𝓤) (W : Given
         keep ! (0 ∷ 1 ∷ 8 ∷ 7 ∷ 6 ∷ 5 ∷ 3 ∷ 2 ∷ []) $ by ! (exits r w (zs .1 .1 .0) (zs .1 .1 .1 .0) (zs .1 .1 .1 .1 .0) (zs .1 .1 .1 .1 .1 .0) f₁ f₂ f₃ f₄ said))))))))))))))))))))))))))))))))
 
 module _ {M : Type 1} (𝓤 : URA M) (H : Heap 𝓤) (A : Atoms 𝓤) (W : Given 𝓤 H A) (mem : Memory → SProp 𝓤) (run : Routine → Fun 𝓤) where
-  lend-walks : (𝓣 : Tables 𝓤 H) → Triple 𝓤 (𝓣 .C #records·analyse_records) (Callee 𝓤 H A mem run) → Walks 𝓤 H A lend.ended stayed (WpFn 𝓤 H (𝓣 .C) (𝓣 .Λ) code.function) (lend.clauses 𝓤 H A mem run)
+  lend-walks : (𝓣 : Tables 𝓤 H) → Triple 𝓤 (𝓣 .C #analysis_records·analyse_records) (Callee 𝓤 H A mem run) → Walks 𝓤 H A lend.ended stayed (WpFn 𝓤 H (𝓣 .C) (𝓣 .Λ) code.function) (lend.clauses 𝓤 H A mem run)
   lend-walks 𝓣 known = walked 𝓤 H A lend.ended stayed (lend.clauses 𝓤 H A mem run) (WpFn 𝓤 H (𝓣 .C) (𝓣 .Λ) code.function) (λ κs. (slice-vals, (array-vals spelling, (uint-vals w64, (slice-vals, (slice-vals, (slice-vals, (slice-vals, tt))))))))
       (λ κs. (shr-slice-tells (named 0) (κs .0) u8, (array-tells R.the-row spelling (R′.lowers .val-is) most, (uint-tells w64, (mut-slice-tells (named 1) (κs .1 .0) u32, (mut-slice-tells (named 2) (κs .1 .1 .0) u32, (mut-slice-tells (named 3) (κs .1 .1 .1 .0) u32, (mut-slice-tells (named 4) (κs .1 .1 .1 .1 .0) u8, tt))))))))
       (λ κs qs bounds a g are. needs 𝓤 (a .1 .1 .0 ≤ most) _ (λ within.
       walks 𝓤 H A W mem run (κs .0) (κs .1 .0) (κs .1 .1 .0) (κs .1 .1 .1 .0) (κs .1 .1 .1 .1 .0) (qs .0) (qs .1 .0) (qs .1 .1 .0) (qs .1 .1 .1 .0) (qs .1 .1 .1 .1 .0) (a .0) (a .1 .0) (a .1 .1 .0) (a .1 .1 .1 .0) (a .1 .1 .1 .1 .0) (a .1 .1 .1 .1 .1 .0) (a .1 .1 .1 .1 .1 .1 .0)
       (are .0 .0 .1) (are .1 .0) (are .1 .1 .0 .1) (are .1 .1 .1 .0 .0 .1) (are .1 .1 .1 .1 .0 .0 .1) (are .1 .1 .1 .1 .1 .0 .0 .1) (are .1 .1 .1 .1 .1 .1 .0 .0 .1) within 𝓣 (fmOf 𝓤 H (W .laws) 𝓣) known))
 
-lend-meets : {M : Type 1} (𝓤 : URA M) (H : Heap 𝓤) (A : Atoms 𝓤) → Given 𝓤 H A → (mem : Memory → SProp 𝓤) (run : Routine → Fun 𝓤) (𝓣 : Tables 𝓤 H) → Triple 𝓤 (𝓣 .C #records·analyse_records) (Callee 𝓤 H A mem run)
+lend-meets : {M : Type 1} (𝓤 : URA M) (H : Heap 𝓤) (A : Atoms 𝓤) → Given 𝓤 H A → (mem : Memory → SProp 𝓤) (run : Routine → Fun 𝓤) (𝓣 : Tables 𝓤 H) → Triple 𝓤 (𝓣 .C #analysis_records·analyse_records) (Callee 𝓤 H A mem run)
     → Meets 𝓤 H A lend.signature (WpFn 𝓤 H (𝓣 .C) (𝓣 .Λ) code.function) (lend.spec 𝓤 H A mem run)
 lend-meets 𝓤 H A W mem run 𝓣 known =
     walk-meets 𝓤 H A lend.ended stayed W (goes-none-slice 𝓤 H A W 5 (0 ∷ []) tt (plain (λ _. u8)) yes, (goes-none 𝓤 H A W 5 (λ _. List-of) yes (λ κs x f. refl), (goes-none 𝓤 H A W 5 (λ _. usize) yes (λ κs x f. refl), (goes-gave-slice 𝓤 H A W 5 1 tt (plain (λ _. u32)), (goes-gave-slice 𝓤 H A W 5 2 tt (plain (λ _. u32)), (goes-gave-slice 𝓤 H A W 5 3 tt (plain (λ _. u32)), (goes-gave-slice 𝓤 H A W 5 4 tt (plain (λ _. u8)), tt))))))) (lend.clauses 𝓤 H A mem run)
@@ -261,4 +261,4 @@ lend-spec 𝓤 H 𝓜 𝓖 𝓡 =
     entered 𝓤 H (tripleOf 𝓤 H (𝓖 .A) lend.signature (lend.spec 𝓤 H (𝓖 .A) (𝓜 .mem) (𝓡 .run)))
     (tables 𝓤 H 𝓜 𝓡 code.env .C) (tables 𝓤 H 𝓜 𝓡 code.env .Λ) #lend_records·lend code.function (code.unfolded 𝓤 H 𝓜 𝓡)
     (lend-meets 𝓤 H (𝓖 .A) (givenOf 𝓤 H 𝓜 𝓖) (𝓜 .mem) (𝓡 .run) (tablesOf 𝓤 H 𝓜 (tables 𝓤 H 𝓜 𝓡 code.env))
-    (cited 𝓤 H (Callee 𝓤 H (𝓖 .A) (𝓜 .mem) (𝓡 .run)) 𝓜 𝓡 code.env #records·analyse_records callee-def.routine code.calls-records·analyse-records (callee-thm.met 𝓤 H 𝓜 𝓖 𝓡)))
+    (cited 𝓤 H (Callee 𝓤 H (𝓖 .A) (𝓜 .mem) (𝓡 .run)) 𝓜 𝓡 code.env #analysis_records·analyse_records callee-def.routine code.calls-analysis-records·analyse-records (callee-thm.met 𝓤 H 𝓜 𝓖 𝓡)))

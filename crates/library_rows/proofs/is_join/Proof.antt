@@ -1,6 +1,6 @@
 -- `is_join` meets its contract. Assumes nothing.
 use Rattle.text.specs.Bytes.{bytes}
-use Rattle.cell_library.specs.Library.{isJoin}
+use Rattle.library_table.specs.Library.{isJoin}
 use borrow.Author.Needs.{needs}
 use Rattle.library_rows.proofs.is_join.Statement.{statement}
 use Rattle.library_rows.proofs.is_join.Tie as tie

@@ -1,6 +1,6 @@
 -- `is_rowless` meets its contract. Assumes nothing.
 use Rattle.text.specs.Bytes.{bytes}
-use Rattle.cell_library.specs.Library.{isZ}
+use Rattle.library_table.specs.Library.{isZ}
 use borrow.Author.Needs.{needs}
 use Rattle.library_rows.proofs.is_rowless.Statement.{statement}
 use Rattle.library_rows.proofs.is_rowless.Tie as tie

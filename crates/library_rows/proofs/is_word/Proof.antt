@@ -1,6 +1,6 @@
 -- `is_word` meets its contract. Assumes nothing.
 use Rattle.text.specs.Bytes.{bytes}
-use Rattle.cell_library.specs.Library.{wordBytes}
+use Rattle.library_table.specs.Library.{wordBytes}
 use Rattle.library_rows.specs.Passes.{wordAt}
 use Rattle.library_rows.proofs.Passes.{at-CC, at-SO}
 use borrow.Author.Needs.{needs}

@@ -4,7 +4,7 @@ use mathlib.Core.Path.{_≡_, refl, sym, _∙_}
 use Prim.Native.Nat.{_≤_}
 use Rattle.sizes.specs.Sizes as Size
 use Rattle.reading.specs.Choice.{pick}
-use Rattle.cell_library.specs.Library.{isJoin, isZ}
+use Rattle.library_table.specs.Library.{isJoin, isZ}
 use Rattle.library_rows.specs.Passes.{farthest, rowPut, fieldPassed, fieldStored}
 use Rattle.library_rows.proofs.Passes.{value-row, bad-row, group-small}
 use native.Mathlib.Omega.{arith}

@@ -6,7 +6,7 @@ use borrow.Author.Tests.{not-true, not-false}
 use Rattle.reading.specs.Choice.{pick}
 use Rattle.text.specs.Lines.{fields, sameBytes}
 use Rattle.text.proofs.Laws.{fieldsFrom-start}
-use Rattle.cell_library.specs.Library.{wordBytes}
+use Rattle.library_table.specs.Library.{wordBytes}
 use Rattle.library_rows.specs.Passes.{wordAt}
 use Rattle.text.proofs.Cursors.{field-nth, field-next, fields-some}
 use Rattle.library_rows.proofs.Passes.{asked-place, rowNumber-walk, walk-read}

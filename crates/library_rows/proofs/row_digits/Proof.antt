@@ -1,5 +1,5 @@
 -- `row_digits` meets its contract. Assumes nothing.
-use Rattle.cell_library.specs.Library.{rowDigits}
+use Rattle.library_table.specs.Library.{rowDigits}
 use Rattle.library_rows.specs.Passes.{numberHeading}
 use Rattle.library_rows.proofs.Passes.{other-deep}
 use Rattle.library_rows.proofs.row_digits.Statement.{statement}

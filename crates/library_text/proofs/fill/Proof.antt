@@ -8,8 +8,8 @@ use Rattle.table.proofs.Places.{cleared-all}
 use Rattle.reading.specs.Refusal.{refused, read}
 use Rattle.reading.specs.Verdict.{verdictRead, doneRead}
 use Rattle.reading.proofs.Laws.{done-read, done-refused}
-use Rattle.cell_library.specs.Library.{library}
-use Rattle.cell_library.specs.Layout.{libraryWords, libraryAfter}
+use Rattle.library_table.specs.Library.{library}
+use Rattle.library_table.specs.Layout.{libraryWords, libraryAfter}
 use Rattle.library_text.proofs.Walks.{cleared-empty, past-size}
 use borrow.Author.Needs.{needs}
 use Rattle.library_text.proofs.fill.Statement.{statement}

@@ -3,8 +3,8 @@ use mathlib.Core.Bool.{Bool, _&&_}
 use mathlib.Core.Path.{_≡_, refl, sym, ap, _∙_}
 use denote.Ref.{now}
 use Rattle.reading.specs.Verdict.{verdictRead}
-use Rattle.netlist.specs.Netlist.{declaring}
-use Rattle.netlist.specs.Admitting.{someUndeclared}
+use Rattle.netlist_table.specs.Netlist.{declaring}
+use Rattle.netlist_table.specs.Admission.{someUndeclared}
 use Rattle.netlist_text.proofs.Declared.{declares-refused, declares-read}
 use borrow.Author.Needs.{needs}
 use Rattle.netlist_text.proofs.declare.Statement.{statement}

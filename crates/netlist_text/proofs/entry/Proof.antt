@@ -2,7 +2,7 @@
 use Rattle.reading.specs.Choice.{pick}
 use Rattle.reading.specs.Refusal.{weigh}
 use Rattle.reading.specs.Verdict.{verdictRead}
-use Rattle.netlist_text.specs.Reading.{netlistEntry}
+use Rattle.netlist_text.specs.Reader.{netlistEntry}
 use Rattle.netlist_text.proofs.entry.Statement.{statement}
 use Rattle.netlist_text.proofs.entry.Tie as tie
 

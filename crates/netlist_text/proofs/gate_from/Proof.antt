@@ -6,7 +6,7 @@ use Prim.Native.Nat.{ℕ}
 use borrow.Author.Tests.{not-true, not-false}
 use Rattle.text.specs.Lines.{part, nextAfter}
 use Rattle.text.specs.Numeral.{nameForm}
-use Rattle.cell_library.specs.Library.{cellNamed}
+use Rattle.library_table.specs.Library.{cellNamed}
 use Rattle.netlist_text.proofs.Forms.{stands-none, number-good, number-bad, gate-none, gate-name-bad, gate-no-line}
 use Rattle.netlist_text.proofs.Forms.{gate-line-bad, gate-lines, gathered-gate}
 use borrow.Author.Needs.{needs}

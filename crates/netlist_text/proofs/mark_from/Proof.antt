@@ -1,8 +1,8 @@
 -- `mark_from` reads the one number of a mark. Assumes nothing.
 use mathlib.Core.Path.{_≡_, ap, _∙_}
 use Rattle.text.specs.Lines.{part, nextAfter}
-use Rattle.netlist.specs.Netlist.{markOf}
-use Rattle.netlist.specs.Admitting.{StandsFor}
+use Rattle.netlist_table.specs.Netlist.{markOf}
+use Rattle.netlist_table.specs.Admission.{StandsFor}
 use Rattle.netlist_text.proofs.Forms.{stands-none, number-good, number-bad, lone-none, lone-many, lone-one}
 use borrow.Author.Needs.{needs}
 use Rattle.netlist_text.proofs.mark_from.Statement.{statement}

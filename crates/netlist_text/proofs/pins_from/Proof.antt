@@ -11,7 +11,7 @@ use Rattle.sizes.specs.Sizes as Size
 use Rattle.table.specs.Blocks.{fitted}
 use Rattle.table.proofs.Places.{length-fitted}
 use Rattle.netlist_text.specs.declared.Pins.{Pins}
-use Rattle.netlist.specs.Netlist.{anyLineBad}
+use Rattle.netlist_table.specs.Netlist.{anyLineBad}
 use Rattle.netlist_text.proofs.Forms.{number-good, number-bad, pins-more, Passed, passed-start, passed-more, passed-bad, passed-end}
 use borrow.Author.Needs.{needs}
 use Rattle.netlist_text.proofs.pins_from.Statement.{statement}

@@ -8,11 +8,11 @@ use Rattle.sizes.specs.Sizes as Size
 use Rattle.table.specs.Blocks as T
 use Rattle.text.specs.Lines.{part, fields, nextAfter}
 use Rattle.reading.specs.Verdict.{verdictRead}
-use Rattle.cell_library.specs.Cells.{Cell}
-use Rattle.netlist.specs.Netlist.{statementOf}
-use Rattle.netlist.specs.Admitting.{Decided}
-use Rattle.cell_library.specs.Layout.{CellsTold}
-use Rattle.netlist_text.proofs.Reading.{
+use Rattle.library_table.specs.Cells.{Cell}
+use Rattle.netlist_table.specs.Netlist.{statementOf}
+use Rattle.netlist_table.specs.Admission.{Decided}
+use Rattle.library_table.specs.Layout.{CellsTold}
+use Rattle.netlist_text.proofs.Walk.{
   cleared-past,
   Reading,
   holding,

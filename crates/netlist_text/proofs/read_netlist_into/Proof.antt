@@ -1,6 +1,6 @@
 -- `read_netlist_into` reads the lines behind the entry. Assumes nothing.
 use denote.Ref.{now}
-use Rattle.netlist_text.proofs.Entering.{entered, shut, unshut, behind}
+use Rattle.netlist_text.proofs.EntryChecks.{entered, shut, unshut, behind}
 use borrow.Author.Needs.{needs}
 use Rattle.netlist_text.proofs.read_netlist_into.Statement.{statement}
 use Rattle.netlist_text.proofs.read_netlist_into.Tie as tie

@@ -6,7 +6,7 @@ use Prim.Native.Nat.{ℕ}
 use Rattle.reading.specs.Choice.{pick}
 use Rattle.text.specs.Bytes.{bytes}
 use Rattle.text.specs.Lines.{part, nextAfter, sameBytes}
-use Rattle.netlist.specs.Netlist.{input, output, opened, declaring, statementOf}
+use Rattle.netlist_table.specs.Netlist.{input, output, opened, declaring, statementOf}
 use Rattle.netlist_text.proofs.Forms.{stands-none, same-is, all-fields}
 use borrow.Author.Needs.{needs}
 use Rattle.netlist_text.proofs.statement_of.Statement.{statement}

@@ -1,7 +1,7 @@
 -- `put_output`: `unreadable`, or what the analysis prints. Assumes nothing.
 use borrow.Author.Needs.{needs}
-use Rattle.outcome.specs.Outcome.{textLong}
-use Rattle.outcome.specs.Printed.{reported, printed}
+use Rattle.demands.specs.Outcome.{textLong}
+use Rattle.demands.specs.Printed.{reported, printed}
 use Rattle.files.specs.Output.{LongRefused}
 use Rattle.files.proofs.Output.{long-shown, either-long, prints-outputs, library-unread, netlist-unread, both-read}
 use Rattle.scoap.proofs.put_output.Statement.{statement}

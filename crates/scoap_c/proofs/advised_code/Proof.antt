@@ -1,7 +1,7 @@
 -- `advised_code` tells an advice by its line, a refusal by its one number. Assumes nothing.
 use mathlib.Core.Path.{ap, _∙_}
 use borrow.Author.Needs.{needs}
-use Rattle.adviser.specs.Calls.{advisedRead}
+use Rattle.advice_calls.specs.Calls.{advisedRead}
 use Rattle.scoap_c.specs.Advice.{adviceLine}
 use Rattle.scoap_c.proofs.Number.{code-accepted, code-refused, code-line}
 use Rattle.scoap_c.proofs.advised_code.Statement.{statement}

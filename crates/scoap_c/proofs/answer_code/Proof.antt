@@ -1,8 +1,8 @@
 -- `answer_code` tells a report's length by itself, a refusal by its one number. Assumes nothing.
 use mathlib.Core.Path.{ap}
 use borrow.Author.Needs.{needs}
-use Rattle.outcome.specs.declared.Summary.{Summary}
-use Rattle.outcome.specs.Answer.{answerRead}
+use Rattle.demands.specs.declared.Summary.{Summary}
+use Rattle.demands.specs.Answer.{answerRead}
 use Rattle.scoap_c.proofs.Number.{code-accepted, code-refused, code-line}
 use Rattle.scoap_c.proofs.answer_code.Statement.{statement}
 use Rattle.scoap_c.proofs.answer_code.Tie as tie

@@ -2,9 +2,9 @@
 use mathlib.Core.Path.{ap}
 use borrow.Author.Needs.{needs}
 use Rattle.reading.specs.Choice.{pick}
-use Rattle.changing.specs.Calls.{changedRead}
+use Rattle.standing_change.specs.Calls.{changedRead}
 use Rattle.scoap_c.proofs.Number.{code-refused, code-line}
-use Rattle.scoap_c.proofs.Changing.{code-on, code-again}
+use Rattle.scoap_c.proofs.Change.{code-on, code-again}
 use Rattle.scoap_c.proofs.change_code.Statement.{statement}
 use Rattle.scoap_c.proofs.change_code.Tie as tie
 

@@ -2,7 +2,7 @@
 use native.Mathlib.Omega.{arith}
 use borrow.Author.Needs.{needs}
 use Rattle.reading.specs.Numbers as No
-use Rattle.scoap_c.proofs.Plans.{limits-short, limits-refused, limits-long}
+use Rattle.scoap_c.proofs.Plan.{limits-short, limits-refused, limits-long}
 use Rattle.scoap_c.proofs.limit_plan.Statement.{statement}
 use Rattle.scoap_c.proofs.limit_plan.Tie as tie
 

@@ -2,7 +2,7 @@
 use mathlib.Core.Path.{refl, ap}
 use borrow.Author.Needs.{needs}
 use Rattle.writer.specs.Buffer.{codeOf}
-use Rattle.standing.specs.Calls.{padsRead}
+use Rattle.standing_calls.specs.Calls.{padsRead}
 use Rattle.scoap_c.proofs.pads_code.Statement.{statement}
 use Rattle.scoap_c.proofs.pads_code.Tie as tie
 

@@ -2,7 +2,7 @@
 use mathlib.Core.Path.{refl, ap}
 use borrow.Author.Needs.{needs}
 use Rattle.writer.specs.Buffer.{codeOf}
-use Rattle.adviser.specs.Calls.{rankedRead}
+use Rattle.advice_calls.specs.Calls.{rankedRead}
 use Rattle.scoap_c.proofs.ranked_code.Statement.{statement}
 use Rattle.scoap_c.proofs.ranked_code.Tie as tie
 

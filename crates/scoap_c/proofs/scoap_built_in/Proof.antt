@@ -5,8 +5,8 @@ use borrow.Author.Needs.{needs}
 use Rattle.reading.specs.Numbers as No
 use Rattle.text.specs.Bytes.{text}
 use Rattle.writer.specs.Buffer.{codeOf, lengthRead}
-use Rattle.cell_figures.specs.BuiltIn.{builtIn}
-use Rattle.built_in.proofs.BuiltIn.{within-text, within-line, size}
+use Rattle.truth_figures.specs.BuiltIn.{builtIn}
+use Rattle.truth_library.proofs.BuiltIn.{within-text, within-line, size}
 use Rattle.scoap_c.proofs.Cells.{text-tells}
 use Rattle.scoap_c.proofs.scoap_built_in.Statement.{statement}
 use Rattle.scoap_c.proofs.scoap_built_in.Tie as tie

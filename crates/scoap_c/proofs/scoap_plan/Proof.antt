@@ -1,9 +1,9 @@
 -- `scoap_plan` tells the answer of `write_plan` by one number. Assumes nothing.
 use denote.Ref.{now}
 use Rattle.sizes.specs.Sizes as Size
-use Rattle.outcome.specs.Own.{ownTables}
-use Rattle.read_pair.proofs.Own.{zeros-cleared}
-use Rattle.scoap_c.proofs.Plans.{plan-line, plan-coded}
+use Rattle.demands.specs.Own.{ownTables}
+use Rattle.analysis_texts.proofs.Own.{zeros-cleared}
+use Rattle.scoap_c.proofs.Plan.{plan-line, plan-coded}
 use borrow.Author.Needs.{needs}
 use Rattle.scoap_c.proofs.scoap_plan.Statement.{statement}
 use Rattle.scoap_c.proofs.scoap_plan.Tie as tie

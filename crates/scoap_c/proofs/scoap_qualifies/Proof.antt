@@ -1,8 +1,8 @@
 -- `scoap_qualifies` tells by one number what the tables of the two texts say. Assumes nothing.
 use denote.Ref.{now}
 use Rattle.sizes.specs.Sizes as Size
-use Rattle.read_pair.proofs.Own.{zeros-cleared}
-use Rattle.scoap_c.proofs.Qualifying.{entry-line, later-line, qualifies-entry, qualifies-later, qualifies-accepted}
+use Rattle.analysis_texts.proofs.Own.{zeros-cleared}
+use Rattle.scoap_c.proofs.Qualifies.{entry-line, later-line, qualifies-entry, qualifies-later, qualifies-accepted}
 use borrow.Author.Needs.{needs}
 use Rattle.scoap_c.proofs.scoap_qualifies.Statement.{statement}
 use Rattle.scoap_c.proofs.scoap_qualifies.Tie as tie

@@ -1,9 +1,9 @@
 -- `scoap_report` tells the answer of the analysis by one number. Assumes nothing.
 use denote.Ref.{now}
 use Rattle.sizes.specs.Sizes as Size
-use Rattle.outcome.specs.Own.{ownTables}
-use Rattle.read_pair.proofs.Own.{zeros-cleared}
-use Rattle.scoap_c.proofs.Coding.{report-line, report-coded}
+use Rattle.demands.specs.Own.{ownTables}
+use Rattle.analysis_texts.proofs.Own.{zeros-cleared}
+use Rattle.scoap_c.proofs.ReportCode.{report-line, report-coded}
 use borrow.Author.Needs.{needs}
 use Rattle.scoap_c.proofs.scoap_report.Statement.{statement}
 use Rattle.scoap_c.proofs.scoap_report.Tie as tie

@@ -2,7 +2,7 @@
 use mathlib.Core.Path.{refl, ap}
 use borrow.Author.Needs.{needs}
 use Rattle.writer.specs.Buffer.{codeOf}
-use Rattle.best.specs.Promise.{stepsRead}
+use Rattle.budget_call.specs.Promise.{stepsRead}
 use Rattle.scoap_c.proofs.steps_code.Statement.{statement}
 use Rattle.scoap_c.proofs.steps_code.Tie as tie
 

@@ -1,7 +1,7 @@
 -- `put_output`: `unreadable`, or the copy, or its refusal. Assumes nothing.
 use borrow.Author.Needs.{needs}
-use Rattle.outcome.specs.Outcome.{textLong}
-use Rattle.open_lines.specs.Copied.{copied, copyPrinted}
+use Rattle.demands.specs.Outcome.{textLong}
+use Rattle.netlist_open.specs.Copied.{copied, copyPrinted}
 use Rattle.files.specs.Output.{LongRefused}
 use Rattle.files.proofs.Output.{long-shown, either-long, prints-outputs, library-unread, netlist-unread, both-read}
 use Rattle.scoap_open.proofs.put_output.Statement.{statement}

@@ -7,7 +7,7 @@ use lib.ListN.{length, take, drop, set, getD, length-set}
 use lib.Seq.{take-all}
 use denote.Ref.{now}
 use Rattle.sizes.specs.Sizes as Size
-use Rattle.netlist.proofs.Copying.{copy-next}
+use Rattle.netlist_table.proofs.Copied.{copy-next}
 use Rattle.standing_table.specs.Table.{observedPlace, observedWords}
 use Rattle.standing_table.proofs.Table.{observed-length, observed-word}
 use Rattle.standing_table.proofs.hand_observed.Statement.{statement}

@@ -8,7 +8,7 @@ use denote.Ref.{now}
 use borrow.Author.Needs.{needs}
 use Rattle.sizes.specs.Sizes as Size
 use Rattle.calculation.specs.Stored.{Ready}
-use Rattle.rerun.specs.Standing.{ObservedAnew}
+use Rattle.sweep_reruns.specs.Kept.{ObservedAnew}
 use Rattle.standing_table.proofs.Slices.{part-is, ready-size}
 use Rattle.standing_table.proofs.observe.Statement.{statement}
 use Rattle.standing_table.proofs.observe.Tie as tie

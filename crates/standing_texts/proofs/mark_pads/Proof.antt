@@ -9,8 +9,8 @@ use denote.Ref.{now}
 use borrow.Author.Needs.{needs}
 use Rattle.sizes.specs.Sizes as Size
 use Rattle.reading.specs.Verdict.{verdictRead}
-use Rattle.cell_library.specs.Cells.{Cell}
-use Rattle.netlist.specs.Netlist.{Statement}
+use Rattle.library_table.specs.Cells.{Cell}
+use Rattle.netlist_table.specs.Netlist.{Statement}
 use Rattle.calculation.specs.Stored.{Holds}
 use Rattle.standing_texts.specs.Parts.{PadsTried}
 use Rattle.standing_texts.proofs.Pads.{judged-many, judged-marked, judged-refused}

@@ -5,10 +5,10 @@ use borrow.Author.Tests.{not-true, not-false}
 use native.Mathlib.Omega.{arith}
 use denote.Ref.{now}
 use borrow.Author.Needs.{needs}
-use Rattle.cell_library.proofs.Names.{holds-told}
-use Rattle.netlist.specs.Netlist.{mark, output}
-use Rattle.netlist.specs.Admitting.{StandsFor}
-use Rattle.netlist.specs.Sound.{InRange}
+use Rattle.library_table.proofs.Names.{holds-told}
+use Rattle.netlist_table.specs.Netlist.{mark, output}
+use Rattle.netlist_table.specs.Admission.{StandsFor}
+use Rattle.netlist_table.specs.Sound.{InRange}
 use Rattle.standing_texts.proofs.Pads.{library-holds, netlist-holds, tried-outside, tried-unmentioned, tried}
 use Rattle.standing_texts.proofs.place.Statement.{statement}
 use Rattle.standing_texts.proofs.place.Tie as tie

@@ -11,8 +11,8 @@ use denote.Ref.{now}
 use borrow.Author.Needs.{needs}
 use borrow.Author.Tests.{not-true, not-false}
 use Rattle.sizes.specs.Sizes as Size
-use Rattle.cell_library.specs.Cells.{Cell}
-use Rattle.netlist.specs.Netlist.{Statement}
+use Rattle.library_table.specs.Cells.{Cell}
+use Rattle.netlist_table.specs.Netlist.{Statement}
 use Rattle.calculation.specs.Pads.{padded}
 use Rattle.calculation.specs.Stored.{Holds}
 use Rattle.standing_texts.specs.Parts.{PadTried, PadsTried}

@@ -3,9 +3,9 @@ use mathlib.Core.Bool.{false}
 use denote.Ref.{now}
 use borrow.Author.Needs.{needs}
 use Rattle.sizes.specs.Sizes as Size
-use Rattle.outcome.specs.Outcome.{Given, givenTexts}
-use Rattle.outcome.proofs.Checking.{texts-checked}
-use Rattle.read_pair.specs.Progress.{Reached}
+use Rattle.demands.specs.Outcome.{Given, givenTexts}
+use Rattle.demands.proofs.Given.{texts-checked}
+use Rattle.analysis_texts.specs.Progress.{Reached}
 use Rattle.standing_texts.specs.Held.{entered}
 use Rattle.standing_texts.proofs.Texts.{zero-cleared, both-reached, told-entry, told-later, told-read}
 use Rattle.standing_texts.proofs.read_both.Statement.{statement}

@@ -3,7 +3,7 @@ use mathlib.Core.Path.{subst}
 use denote.Ref.{now}
 use borrow.Author.Needs.{needs}
 use Rattle.reading.specs.Verdict.{verdictRead}
-use Rattle.outcome.specs.Outcome.{Given, givenTexts}
+use Rattle.demands.specs.Outcome.{Given, givenTexts}
 use Rattle.standing_texts.specs.Parts.{TextsRead}
 use Rattle.standing_texts.proofs.Texts.{held-kept, held-judged, accepted-is}
 use Rattle.standing_texts.proofs.read_held.Statement.{statement}

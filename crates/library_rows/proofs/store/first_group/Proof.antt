@@ -1,5 +1,5 @@
 -- `first_group` meets its contract. Assumes nothing.
-use Rattle.cell_library.specs.Layout.{firstGroup}
+use Rattle.library_table.specs.Layout.{firstGroup}
 use Rattle.library_rows.specs.Passes.{wordAt}
 use Rattle.library_rows.proofs.Passes.{at-CC, at-SO}
 use Rattle.library_rows.proofs.store.first_group.Statement.{statement}

@@ -2,7 +2,7 @@
 use Rattle.library_rows.specs.Passes.{wordAt}
 use native.Mathlib.Omega.{arith}
 use borrow.Author.Needs.{needs}
-use Rattle.cell_library.proofs.Places.{first-most}
+use Rattle.library_table.proofs.Places.{first-most}
 use Rattle.library_rows.proofs.store.word_place.Statement.{statement}
 use Rattle.library_rows.proofs.store.word_place.Tie as tie
 

@@ -6,7 +6,7 @@ use Prim.Native.Nat.{ℕ}
 use borrow.Author.Tests.{not-true, not-false}
 use Rattle.text.specs.Bytes.{bytes}
 use Rattle.text.specs.Lines.{fields}
-use Rattle.cell_library.specs.Library.{Reading}
+use Rattle.library_table.specs.Library.{Reading}
 use Rattle.library_text.specs.Headers.{endFormed}
 use Rattle.library_text.specs.Walk.{Shows}
 use Rattle.library_text.proofs.Headers.{end-told}

@@ -6,8 +6,8 @@ use lib.Dec.{ltb}
 use lib.ListN.{getD}
 use borrow.Author.Tests.{lt-ltb, le-ltb, le-leb, lt-leb}
 use Rattle.reading.specs.Choice.{pick}
-use Rattle.cell_library.specs.Library.{pinsBad}
-use Rattle.cell_library.specs.Layout.{foundAt}
+use Rattle.library_table.specs.Library.{pinsBad}
+use Rattle.library_table.specs.Layout.{foundAt}
 use Rattle.library_text.specs.Headers.{headerNumber}
 use borrow.Author.Needs.{needs}
 use Rattle.library_text.proofs.lines.header_number.Statement.{statement}

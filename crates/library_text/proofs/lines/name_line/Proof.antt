@@ -8,7 +8,7 @@ use lib.ListN.{getD, drop}
 use Rattle.text.specs.Lines.{fields, fieldsFrom}
 use Rattle.text.specs.Numeral.{numeralRead}
 use Rattle.text.proofs.Laws.{fieldsFrom-start, nameForm-length}
-use Rattle.cell_library.specs.Library.{Fields}
+use Rattle.library_table.specs.Library.{Fields}
 use Rattle.library_text.specs.Headers.{headingIn, pinsIn, headerNumber}
 use Rattle.text.proofs.Cursors.{field-nth, field-next, field-last}
 use Rattle.library_text.proofs.Entries.{name-bad, name-refused, name-read}

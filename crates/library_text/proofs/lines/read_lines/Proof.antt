@@ -10,9 +10,9 @@ use Rattle.reading.specs.Refusal.{Read, read}
 use Rattle.reading.proofs.Laws.{refused-read}
 use Rattle.text.proofs.Laws.{part-within, nextAfter-within}
 use Rattle.reading.specs.Verdict.{verdictRead, doneRead}
-use Rattle.cell_library.specs.Cells.{Cell}
-use Rattle.cell_library.specs.Library.{libraryLine, library}
-use Rattle.cell_library.specs.Layout.{libraryWords}
+use Rattle.library_table.specs.Cells.{Cell}
+use Rattle.library_table.specs.Library.{libraryLine, library}
+use Rattle.library_table.specs.Layout.{libraryWords}
 use Rattle.library_text.specs.Walk.{Leaves}
 use Rattle.library_text.proofs.Entries.{state-fits}
 use Rattle.library_text.proofs.Walks.{Walked, walk-start, walk-unended, walk-refused, walk-on, walk-broken, walk-done}

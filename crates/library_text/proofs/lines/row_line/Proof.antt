@@ -2,7 +2,7 @@
 use mathlib.Core.List.{List}
 use Prim.Native.Nat.{ℕ}
 use Rattle.text.specs.Lines.{fields}
-use Rattle.cell_library.specs.Library.{Reading}
+use Rattle.library_table.specs.Library.{Reading}
 use Rattle.library_text.specs.Walk.{Shows}
 use Rattle.text.proofs.Cursors.{fields-some}
 use Rattle.library_text.proofs.Entries.{AtWord, at-word, row-refused, row-read}

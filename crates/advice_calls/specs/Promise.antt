@@ -1,0 +1,84 @@
+-- What the adviser's two calls promise. Document 02, K13: `g` is what a call was given to read, `said` what it answered. By
+-- equation of every list and every answer that is lent (specs/Calls.antt), and what that says of an accepted pair of texts.
+-- Assumes nothing.
+use mathlib.Core.Bool.{true, false}
+use mathlib.Core.List.{List}
+use mathlib.Core.Logic.{_↔_}
+use mathlib.Core.Path.{_≡_}
+use Prim.Native.Nat.{ℕ, _+_, _*_, _-_, _≤_, _<_}
+use lib.ListN.{length, getD, replicate}
+use Rattle.sizes.specs.Sizes as Size
+use Rattle.reading.specs.Numbers as No
+use Rattle.reading.specs.Refusal.{Read, refused, read}
+use Rattle.cost.specs.Cost.{never}
+use Rattle.calculation.specs.declared.Advice.{Advice}
+use Rattle.calculation.specs.declared.Advice.the-variants.{NoneAllowed, Pad}
+use Rattle.calculation.specs.Advice.{allowed, leaves, Rank, rankOf, advice, ranks, LeavesExact, Best, ForbidSame}
+use Rattle.demands.specs.Outcome.{Given, Pair, Accepted, outcome}
+use Rattle.demands.specs.Own.{ownTables}
+use Rattle.advice_calls.specs.Calls.{comes, adviceSize, advising, adviceLeft, ranking, ranksLeft}
+
+-- ---- refusals, of both calls
+
+-- A refused library or netlist is refused as the first library refuses it, with whatever report buffer: the same number and
+-- line. What it accepts is accepted, nothing else is, and 17 is never made here. An answer that is too short is 1 at line 0.
+pub record HandedOn {A : Type 0} (size : ℕ) (g : Given) (before after : List ℕ) (said : Read A) : Type 0 where
+  pub short : length before < size → said ≡ refused No.tableShort 0
+  pub refusals : size ≤ length before → (number line : ℕ) → said ≡ refused number line
+      → (report : List ℕ) → outcome g (ownTables report) ≡ refused number line
+  pub wasRead : (x : A) → said ≡ read x → (p : Pair) × (comes size g before ≡ read p)
+  pub accepts : size ≤ length before → (report : List ℕ) (a : Accepted) → outcome g (ownTables report) ≡ read a → (x : A) × (said ≡ read x)
+  pub noReport : (line : ℕ) → said ≡ refused No.reportLong line → ⊥
+  -- "A refusal at entry touches no lent table; every other refusal leaves them all zero."
+  pub untouched : (number line : ℕ) → said ≡ refused number line → No.ofEntry number ≡ true → after ≡ before
+  pub cleared : (number line : ℕ) → said ≡ refused number line → No.ofEntry number ≡ false → after ≡ replicate (length before) 0
+
+-- ---- the advice
+
+-- Of an accepted library and netlist: which line is named, with the answer's first entry; "with no such line, and only then, it
+-- says so"; entries past the first keep their values; and what else the list names, and how often, counts for nothing.
+pub record AdviceMeans (p : Pair) (forbidden before after : List ℕ) (said : Read Advice) : Type 0 where
+  pub named : (l x : ℕ) → said ≡ read (Pad l x) → (getD after 0 0 ≡ x) × Best (p .cells) (p .statements) forbidden l x
+  pub none : (said ≡ read NoneAllowed) ↔ ((m : ℕ) → allowed (p .statements) forbidden m ≡ false)
+  pub noneLeaves : said ≡ read NoneAllowed → after ≡ before
+  pub rest : (i : ℕ) → 1 ≤ i → getD after i 0 ≡ getD before i 0
+  pub same : (others : List ℕ) → ForbidSame (p .statements) forbidden others → said ≡ read (advice (p .cells) (p .statements) others)
+
+pub record AdvicePromised (g : Given) (forbidden before after : List ℕ) (said : Read Advice) : Type 0 where
+  pub answers : said ≡ advising g forbidden before
+  pub leaves : after ≡ adviceLeft g forbidden before
+  pub handedOn : HandedOn adviceSize g before after said
+  pub line : (l x : ℕ) → said ≡ read (Pad l x) → (1 ≤ l) × (l ≤ Size.lines)
+  pub accepted : (p : Pair) → comes adviceSize g before ≡ read p → AdviceMeans p forbidden before after said
+
+-- ---- the ranks
+
+-- The four numbers of a line in the table of ranks.
+abbrev pub rankAt : List ℕ → ℕ → Rank
+rankAt after l =
+    let place = (l - 1) * Size.rankWords in
+    record {
+      nevers = getD after place 0;
+      overs = getD after (place + 1) 0;
+      largest = getD after (place + 2) 0;
+      total = getD after (place + 3) 0;
+    }
+
+-- Of an accepted library and netlist: the numbers of an allowed line are those of what a pad on it leaves, of which demand 3
+-- holds; those of any other of the 1,000 lines are never; entries past the table's size keep their values; and what else the
+-- list names, and how often, counts for nothing.
+pub record RanksMean (p : Pair) (forbidden before after : List ℕ) (said : Read ℕ) : Type 0 where
+  pub ranked : (l : ℕ) → allowed (p .statements) forbidden l ≡ true
+      → (rankAt after l ≡ rankOf (leaves (p .cells) (p .statements) l)) × LeavesExact (p .cells) (p .statements) l
+  pub others : (l : ℕ) → 1 ≤ l → l ≤ Size.lines → allowed (p .statements) forbidden l ≡ false
+      → rankAt after l ≡ record { nevers = never; overs = never; largest = never; total = never }
+  pub rest : (i : ℕ) → Size.ranks ≤ i → getD after i 0 ≡ getD before i 0
+  pub same : (others : List ℕ) → ForbidSame (p .statements) forbidden others
+      → ranks (p .cells) (p .statements) others ≡ ranks (p .cells) (p .statements) forbidden
+
+pub record RankPromised (g : Given) (forbidden before after : List ℕ) (said : Read ℕ) : Type 0 where
+  pub answers : said ≡ ranking g forbidden before
+  pub leaves : after ≡ ranksLeft g forbidden before
+  pub handedOn : HandedOn Size.ranks g before after said
+  pub few : (n : ℕ) → said ≡ read n → n ≤ Size.lines
+  pub accepted : (p : Pair) → comes Size.ranks g before ≡ read p → RanksMean p forbidden before after said

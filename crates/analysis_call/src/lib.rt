@@ -1,0 +1,76 @@
+// The analysis of a cell library and a netlist, both as texts: Goldstein's six numbers for every line.
+//
+// Open to others: `analyse`, over two texts, three tables and a report buffer that the caller lends.
+// It has no condition on its input. What it promises is in crate `demands`: specs/Outcome.antt has its
+// answer and what it leaves in lent memory, specs/Demands.antt the three demands. The published sizes
+// of the tables are `sizes::LIBRARY`, `sizes::NETLIST` and `sizes::NUMBERS`. For the crates above:
+// `analyse_into`, which does not clear a table that is zero.
+use analysis_end::finish;
+use analysis_texts::read_texts;
+use demands::Answer;
+use netlist_table::Rules;
+ghost use mathlib.Core.Path.{_≡_};
+ghost use Rattle.sizes.specs.Sizes as Size;
+ghost use Rattle.table.specs.Blocks.{cleared};
+ghost use Rattle.demands.specs.Answer.{answerRead, lentOf};
+ghost use Rattle.demands.specs.Demands.{Promised};
+ghost use Rattle.demands.specs.Outcome.{givenTexts};
+
+// As `analyse`, where the library table may have other numbers than 0 in its first `library_used` places, the netlist
+// table in its first `netlist_used`, and each past its published size.
+pub fn analyse_into(
+    lib: &[u8],
+    net: &[u8],
+    library: &mut [u32],
+    netlist: &mut [u32],
+    numbers: &mut [u32],
+    report: &mut [u8],
+    library_used: usize,
+    netlist_used: usize,
+) -> Answer
+    requires { ⌜ (cleared «library_used» (now library) ≡ cleared Size.library (now library))
+        × (cleared «netlist_used» (now netlist) ≡ cleared Size.netlist (now netlist)) ⌝ }
+    ensures { λ r. ⌜ Promised (givenTexts (now (lib .entry)) (now (net .entry)))
+        (lentOf (now (library .entry)) (now (netlist .entry)) (now (numbers .entry)) (now (report .entry)))
+        (lentOf (now (library .exit)) (now (netlist .exit)) (now (numbers .exit)) (now (report .exit)))
+        (answerRead r) ⌝ }
+{
+    let progress = read_texts(
+        Rules::New,
+        lib,
+        net,
+        library,
+        netlist,
+        numbers.len(),
+        library_used,
+        netlist_used,
+    );
+    finish(library, netlist, numbers, report, progress)
+}
+
+// Analyses a library and a netlist. Entry refusals leave all that was lent untouched, later ones
+// leave it zero.
+pub fn analyse(
+    lib: &[u8],
+    net: &[u8],
+    library: &mut [u32],
+    netlist: &mut [u32],
+    numbers: &mut [u32],
+    report: &mut [u8],
+) -> Answer
+    ensures { λ r. ⌜ Promised (givenTexts (now (lib .entry)) (now (net .entry)))
+        (lentOf (now (library .entry)) (now (netlist .entry)) (now (numbers .entry)) (now (report .entry)))
+        (lentOf (now (library .exit)) (now (netlist .exit)) (now (numbers .exit)) (now (report .exit)))
+        (answerRead r) ⌝ }
+{
+    analyse_into(
+        lib,
+        net,
+        library,
+        netlist,
+        numbers,
+        report,
+        sizes::LIBRARY,
+        sizes::NETLIST,
+    )
+}

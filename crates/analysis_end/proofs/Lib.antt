@@ -1,0 +1,3 @@
+pub mod Told
+pub mod End
+pub mod Promise

@@ -1,0 +1,4 @@
+pub mod EntryChecks
+pub mod NetlistRead
+pub mod Reached
+pub mod Own

@@ -1,0 +1,145 @@
+// The reading of a call: the checks at entry, the library text, and the netlist text, each into its table. Nothing is
+// calculated here. demands/specs/Outcome.antt has what reading comes to (`entry`, `readPair`), specs/Progress.antt how
+// far a call has come then.
+//
+// For the crates above: `Progress`; `read_texts`, over two texts; `begin`, the entry and the library text alone, behind
+// which a caller reads its netlist itself; `clear_all`, which a later refusal asks for.
+use library_text::read_library_into;
+use netlist_table::Rules;
+use netlist_text::read_netlist_into;
+use reading::Refusal;
+use reading::TABLE_SHORT;
+use reading::TEXT_LONG;
+use reading::Verdict;
+ghost use mathlib.Core.Path.{_≡_};
+ghost use lib.ListN.{length};
+ghost use Rattle.sizes.specs.Sizes as Size;
+ghost use Rattle.table.specs.Blocks.{cleared};
+ghost use Rattle.reading.specs.Verdict.{verdictRead};
+ghost use Rattle.demands.specs.Answer.{lentOf};
+ghost use Rattle.demands.specs.Outcome.{entryBy, givenBy, zeroed};
+ghost use Rattle.analysis_texts.specs.Progress.{Begun, TextRead, Reached};
+
+// How far a call has come: nothing is refused so far; refused at entry, with all that was lent as it
+// was; or refused later.
+pub enum Progress {
+    Unrefused,
+    AtEntry(Refusal),
+    Later(Refusal),
+}
+
+// The entry's two checks, by lengths.
+fn entry(lib: usize, net: usize, library: usize, netlist: usize, numbers: usize) -> Verdict
+    ensures { λ r. ⌜ verdictRead r ≡ entryBy lib net library netlist numbers ⌝ }
+{
+    let table_short = (library < sizes::LIBRARY)
+        | ((netlist < sizes::NETLIST) | (numbers < sizes::NUMBERS));
+    if table_short {
+        return Verdict::Refused(Refusal {
+            number: TABLE_SHORT,
+            line: 0,
+        });
+    }
+    let text_long = (sizes::TEXT_BYTES < lib) | (sizes::TEXT_BYTES < net);
+    if text_long {
+        return Verdict::Refused(Refusal {
+            number: TEXT_LONG,
+            line: 0,
+        });
+    }
+    Verdict::Accepted
+}
+
+// The entry and the library text. Of the netlist text and of the other tables it takes the lengths. The library table
+// may have other numbers than 0 in its first `used` places, and past its published size.
+pub fn begin(
+    lib: &[u8],
+    net: usize,
+    library: &mut [u32],
+    netlist: usize,
+    numbers: usize,
+    used: usize,
+) -> Progress
+    requires { ⌜ cleared used (now library) ≡ cleared Size.library (now library) ⌝ }
+    ensures { λ r. ⌜ Begun (now (lib .entry)) net (now (library .entry)) netlist numbers r (now (library .exit)) ⌝ }
+{
+    let entered = entry(lib.len(), net, library.len(), netlist, numbers);
+    match entered {
+        Verdict::Refused(r) => Progress::AtEntry(r),
+        Verdict::Accepted => {
+            let cells = read_library_into(lib, library, used);
+            match cells {
+                Verdict::Refused(r) => Progress::Later(r),
+                Verdict::Accepted => Progress::Unrefused,
+            }
+        }
+    }
+}
+
+// Reads the netlist text by the rules named, against the cells of the library table, into a table that may have other
+// numbers than 0 in its first `used` places, and past its published size. Nothing happens once a refusal stands.
+fn read_netlist(
+    rules: Rules,
+    net: &[u8],
+    library: &[u32],
+    netlist: &mut [u32],
+    begun: Progress,
+    used: usize,
+) -> Progress
+    requires { ⌜ cleared used (now netlist) ≡ cleared Size.netlist (now netlist) ⌝ }
+    ensures { λ r. ⌜ TextRead rules (now (net .entry)) (now (library .entry)) (now (netlist .entry)) begun
+        (now (netlist .exit)) r ⌝ }
+{
+    match begun {
+        Progress::AtEntry(_) => begun,
+        Progress::Later(_) => begun,
+        Progress::Unrefused => {
+            let statements = read_netlist_into(rules, net, library, netlist, used);
+            match statements {
+                Verdict::Refused(bad) => Progress::Later(bad),
+                Verdict::Accepted => Progress::Unrefused,
+            }
+        }
+    }
+}
+
+// The entry and both texts, the netlist by the rules named. Of the numbers table it takes the length; the other two may
+// have other numbers than 0 in so many of their first places, and past their published sizes.
+pub fn read_texts(
+    rules: Rules,
+    lib: &[u8],
+    net: &[u8],
+    library: &mut [u32],
+    netlist: &mut [u32],
+    numbers: usize,
+    library_used: usize,
+    netlist_used: usize,
+) -> Progress
+    requires { ⌜ (cleared «library_used» (now library) ≡ cleared Size.library (now library))
+        × (cleared «netlist_used» (now netlist) ≡ cleared Size.netlist (now netlist)) ⌝ }
+    ensures { λ r. ⌜ Reached (givenBy rules (now (lib .entry)) (now (net .entry)))
+        (entryBy (length (now (lib .entry))) (length (now (net .entry)))
+        (length (now (library .entry))) (length (now (netlist .entry))) numbers)
+        (now (library .entry)) (now (netlist .entry)) (now (library .exit)) (now (netlist .exit)) r ⌝ }
+{
+    let begun = begin(
+        lib,
+        net.len(),
+        library,
+        netlist.len(),
+        numbers,
+        library_used,
+    );
+    read_netlist(rules, net, library, netlist, begun, netlist_used)
+}
+
+// Sets all that was lent to zero.
+pub fn clear_all(library: &mut [u32], netlist: &mut [u32], numbers: &mut [u32], report: &mut [u8])
+    ensures { λ _. ⌜ lentOf (now (library .exit)) (now (netlist .exit)) (now (numbers .exit)) (now (report .exit))
+        ≡ zeroed (lentOf (now (library .entry)) (now (netlist .entry)) (now (numbers .entry)) (now (report .entry))) ⌝ }
+{
+    table::clear(library, library.len());
+    table::clear(netlist, netlist.len());
+    table::clear(numbers, numbers.len());
+    table::clear_bytes(report);
+}

@@ -1,4 +1,0 @@
-pub mod Offers
-pub mod Bids
-pub mod Stepping
-pub mod Running

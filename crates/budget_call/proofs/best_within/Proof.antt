@@ -1,0 +1,86 @@
+-- `best_within`: the entry and both texts, then the run. Assumes nothing.
+use mathlib.Core.Path.{_∙_}
+use denote.Ref.{now}
+use borrow.Author.Needs.{needs}
+use Rattle.sizes.specs.Sizes as Size
+use Rattle.table.proofs.Places.{cleared-all}
+use Rattle.analysis_texts.proofs.Own.{zeros-cleared}
+use Rattle.budget_call.specs.Promise.{stepsRead}
+use Rattle.budget_call.proofs.Promise.{call-short, call-entry, call-later, fill-fits, call-made}
+use Rattle.budget_call.proofs.best_within.Statement.{statement}
+use Rattle.budget_call.proofs.best_within.Tie as tie
+
+-- ---- the places of the code that the answers speak of
+
+abbrev begins : tie.Else1 → tie.Start
+begins c = c .before .before .before .before
+
+abbrev fits : tie.After-read-texts → tie.Else1
+fits c = c .before .before .before
+
+abbrev reads : tie.After-netlist2 → tie.After-read-texts
+reads c = c .before .before
+
+returns : tie.Need-returns
+unfolding stepsRead
+returns c =
+    let a = c .before .before .before .before .args in
+    call-short (now (a .lib)) (now (a .net)) (a .budget) (now (a .best)) (c .if1 .taken)
+
+fill-requires : tie.Need-fill-requires
+fill-requires c κs =
+    let k = reads (c .before .before .before .before .before) in
+    let f = fits k in
+    let a = begins f .args in
+    fill-fits (now (a .lib)) (now (a .net)) (a .budget) (now (a .best)) (f .if1 .left) _ _ (k .read-texts .result) (k .read-texts .ensures) (search needs)
+
+returns-2 : tie.Need-returns-2
+unfolding stepsRead
+returns-2 c =
+    let p = c .before in
+    let k = reads (p .before .before) in
+    let f = fits k in
+    let a = begins f .args in
+    call-entry (now (a .lib)) (now (a .net)) (a .budget) (now (a .best)) (f .if1 .left) _ _ (k .read-texts .result) (k .read-texts .ensures) (p .progress .given .0 .0) (search needs)
+
+returns-3 : tie.Need-returns-3
+unfolding stepsRead
+returns-3 c =
+    let z = c .before .before in
+    let p = z .before .before .before in
+    let k = reads (p .before .before) in
+    let f = fits k in
+    let a = begins f .args in
+    call-later (now (a .lib)) (now (a .net)) (a .budget) (now (a .best)) (f .if1 .left) _ _ (k .read-texts .result) (k .read-texts .ensures) (p .progress2 .given .0 .0) (search needs)
+    _ (z .clear .ensures ∙ cleared-all (now (a .best)))
+
+returns-4 : tie.Need-returns-4
+unfolding stepsRead
+returns-4 c =
+    let z = c .before .before in
+    let k = reads (z .before .before .before .before .before .before) in
+    let f = fits k in
+    let a = begins f .args in
+    call-made (now (a .lib)) (now (a .net)) (a .budget) (now (a .best)) (f .if1 .left) _ _ (k .read-texts .result) (k .read-texts .ensures) (search needs)
+    _ (z .fill .result) (z .fill .ensures)
+
+pub best-within-spec : {M : Type 1} → statement M
+best-within-spec =
+    tie.close
+    (tie.spec
+    returns
+    (λ c. search needs)
+    (λ c. search needs)
+    (λ c κs. (zeros-cleared Size.library, zeros-cleared Size.netlist))
+    (λ c. search needs)
+    (λ c. search needs)
+    (λ c κs. search needs)
+    (λ c. search needs)
+    (λ c. search needs)
+    (λ c. search needs)
+    fill-requires
+    returns-2
+    (λ c. search needs)
+    returns-3
+    (λ c. search needs)
+    returns-4)

@@ -1,0 +1,4 @@
+pub mod Offers
+pub mod Bids
+pub mod Step
+pub mod Runs

@@ -1,5 +1,0 @@
-pub mod Putting
-pub mod Choosing
-pub mod Timing
-pub mod Planned
-pub mod Written

@@ -1,4 +1,0 @@
-pub mod Text
-pub mod Writing
-pub mod Plan
-pub mod Asked

@@ -1,0 +1,6 @@
+mod Steps
+mod Marks
+mod Settled
+mod Held
+mod OneReader
+pub mod Laws

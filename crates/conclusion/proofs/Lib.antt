@@ -1,3 +1,0 @@
-pub mod Concluding
-pub mod Finishing
-pub mod Promising

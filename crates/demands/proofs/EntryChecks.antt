@@ -1,0 +1,52 @@
+-- The entry: what its two checks say of the lengths.
+-- Assumes nothing.
+use mathlib.Core.Bool.{false, _||_}
+use mathlib.Core.List.{List, []}
+use mathlib.Core.Path.{_≡_, refl}
+use Prim.Native.Nat.{ℕ, _≤_}
+use borrow.Author.Tests.{ltb-false}
+use lib.Dec.{ltb}
+use lib.ListN.{length}
+use Rattle.sizes.specs.Sizes as Size
+use Rattle.reading.specs.Numbers as No
+use Rattle.reading.specs.Refusal.{read}
+use Rattle.reading.proofs.Laws.{or-left, or-right, weigh-one}
+use Rattle.netlist_table.specs.declared.Rules.{Rules}
+use Rattle.demands.specs.Outcome.{Lent, entry, entryBy, givenBy, tableShort, textLong}
+use Rattle.demands.specs.Own.{ownTables}
+
+-- Tables of a call's own have the published sizes.
+pub own-fit : (report : List ℕ) → tableShort (ownTables report) ≡ false
+unfolding tableShort ownTables
+own-fit report = refl
+
+-- Of two texts the entry is weighed by their lengths.
+pub texts-entry : (rules : Rules) (lib net : List ℕ) (m : Lent)
+    → entryBy (length lib) (length net) (length (m .library)) (length (m .netlist)) (length (m .numbers)) ≡ entry (givenBy rules lib net) m
+unfolding entryBy entry tableShort givenBy textLong
+texts-entry rules lib net m = refl
+
+-- What is known behind the entry.
+pub record Entered (lib net library netlist numbers : ℕ) : Type 0 where
+  pub lib-short : lib ≤ Size.textBytes
+  pub net-short : net ≤ Size.textBytes
+  pub library-long : Size.library ≤ library
+  pub netlist-long : Size.netlist ≤ netlist
+  pub numbers-long : Size.numbers ≤ numbers
+
+pub entered : (lib net library netlist numbers : ℕ) → entryBy lib net library netlist numbers ≡ read tt → Entered lib net library netlist numbers
+unfolding entryBy
+entered lib net library netlist numbers e =
+    let l = ltb library Size.library in
+    let n = ltb netlist Size.netlist in
+    let x = ltb numbers Size.numbers in
+    let w = weigh-one No.tableShort 0 (l || (n || x)) _ tt e in
+    let v = weigh-one No.textLong 0 (ltb Size.textBytes lib || ltb Size.textBytes net) [] tt (w .1) in
+    let rest = or-right l (n || x) (w .0) in
+    record {
+      lib-short = ltb-false Size.textBytes lib (or-left (ltb Size.textBytes lib) (ltb Size.textBytes net) (v .0));
+      net-short = ltb-false Size.textBytes net (or-right (ltb Size.textBytes lib) (ltb Size.textBytes net) (v .0));
+      library-long = ltb-false library Size.library (or-left l (n || x) (w .0));
+      netlist-long = ltb-false netlist Size.netlist (or-left n x rest);
+      numbers-long = ltb-false numbers Size.numbers (or-right n x rest);
+    }

@@ -1,6 +1,0 @@
-mod Walking
-mod Marking
-mod Settled
-mod Holding
-mod Standing
-pub mod Laws

@@ -1,0 +1,44 @@
+-- A table that holds statements says of their lines. What each law says is in specs/Lines.antt's words.
+-- Assumes nothing.
+use mathlib.Core.Bool.{Bool, not, Bool·not-not}
+use mathlib.Core.List.{List, _++_}
+use mathlib.Core.Path.{_≡_, refl, ap, _∙_}
+use Prim.Native.Nat.{ℕ, zero, suc, _+_, _≤_, _<_}
+use native.Mathlib.Omega.{arith}
+use lib.Dec.{eqb}
+use Rattle.sizes.specs.Sizes as Size
+use Rattle.netlist_table.specs.Netlist.{Statement, isInput, mentioned, linesWhere}
+use Rattle.netlist_table.specs.Layout.{mentionWord, netlistWords}
+use Rattle.netlist_table.specs.Lines.{inputAt, mentionAt, inputsHeld, mentionsHeld}
+use Rattle.netlist_table.proofs.Causes.{flag-zero, driver-input}
+use Rattle.netlist_table.proofs.Places.{driver-word, mention-word}
+
+pub where-same : (p q : ℕ → Bool) (n first : ℕ) → ((l : ℕ) → first ≤ l → l < first + n → p l ≡ q l)
+    → linesWhere p n first ≡ linesWhere q n first
+unfolding linesWhere
+where-same p q zero first same = refl
+where-same p q (suc n) first same =
+    rw (
+      same first (omega arith) (omega arith),
+      where-same p q n (suc first) (λ l low high. same l (omega arith) (omega arith)),
+    )
+
+module _ (ss : List Statement) (past : List ℕ) where
+  abbrev table : List ℕ
+  table = netlistWords ss ++ past
+
+  input-held : (l : ℕ) → 1 ≤ l → l ≤ Size.lines → inputAt table l ≡ isInput l ss
+  input-held l low high = ap (λ (n : ℕ). eqb n 1) (driver-word ss past l low high) ∙ driver-input ss l
+
+  pub mention-held : (l : ℕ) → 1 ≤ l → l ≤ Size.lines → mentionAt table l ≡ mentioned l ss
+  unfolding mentionWord
+  mention-held l low high =
+      ap (λ (n : ℕ). not (eqb n 0)) (mention-word ss past l low high) ∙ ap not (flag-zero (mentioned l ss)) ∙ Bool·not-not (mentioned l ss)
+
+  pub inputs-held : inputsHeld table ≡ linesWhere (λ l. isInput l ss) Size.lines 1
+  unfolding inputsHeld
+  inputs-held = where-same _ _ Size.lines 1 (λ l low high. input-held l low (omega arith))
+
+  pub mentions-held : mentionsHeld table ≡ linesWhere (λ l. mentioned l ss) Size.lines 1
+  unfolding mentionsHeld
+  mentions-held = where-same _ _ Size.lines 1 (λ l low high. mention-held l low (omega arith))

@@ -1,0 +1,17 @@
+pub mod Admission
+pub mod Bounds
+pub mod Causes
+pub mod Copied
+pub mod Counts
+pub mod HeldGates
+pub mod HeldLines
+pub mod Laws
+pub mod OpenLines
+pub mod Outcomes
+pub mod Pad
+pub mod Places
+pub mod Reread
+pub mod Soundness
+pub mod Stores
+pub mod Unranged
+pub mod LowestCause

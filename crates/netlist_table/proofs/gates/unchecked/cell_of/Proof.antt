@@ -1,0 +1,14 @@
+-- `cell_of` reads the first number of the gate. Assumes nothing.
+use mathlib.Core.Path.{ap}
+use Prim.Native.Nat.{ℕ}
+use lib.ListN.{getD}
+use borrow.Author.Needs.{needs}
+use Rattle.netlist_table.proofs.gates.unchecked.cell_of.Statement.{statement}
+use Rattle.netlist_table.proofs.gates.unchecked.cell_of.Tie as tie
+
+returns : tie.Need-returns
+returns c =
+    let a = c .before .before .before .args in ap (λ (n : ℕ). getD (a .table .now) n 0) (c .before .place-of .ensures)
+
+pub cell-of-spec : {M : Type 1} → statement M
+cell-of-spec = tie.close (tie.spec (λ c κs. search needs) (λ c. search needs) (λ c. search needs) returns)

@@ -1,0 +1,14 @@
+-- `some_range` looks at one word. Assumes nothing.
+use mathlib.Core.Bool.{not}
+use mathlib.Core.Path.{ap}
+use Prim.Native.Nat.{ℕ}
+use lib.Dec.{eqb}
+use borrow.Author.Needs.{needs}
+use Rattle.netlist_table.proofs.some_range.Statement.{statement}
+use Rattle.netlist_table.proofs.some_range.Tie as tie
+
+returns : tie.Need-returns
+returns c = ap (λ (x : ℕ). not (eqb x 0)) (c .word .ensures)
+
+pub some-range-spec : {M : Type 1} → statement M
+some-range-spec = tie.close (tie.spec (λ c κs. search needs) returns)

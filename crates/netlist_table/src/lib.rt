@@ -1,0 +1,340 @@
+// The netlist: its statements, refusals 10 to 15 and 20 to 22, and the netlist table. One statement over plain numbers is
+// checked and stored here; what a line of text says is read by `netlist_text`, what a record says by `analysis_records`.
+//
+// Open to others: `line_bad` and `some_range`. For the crates above: `admit`, which checks a `RawStatement` and stores it, and
+// behind all statements `undeclared` and `some_undeclared`, which ask the table. Modules `gates` and `lines`: what a table
+// says of its gates and lines, for all that read it.
+ghost use mathlib.Core.Path.{_≡_};
+ghost use mathlib.Core.List.{List, [], _∷_};
+ghost use mathlib.Core.Option.{Option, some};
+ghost use Prim.Native.Nat.{_+_, _*_, _≤_, min};
+ghost use lib.ListN.{set, take};
+ghost use lib.Seq.{sets};
+ghost use Rattle.sizes.specs.Places.{gatePlace, mentionPlace};
+ghost use Rattle.sizes.specs.Sizes as Size;
+ghost use Rattle.reading.specs.Numbers as No;
+ghost use Rattle.library_table.specs.Cells.{Cell};
+ghost use Rattle.library_table.specs.Layout.{CellsTold};
+ghost use Rattle.netlist_table.specs.Lowest.{lowest};
+ghost use Rattle.netlist_table.specs.Netlist.{Gate, Mark, Statement, mark, gate, priced, lineBad, priceBad, boundsBad};
+ghost use Rattle.netlist_table.specs.Admission.{IsGate, StandsFor, gateCause, Admits, markPlace, markNumber, markValue, mentionAll, gateStored, rangeStored, oneMore, gateAdded, wordsUndeclared, someUndeclared, someRanged};
+use gates::place_of;
+use library_table::cells::count;
+use library_table::cells::pins_of;
+use lines::driver_of;
+use lines::mentioned;
+use table::put;
+use table::word;
+
+pub mod gates;
+pub mod lines;
+
+// "kind (0 input, 1 output, 2 gate)", and 3 open (K5)
+pub const INPUT: u32 = 0;
+
+pub const OUTPUT: u32 = 1;
+
+pub const GATE: u32 = 2;
+
+pub const OPEN: u32 = 3;
+
+// "Record lists have no ranges" (K10): a kind for lines of text alone.
+pub const RANGE: u32 = 4;
+
+// Which rules are in force: the old ones, by which nothing declares a line open and no input has a range, or the new ones (K5,
+// K10).
+pub enum Rules {
+    Old,
+    New,
+}
+
+// One statement over plain numbers, not checked yet: whether it has good form, its kind, its cell's place
+// in the library, its line, the lines of as many pins as a gate has at most, 0 after the last, how many
+// pins it has, and whether a pin's line is out of range.
+pub struct RawStatement {
+    pub form: bool,
+    pub kind: u32,
+    pub cell: u32,
+    pub line: u32,
+    pub pins: [u32; sizes::PINS],
+    pub count: usize,
+    pub bad: bool,
+}
+
+// Whether a line number is out of range.
+pub fn line_bad(l: u32) -> bool
+    ensures { λ r. ⌜ r ≡ lineBad l ⌝ }
+{
+    if l < 1 {
+        return true;
+    }
+    sizes::LINES < l as usize
+}
+
+// ---- storing
+
+fn mention(table: &mut [u32], l: u32)
+    ensures { λ _. ⌜ now (table .exit) ≡ set (now (table .entry)) (mentionPlace l) 1 ⌝ }
+{
+    put(table, sizes::MENTIONS_AT + l as usize, 1);
+}
+
+// The pins of which the table has the lines.
+fn kept(count: usize) -> usize
+    ensures { λ r. ⌜ r ≡ min count Size.pins ⌝ }
+{
+    if count < sizes::PINS {
+        count
+    } else {
+        sizes::PINS
+    }
+}
+
+fn mention_pins(table: &mut [u32], pins: [u32; sizes::PINS], count: usize)
+    ensures { λ _. ⌜ now (table .exit) ≡ mentionAll (take (min count Size.pins) pins) (now (table .entry)) ⌝ }
+{
+    let n = kept(count);
+    let mut i = 0;
+    while i < n {
+        mention(table, pins[i]);
+        i += 1;
+    }
+}
+
+// Stores the lines of a gate's pins.
+fn put_pins(table: &mut [u32], g: u32, pins: [u32; sizes::PINS])
+    ensures { λ _. ⌜ now (table .exit) ≡ sets (now (table .entry)) (gatePlace g + 2) (take Size.pins pins) ⌝ }
+{
+    let at = place_of(g as usize) + 2;
+    let mut i = 0;
+    while i < sizes::PINS {
+        put(table, at + i, pins[i]);
+        i += 1;
+    }
+}
+
+// Stores a gate's numbers.
+fn put_gate(table: &mut [u32], g: u32, cell: u32, line: u32, pins: [u32; sizes::PINS])
+    ensures { λ _. ⌜ now (table .exit) ≡ gateStored g cell line pins (now (table .entry)) ⌝ }
+{
+    let at = place_of(g as usize);
+    put(table, at, cell);
+    put(table, at + 1, line);
+    put_pins(table, g, pins);
+}
+
+// ---- checking and admitting one statement
+
+// Checks a mark, of which the table has a value at a place, 0 where nothing stands against it, and of which
+// a second is refused by a number, and admits it.
+fn admit_mark(table: &mut [u32], at: usize, value: u32, second: u32, l: u32) -> u32
+    ensures { λ r. ⌜ ((cells : List Cell) (m : Mark) → at ≡ markPlace m l → value ≡ markValue m → second ≡ markNumber m
+        → Admits cells (some (mark m l)) (now (table .entry)) r (now (table .exit))) ⌝ }
+{
+    if line_bad(l) {
+        return reading::LINE_BAD;
+    }
+    if word(table, at) != 0 {
+        return second;
+    }
+    put(table, at, value);
+    mention(table, l);
+    0
+}
+
+// The lowest number of three causes, the first of which is a line out of range; 0 where none holds.
+fn lowest(bad: bool, second: bool, number: u32, third: bool, other: u32) -> u32
+    ensures { λ r. ⌜ r ≡ lowest ((No.lineBad, bad) ∷ (number, second) ∷ (other, third) ∷ []) ⌝ }
+{
+    if bad {
+        reading::LINE_BAD
+    } else if second {
+        number
+    } else if third {
+        other
+    } else {
+        0
+    }
+}
+
+// Whether a bound is outside 1 to 999.
+fn price_bad(x: u32) -> bool
+    ensures { λ r. ⌜ r ≡ priceBad x ⌝ }
+{
+    (x < 1) | (sizes::MOST_PRICE < x)
+}
+
+// Whether a range has bad bounds.
+fn bounds_bad(low: u32, high: u32) -> bool
+    ensures { λ r. ⌜ r ≡ boundsBad low high ⌝ }
+{
+    price_bad(low) | (price_bad(high) | (high < low))
+}
+
+// A range as one number.
+fn packed(low: u32, high: u32) -> u32
+    requires { ⌜ (low ≤ Size.mostPrice) × (high ≤ Size.mostPrice) ⌝ }
+    ensures { λ r. ⌜ r ≡ low + Size.prices * high ⌝ }
+{
+    low + sizes::PRICES * high
+}
+
+// Stores a range.
+fn store_range(table: &mut [u32], l: u32, low: u32, high: u32)
+    requires { ⌜ (low ≤ Size.mostPrice) × (high ≤ Size.mostPrice) ⌝ }
+    ensures { λ _. ⌜ now (table .exit) ≡ rangeStored (record { line = l; low = low; high = high }) (now (table .entry)) ⌝ }
+{
+    put(table, sizes::RANGES_AT + l as usize, packed(low, high));
+    mention(table, l);
+    put(table, sizes::RANGED_AT, 1);
+}
+
+// Checks a range, and admits it: 11, then 21, then 22.
+fn admit_range(table: &mut [u32], l: u32, low: u32, high: u32) -> u32
+    ensures { λ r. ⌜ ((cells : List Cell) → Admits cells (some (priced (record { line = l; low = low; high = high })))
+        (now (table .entry)) r (now (table .exit))) ⌝ }
+{
+    let unmarked = word(table, l as usize) != 1;
+    let again = word(table, sizes::RANGES_AT + l as usize) != 0;
+    let unfit = bounds_bad(low, high) | again;
+    let cause = lowest(
+        line_bad(l),
+        unmarked,
+        reading::NOT_INPUT,
+        unfit,
+        reading::RANGE_BAD,
+    );
+    if cause != 0 {
+        return cause;
+    }
+    store_range(table, l, low, high);
+    0
+}
+
+// Why a gate is refused by its own numbers: 11 to 13, or 0. The count of pins of an unknown cell does not matter.
+fn gate_cause(library: &[u32], s: RawStatement) -> u32
+    ensures { λ r. ⌜ ((cells : List Cell) (g : Gate) → CellsTold (now (library .entry)) cells → IsGate g s
+        → r ≡ gateCause cells g) ⌝ }
+{
+    let bad = line_bad(s.line) | s.bad;
+    let unknown = count(library) <= s.cell;
+    let pins = pins_of(library, s.cell) as usize;
+    let n = s.count;
+    let differs = pins != n;
+    lowest(
+        bad,
+        unknown,
+        reading::CELL_UNKNOWN,
+        differs,
+        reading::PINS_DIFFER,
+    )
+}
+
+// A count of gates with one more. A netlist has at most as many gates as lines; in a table that holds none any count may
+// stand, and the highest is followed by 0.
+fn one_more(g: u32) -> u32
+    ensures { λ r. ⌜ r ≡ oneMore g ⌝ }
+{
+    ((g as u64 + 1) % 4294967296) as u32
+}
+
+// Stores a gate behind those before it.
+fn store_gate(table: &mut [u32], g: u32, s: RawStatement)
+    ensures { λ _. ⌜ now (table .exit) ≡ gateAdded g s (now (table .entry)) ⌝ }
+{
+    let l = s.line;
+    let pins = s.pins;
+    put(table, l as usize, 2);
+    mention(table, l);
+    mention_pins(table, pins, s.count);
+    put_gate(table, g, s.cell, l, pins);
+    put(table, 0, one_more(g));
+}
+
+fn admit_gate(table: &mut [u32], library: &[u32], s: RawStatement) -> u32
+    ensures { λ r. ⌜ ((cells : List Cell) (g : Gate) → CellsTold (now (library .entry)) cells → IsGate g s
+        → Admits cells (some (gate g)) (now (table .entry)) r (now (table .exit))) ⌝ }
+{
+    let cause = gate_cause(library, s);
+    if cause != 0 {
+        return cause;
+    }
+    if word(table, s.line as usize) != 0 {
+        return reading::DRIVEN_BEFORE;
+    }
+    let g = word(table, 0);
+    store_gate(table, g, s);
+    0
+}
+
+// Checks one statement after those that the table holds, and admits it: 0, or the lowest number that
+// refuses it, 10 to 15, 21 or 22, with the table as it was. A kind that is not known is bad form, 10.
+pub fn admit(table: &mut [u32], library: &[u32], s: RawStatement) -> u32
+    ensures { λ r. ⌜ ((cells : List Cell) (w : Option Statement) → CellsTold (now (library .entry)) cells
+        → StandsFor s w → Admits cells w (now (table .entry)) r (now (table .exit))) ⌝ }
+{
+    let form = s.form;
+    if !form {
+        return reading::NETLIST_FORM;
+    }
+    let kind = s.kind;
+    let l = s.line;
+    if kind == INPUT {
+        return admit_mark(table, l as usize, 1, reading::DRIVEN_BEFORE, l);
+    }
+    if kind == OUTPUT {
+        return admit_mark(
+            table,
+            sizes::OUTPUTS_AT + l as usize,
+            1,
+            reading::MARKED_BEFORE,
+            l,
+        );
+    }
+    if kind == OPEN {
+        return admit_mark(table, l as usize, 3, reading::DRIVEN_BEFORE, l);
+    }
+    if kind == GATE {
+        return admit_gate(table, library, s);
+    }
+    if kind == RANGE {
+        let pins = s.pins;
+        return admit_range(table, l, pins[1], pins[2]);
+    }
+    reading::NETLIST_FORM
+}
+
+// ---- the lines that are not declared
+
+// Whether a line is mentioned, and neither driven nor open.
+pub fn undeclared(table: &[u32], l: usize) -> bool
+    requires { ⌜ l ≤ Size.lines ⌝ }
+    ensures { λ r. ⌜ r ≡ wordsUndeclared (now (table .entry)) l ⌝ }
+{
+    let line = l as u32;
+    let unclaimed = driver_of(table, line) == 0;
+    mentioned(table, line) & unclaimed
+}
+
+// Whether some line is.
+pub fn some_undeclared(table: &[u32]) -> bool
+    ensures { λ r. ⌜ r ≡ someUndeclared (now (table .entry)) ⌝ }
+{
+    let mut l = 1;
+    while l <= sizes::LINES {
+        if undeclared(table, l) {
+            return true;
+        }
+        l += 1;
+    }
+    false
+}
+
+// ---- ranges
+
+// Whether some line has a range: one number of the table says so.
+pub fn some_range(table: &[u32]) -> bool
+    ensures { λ r. ⌜ r ≡ someRanged (now (table .entry)) ⌝ }
+{
+    word(table, sizes::RANGED_AT) != 0
+}

@@ -1,8 +1,0 @@
-pub mod Accepting
-pub mod Checking
-pub mod Entering
-pub mod Fitting
-pub mod Numbers
-pub mod Keeping
-pub mod Bounds
-pub mod Held

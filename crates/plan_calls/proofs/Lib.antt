@@ -1,0 +1,3 @@
+pub mod End
+pub mod Promise
+pub mod Printed

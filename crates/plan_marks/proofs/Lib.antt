@@ -1,0 +1,7 @@
+pub mod Remembered
+pub mod Rows
+pub mod Marks
+pub mod Visits
+pub mod Sweeps
+pub mod Rest
+pub mod Run

@@ -1,0 +1,254 @@
+-- `visit` gathers the costs of the gate's columns, and lowers the number where the least row sum is below it. Assumes nothing.
+use mathlib.Core.Bool.{Bool}
+use mathlib.Core.List.{List}
+use mathlib.Core.Path.{_≡_, refl, sym, ap, ap₂, _∙_}
+use Prim.Native.Nat.{ℕ, _+_, _*_, _^_, _≤_, _<_}
+use native.Mathlib.Omega.{arith}
+use lib.ListN.{length, getD}
+use borrow.Author.Needs.{needs}
+use borrow.Author.Tests.{not-true, not-false}
+use Rattle.sizes.specs.Sizes as Size
+use Rattle.sizes.specs.Places.{groupPlace}
+use Rattle.reading.specs.Choice.{pick}
+use Rattle.netlist_table.specs.Gates.{gateCell}
+use Rattle.sweep_groups.specs.Tables.{gatePins, byRole, visitGroup, gateTied}
+use Rattle.sweep_groups.specs.Fits.{LinesFit, GateFits}
+use Rattle.plan_marks.specs.Marks.{asWritten, askingColumns}
+use Rattle.plan_marks.proofs.Visits.{lines-fit, rows-room, least-fits, gather-fits, place-inside, place-kind, row-fits, traced-still, traced-lowered}
+use Rattle.plan_marks.proofs.visit.Statement.{statement}
+use Rattle.plan_marks.proofs.visit.Tie as tie
+
+-- ---- places
+
+abbrev celled : tie.After-lines-of → tie.After-cell-place
+celled c = c .before .before .before
+
+abbrev began : tie.After-lines-of → tie.Start
+began c = celled c .before .before .before
+
+abbrev lined : tie.After-column-costs → tie.After-lines-of
+lined c = c .before .before .before .before
+
+abbrev gathered : tie.After-visit-group → tie.After-column-costs
+gathered c = c .before
+
+abbrev grouped : tie.After-visit-place → tie.After-visit-group
+grouped c = c .before .before
+
+abbrev told : tie.After-least-row → tie.After-is-tied
+told c = c .before .before .before
+
+abbrev placed : tie.After-least-row → tie.After-visit-place
+placed c = told c .before
+
+-- ---- what was read of the gate
+
+gate-fits : (s : tie.Start) → GateFits (s .args .library .now) (s .args .netlist .now) (s .args .gate)
+gate-fits s = s .pre .0 .tablesFit .gates (s .args .gate) (s .pre .1)
+
+pins-are : (c : tie.After-lines-of) → c .before .wide .result ≡ gatePins (began c .args .library .now) (began c .args .netlist .now) (began c .args .gate)
+pins-are c = rw (celled c .cell-place .ensures) at (c .before .wide .ensures)
+
+fit : (c : tie.After-lines-of) → LinesFit (c .lines-of .result) (c .before .wide .result)
+fit c =
+    let s = began c in
+    let a = s .args in
+    lines-fit (a .kind) (a .library .now) (a .netlist .now) (a .links .now) (a .numbers .now) (a .marks .now) (s .pre .0) (a .gate) (a .value) (s .pre .1) (s .pre .2) (c .lines-of .result) (c .before .wide .result) _
+    (c .lines-of .ensures) (pins-are c) refl
+
+group-few : (c : tie.After-visit-group) → c .visit-group .result ≤ 3
+unfolding byRole pick
+group-few c =
+    let s = began (lined (gathered c)) in
+    omega (arith, c .visit-group .ensures, s .pre .0 .kindFits, s .pre .2)
+
+abbrev groupAt : tie.After-visit-group → ℕ
+groupAt c = celled (lined (gathered c)) .cell-place .result + Size.groupsAt + c .visit-group .result * Size.groupWords
+
+group-stands : (c : tie.After-visit-group)
+    → let a = began (lined (gathered c)) .args in
+    groupAt c ≡ groupPlace (gateCell (a .netlist .now) (a .gate)) (visitGroup 0 (a .kind) (a .value))
+group-stands c =
+    ap₂ (λ (x y : ℕ). x + Size.groupsAt + y * Size.groupWords) (celled (lined (gathered c)) .cell-place .ensures) (c .visit-group .ensures)
+
+low : (c : tie.After-visit-place) → c .visit-place .result < Size.numbers
+low c =
+    let g = grouped c in
+    let x = lined (gathered g) in
+    let s = began x in
+    let a = s .args in
+    place-inside (a .kind) (a .library .now) (a .netlist .now) (a .links .now) (a .numbers .now) (a .marks .now) (s .pre .0) (a .gate) (a .value) (s .pre .1) (s .pre .2) (x .lines-of .result) (x .before .wide .result) (groupAt g)
+    (x .lines-of .ensures) (pins-are x) (group-stands g) (c .visit-place .result) (c .visit-place .ensures)
+
+-- The library table is as long as a slice may be.
+long : (c : tie.After-shared-slice-known3) → length (c .before .before .before .before .args .library .now) * 4 < 2 ^ 64
+long c = omega arith
+
+-- The row that was found stands in the table.
+room : (c : tie.After-least-row)
+    → let g = grouped (placed c) in
+    (groupAt g + 1 + 2 * c .least-row .result .row) * 4 < 2 ^ 64
+room c =
+    let g = grouped (placed c) in
+    let x = lined (gathered g) in
+    let s = began x in
+    let a = s .args in
+    omega (
+      arith,
+      long (x .before .before),
+      c .least-row .ensures .few,
+      rows-room (a .kind) (a .library .now) (a .netlist .now) (a .links .now) (a .numbers .now) (a .marks .now) (s .pre .0) (a .gate) (a .value) (s .pre .1) (s .pre .2) (x .lines-of .result) (x .before .wide .result) (groupAt g)
+          (x .lines-of .ensures) (pins-are x) (group-stands g),
+    )
+
+-- The gate's number and its pins are small.
+small : (c : tie.After-least-row)
+    → let x = lined (gathered (grouped (placed c))) in
+    (began x .args .gate < Size.gates) × (x .before .wide .result ≤ Size.pins)
+small c =
+    let x = lined (gathered (grouped (placed c))) in
+    (omega (arith, began x .pre .1, began x .pre .0 .linked .chained .count), fit x .count)
+
+-- How the gate's rows are read.
+wired-is : (c : tie.After-least-row)
+    → let a = began (lined (gathered (grouped (placed c)))) .args in
+    told c .is-tied .result ≡ gateTied (a .library .now) (a .netlist .now) (a .gate)
+wired-is c =
+    let s = began (lined (gathered (grouped (placed c)))) in
+    told c .is-tied .ensures _ _ _ (s .pre .0 .linked .tied) (s .pre .1)
+
+returns : tie.Need-returns
+returns c =
+    let k = c .before .before .before .before .before in
+    let p = placed k in
+    let g = grouped p in
+    let x = lined (gathered g) in
+    let s = began x in
+    let a = s .args in
+    traced-still (a .kind) (a .library .now) (a .netlist .now) (a .links .now) (a .numbers .now) (a .marks .now) (s .pre .0) (a .gate) (a .value) (s .pre .1) (s .pre .2) (x .lines-of .result) (x .before .wide .result) (groupAt g)
+    (x .lines-of .ensures) (pins-are x) (group-stands g) (p .visit-place .result) (p .visit-place .ensures) _ (wired-is k) _ (gathered g .column-costs .ensures) (k .least-row .result) (k .least-row .ensures)
+    (c .before .before .before .lesser-of .ensures .comesTo) (c .before .store .ensures) (a .clock) (not-true _ (c .if1 .taken))
+
+written-same : {h h′ d d′ c c′ : ℕ} → h ≡ h′ → d ≡ d′ → c ≡ c′ → asWritten h d c ≡ asWritten h′ d′ c′
+written-same p q r = rw (p, q, r) refl
+
+asking-same : {w w′ : Bool} {ls ls′ : List ℕ} {n n′ c c′ : ℕ} → w ≡ w′ → ls ≡ ls′ → n ≡ n′ → c ≡ c′ → askingColumns w ls n c ≡ askingColumns w′ ls′ n′ c′
+asking-same p q r s = rw (p, q, r, s) refl
+
+-- The columns of the row that was found.
+columns-are : (c : tie.After-word) → c .word .result
+    ≡ getD (began (lined (gathered (grouped (placed (c .before .before .before .before .before .before .before))))) .args .library .now)
+    (groupPlace (gateCell (began (lined (gathered (grouped (placed (c .before .before .before .before .before .before .before))))) .args .netlist .now) (began (lined (gathered (grouped (placed (c .before .before .before .before .before .before .before))))) .args .gate))
+    (visitGroup 0 (began (lined (gathered (grouped (placed (c .before .before .before .before .before .before .before))))) .args .kind) (began (lined (gathered (grouped (placed (c .before .before .before .before .before .before .before))))) .args .value)) + 1 + 2 * c .before .before .before .before .before .before .before .least-row .result .row + 1) 0
+columns-are c =
+    let k = c .before .before .before .before .before .before .before in
+    let g = grouped (placed k) in
+    c .word .ensures ∙ ap (λ (n : ℕ). getD (began (lined (gathered g)) .args .library .now) (n + 1 + 2 * k .least-row .result .row + 1) 0) (group-stands g)
+
+returns-2 : tie.Need-returns-2
+unfolding byRole pick
+returns-2 c =
+    let k = c .before .before .before .before .before .before .before .before .before .before .before .before .before .before .before in
+    let w = c .before .before .before .before .before .before .before .before in
+    let p = placed k in
+    let g = grouped p in
+    let x = lined (gathered g) in
+    let s = began x in
+    let a = s .args in
+    let cols = columns-are w in
+    traced-lowered (a .kind) (a .library .now) (a .netlist .now) (a .links .now) (a .numbers .now) (a .marks .now) (s .pre .0) (a .gate) (a .value) (s .pre .1) (s .pre .2) (x .lines-of .result) (x .before .wide .result) (groupAt g)
+    (x .lines-of .ensures) (pins-are x) (group-stands g) (p .visit-place .result) (p .visit-place .ensures) _ (wired-is k) _ (gathered g .column-costs .ensures) (k .least-row .result) (k .least-row .ensures)
+    (c .before .before .before .before .before .before .before .before .before .before .before .before .before .lesser-of .ensures .comesTo) (c .before .before .before .before .before .before .before .before .before .before .before .store .ensures) (not-false _ (c .before .before .before .before .before .before .before .before .before .before .if1 .left))
+    _ (a .clock) _ _ _ refl
+    (c .before .before .before .before .before .as-written .ensures
+    ∙ written-same (c .before .before .before .before .before .before .before .word2 .ensures ∙ ap (λ (n : ℕ). getD (a .library .now) (n + Size.headingAt) 0) (celled x .cell-place .ensures))
+    (c .before .before .before .before .before .before .word3 .ensures ∙ ap (λ (n : ℕ). getD (a .library .now) (n + 1 + 2 * k .least-row .result .row) 0) (group-stands g)) cols)
+    (c .before .before .before .asking-columns .ensures ∙ asking-same (wired-is k) (x .lines-of .ensures) (pins-are x) cols)
+    (ap₂ (λ (n m : ℕ). n + 1 + m) (c .before .place-of .ensures) (pins-are x))
+    _ (c .note .ensures)
+
+-- The sum is of the kind of its place.
+store-requires : tie.Need-store-requires
+store-requires c κs =
+    let k = c .before .before .before in
+    let p = placed k in
+    let g = grouped p in
+    let x = lined (gathered g) in
+    let s = began x in
+    let a = s .args in
+    record {
+      inside = low p;
+      size = s .pre .0 .size;
+      ofKind =
+          c .before .lesser-of .ensures .ofKind ∙ k .least-row .ensures .sum .ofKind
+          ∙ sym (place-kind (a .kind) (a .library .now) (a .netlist .now) (a .links .now) (a .numbers .now) (a .marks .now) (s .pre .0) (a .gate) (a .value) (s .pre .1) (s .pre .2) (x .lines-of .result) (x .before .wide .result) (groupAt g)
+          (x .lines-of .ensures) (pins-are x) (group-stands g) (p .visit-place .result) (p .visit-place .ensures));
+    }
+
+asking-columns-requires : tie.Need-asking-columns-requires
+asking-columns-requires c κs =
+    let k = c .before .before .before .before .before .before .before .before .before .before .before in
+    let p = placed k in
+    let g = grouped p in
+    let x = lined (gathered g) in
+    let s = began x in
+    let a = s .args in
+    rw (c .before .before .before .before .word .ensures)
+    (row-fits (a .kind) (a .library .now) (a .netlist .now) (a .links .now) (a .numbers .now) (a .marks .now) (s .pre .0) (a .gate) (a .value) (s .pre .1) (s .pre .2) (x .lines-of .result) (x .before .wide .result) (groupAt g)
+    (x .lines-of .ensures) (pins-are x) (group-stands g) (p .visit-place .result) (p .visit-place .ensures) _ (wired-is k) _ (gathered g .column-costs .ensures) (k .least-row .result) (k .least-row .ensures)
+    (c .before .before .before .before .before .before .before .before .before .lesser-of .ensures .comesTo) (c .before .before .before .before .before .before .before .store .ensures) (not-false _ (c .before .before .before .before .before .before .if1 .left)))
+
+pub visit-spec : {M : Type 1} → statement M
+visit-spec =
+    tie.close
+    (tie.spec
+    (λ c κs. let f = gate-fits (c .before .before) in omega arith)
+    (λ c. search needs)
+    (λ c. let f = gate-fits (c .before .before .before) in omega arith)
+    (λ c. let f = gate-fits (c .before .before .before .before) in omega arith)
+    (λ c κs. search needs)
+    (λ c κs. gate-fits (c .before .before .before .before .before) .room)
+    (λ c κs.
+    let x = c .before .before .before in
+    let s = began x in
+    let a = s .args in
+    gather-fits (a .kind) (a .library .now) (a .netlist .now) (a .links .now) (a .numbers .now) (a .marks .now) (s .pre .0) (a .gate) (a .value) (s .pre .1) (s .pre .2) (x .lines-of .result) (x .before .wide .result) _
+    (x .lines-of .ensures) (pins-are x) refl _ refl)
+    (λ c. search needs)
+    (λ c κs. search needs)
+    (λ c. omega (arith, group-few c))
+    (λ c. let f = gate-fits (began (lined (gathered c))) in omega (arith, group-few c))
+    (unfold byRole pick in (λ c κs. let x = lined (gathered (c .before)) in (began x .pre .0 .kindFits, fit x, omega (arith, began x .pre .2))))
+    (λ c κs.
+    let s = began (lined (gathered (grouped c))) in
+    omega (arith, s .pre .1, s .pre .0 .linked .chained .count))
+    (λ c κs.
+    let g = grouped (c .before .before .before) in
+    let x = lined (gathered g) in
+    let s = began x in
+    let a = s .args in
+    least-fits (a .kind) (a .library .now) (a .netlist .now) (a .links .now) (a .numbers .now) (a .marks .now) (s .pre .0) (a .gate) (a .value) (s .pre .1) (s .pre .2) (x .lines-of .result) (x .before .wide .result) (groupAt g)
+    (x .lines-of .ensures) (pins-are x) (group-stands g) _ _ (gathered g .column-costs .ensures .size))
+    (λ c. omega (arith, low (placed c)))
+    (λ c. low (placed c))
+    (λ c κs. tt)
+    store-requires
+    returns
+    (λ c. omega (arith, room (c .before .before .before .before .before)))
+    (λ c. omega (arith, room (c .before .before .before .before .before .before)))
+    (λ c. omega (arith, room (c .before .before .before .before .before .before)))
+    (λ c. omega (arith, room (c .before .before .before .before .before .before)))
+    (λ c κs. search needs)
+    (λ c. omega (arith, room (c .before .before .before .before .before .before .before)))
+    (λ c κs. search needs)
+    (λ c κs. search needs)
+    (λ c κs. search needs)
+    asking-columns-requires
+    (λ c. search needs)
+    (λ c. omega (arith, began (lined (gathered (grouped (placed (c .before .before .before .before .before .before .before .before .before .before .before .before .before))))) .pre .3))
+    (λ c κs. omega (arith, small (c .before .before .before .before .before .before .before .before .before .before .before .before .before)))
+    (λ c. omega (arith, small (c .before .before .before .before .before .before .before .before .before .before .before .before .before .before), c .place-of .ensures))
+    (λ c. omega (arith, small (c .before .before .before .before .before .before .before .before .before .before .before .before .before .before), c .place-of .ensures))
+    (λ c. omega (arith, small (c .before .before .before .before .before .before .before .before .before .before .before .before .before .before), c .place-of .ensures))
+    (λ c κs. let x = lined (gathered (grouped (placed (c .before .before .before .before .before .before .before .before .before .before .before .before .before .before)))) in (fit x .most 0 (omega arith), began x .pre .2, began x .pre .0 .marksSize))
+    returns-2)

@@ -1,0 +1,24 @@
+-- `goal_at` reads the line of a column's pin. Assumes nothing.
+use mathlib.Core.Path.{refl}
+use native.Mathlib.Omega.{arith}
+use borrow.Author.Needs.{needs}
+use Rattle.plan_text.specs.Writers.{goalAt}
+use Rattle.plan_text.proofs.goal_at.Statement.{statement}
+use Rattle.plan_text.proofs.goal_at.Tie as tie
+
+returns : tie.Need-returns
+unfolding goalAt
+returns c = (rw (c .word .ensures, c .before .pin-place .ensures) refl, omega arith)
+
+pub goal-at-spec : {M : Type 1} → statement M
+goal-at-spec =
+    tie.close
+    (tie.spec
+    (λ c κs. search needs)
+    (λ c κs. search needs)
+    (λ c. search needs)
+    (λ c. search needs)
+    (λ c. search needs)
+    (λ c. search needs)
+    (λ c. search needs)
+    returns)

@@ -1,0 +1,4 @@
+pub mod PlanText
+pub mod Writers
+pub mod Plan
+pub mod Asked

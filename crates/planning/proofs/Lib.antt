@@ -1,3 +1,0 @@
-pub mod Concluding
-pub mod Promising
-pub mod Printing

@@ -1,4 +1,0 @@
-pub mod Entering
-pub mod Netlist
-pub mod Reached
-pub mod Own

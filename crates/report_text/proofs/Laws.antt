@@ -1,0 +1,120 @@
+-- The laws of the report's bytes: what the report depends on, and how long it is.
+-- Assumes nothing.
+use mathlib.Core.Bool.{Bool}
+use mathlib.Core.List.{List, [], _∷_, _++_}
+use mathlib.Core.Path.{_≡_, refl, ap}
+use Prim.Native.Nat.{ℕ, zero, suc, _+_, _*_, _^_, _≤_, _<_}
+use native.Mathlib.Omega.{arith}
+use lib.Dec.{leb, eqb}
+use lib.ListN.{length, getD, length-append}
+use borrow.Author.Tests.{leb-false, eqb-false}
+use Rattle.sizes.specs.Sizes as Size
+use Rattle.sizes.specs.Places.{linePlace}
+use Rattle.cost.specs.Cost.{over, never}
+use Rattle.text.specs.Bytes.{bytes}
+use Rattle.reading.specs.Choice.{pick}
+use Rattle.reading.proofs.Laws.{by-test}
+use Rattle.writer.specs.Decimal.{decimalBytes, decimal-open}
+use Rattle.writer.proofs.Decimal.{decimal-below, decimal-length}
+use Rattle.calculation.specs.declared.Counts.{Counts}
+use Rattle.calculation.specs.Settled.{FewSweeps}
+use Rattle.report_text.specs.Report.{costBytes, costsFrom, lineBytes, linesBytes, sweepsBytes, header, reportBytes, highLine, longestReport}
+
+-- ---- what the report depends on
+
+costs-same : (ns ms : List ℕ) (n place : ℕ) → ((i : ℕ) → i < place + n → getD ns i 0 ≡ getD ms i 0) → costsFrom ns n place ≡ costsFrom ms n place
+unfolding costsFrom
+costs-same ns ms zero place same = refl
+costs-same ns ms (suc n) place same =
+    rw (same place (omega arith), costs-same ns ms n (suc place) (λ i h. same i (omega arith))) refl
+
+lines-same : (m q : ℕ → Bool) (ns ms : List ℕ) (n l : ℕ) → l + n ≤ Size.lines + 1 → ((i : ℕ) → l ≤ i → i < l + n → m i ≡ q i) → ((i : ℕ) → i < Size.numbers → getD ns i 0 ≡ getD ms i 0) → linesBytes m ns n l ≡ linesBytes q ms n l
+unfolding linesBytes lineBytes
+lines-same m q ns ms zero l h marks same = refl
+lines-same m q ns ms (suc n) l h marks same =
+    rw (
+      marks l (omega arith) (omega arith),
+      costs-same ns ms Size.costs (linePlace l) (λ i b. same i (omega arith)),
+      lines-same m q ns ms n (suc l) (omega arith) (λ i a b. marks i (omega arith) (omega arith)) same,
+    ) refl
+
+-- The report depends on the marks of the lines and on their numbers alone.
+pub report-same : (m q : ℕ → Bool) (ns ms : List ℕ) (k : Counts) → ((l : ℕ) → 1 ≤ l → l ≤ Size.lines → m l ≡ q l) → ((i : ℕ) → i < Size.numbers → getD ns i 0 ≡ getD ms i 0) → reportBytes m ns k ≡ reportBytes q ms k
+unfolding reportBytes
+report-same m q ns ms k marks same =
+    ap (λ (f : List ℕ). header ++ (f ++ sweepsBytes k))
+    (lines-same m q ns ms Size.lines 1 (omega arith) (λ i a b. marks i a (omega arith)) same)
+
+-- ---- how long the report is
+
+cost-length : (x : ℕ) → length (costBytes x) ≤ 9
+unfolding costBytes bytes pick
+cost-length x =
+    by-test (leb never x)
+    (λ is-never. rw is-never (omega arith))
+    (λ below.
+    by-test (eqb x over)
+    (λ is-over. rw (below, is-over) (omega arith))
+    (λ exact.
+    let least : x < 10 ^ 9 = omega (arith, leb-false never x below, eqb-false x over exact) in
+    rw (below, exact) (decimal-below 8 x least)))
+
+costs-length : (ns : List ℕ) (n place : ℕ) → length (costsFrom ns n place) ≤ n * 10
+unfolding costsFrom
+costs-length ns zero place = omega arith
+costs-length ns (suc n) place =
+    rw (length-append (44 ∷ costBytes (getD ns place 0)) (costsFrom ns n (suc place)))
+    (omega (arith, cost-length (getD ns place 0), costs-length ns n (suc place)))
+
+-- A line's end, and ten bytes for each of its costs, behind the digits of its number.
+abbrev behindNumber : ℕ
+behindNumber = Size.costs * 10 + 1
+
+line-length : (ns : List ℕ) (l : ℕ) → length (lineBytes ns l) ≤ length (decimalBytes l) + behindNumber
+unfolding lineBytes
+line-length ns l =
+    let costs = costsFrom ns Size.costs (linePlace l) in
+    rw (length-append (decimalBytes l) (costs ++ (10 ∷ [])), length-append costs (10 ∷ []))
+    (omega (arith, costs-length ns Size.costs (linePlace l)))
+
+-- The digits of so many line numbers from l on.
+unfoldable numbersLength : ℕ → ℕ → ℕ
+numbersLength zero l = 0
+numbersLength (suc n) l = length (decimalBytes l) + numbersLength n (suc l)
+
+lines-length : (m : ℕ → Bool) (ns : List ℕ) (n l : ℕ) → length (linesBytes m ns n l) ≤ numbersLength n l + n * behindNumber
+unfolding linesBytes numbersLength pick
+lines-length m ns zero l = omega arith
+lines-length m ns (suc n) l =
+    let rest : length (linesBytes m ns n (suc l)) ≤ numbersLength n (suc l) + n * behindNumber = lines-length m ns n (suc l) in
+    by-test (m l)
+    (λ yes. rw (yes, length-append (lineBytes ns l) (linesBytes m ns n (suc l))) (omega (arith, line-length ns l)))
+    (λ no. rw no (omega arith))
+
+lines-digits : numbersLength Size.lines 1 ≡ 2893
+unfolding numbersLength decimal-open
+lines-digits = refl
+
+-- 27 bytes of header, 63,893 for the lines, and 11 for the sweeps beside the digits of each count.
+report-digits : (m : ℕ → Bool) (ns : List ℕ) (k : Counts) (digits : ℕ) → length (decimalBytes (k .cc)) ≤ digits → length (decimalBytes (k .sc)) ≤ digits
+    → length (decimalBytes (k .co)) ≤ digits → length (decimalBytes (k .so)) ≤ digits → length (reportBytes m ns k) ≤ 63931 + 4 * digits
+unfolding reportBytes header sweepsBytes bytes
+report-digits m ns k digits cc sc co so = simp length-append (omega (arith, lines-length m ns Size.lines 1, lines-digits))
+
+-- "With G gates, CC and SC take at most 2G + 1 sweeps each, CO and SO at most G + 1": four digits for each count.
+pub report-length : (m : ℕ → Bool) (ns : List ℕ) (k : Counts) (gates : ℕ) → gates ≤ Size.gates → FewSweeps gates k → length (reportBytes m ns k) ≤ longestReport
+report-length m ns k gates h few =
+    report-digits m ns k 4
+    (decimal-below 3 (k .cc) (omega arith))
+    (decimal-below 3 (k .sc) (omega arith))
+    (decimal-below 3 (k .co) (omega arith))
+    (decimal-below 3 (k .so) (omega arith))
+
+pub high-length : length highLine ≡ 5
+unfolding highLine bytes
+high-length = refl
+
+-- Whatever the counts are, they have at most twenty digits each, so that "a report buffer of 65,536 bytes" has room.
+pub report-fits : (m : ℕ → Bool) (ns : List ℕ) (k : Counts) → length (reportBytes m ns k) ≤ Size.reportBytes
+report-fits m ns k =
+    omega (arith, report-digits m ns k 20 (decimal-length (k .cc) .1) (decimal-length (k .sc) .1) (decimal-length (k .co) .1) (decimal-length (k .so) .1))

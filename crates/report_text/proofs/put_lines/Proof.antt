@@ -1,0 +1,59 @@
+-- `put_lines` stores the lines one by one, ascending: those passed stand in the buffer. Assumes nothing.
+use mathlib.Core.Path.{_≡_, _∙_, refl}
+use Prim.Native.Nat.{_≤_, _-_}
+use native.Mathlib.Nat.{add-comm}
+use native.Mathlib.Numerals.{add-one}
+use native.Mathlib.Omega.{arith}
+use borrow.Author.Needs.{needs}
+use lib.ListN.{length}
+use Rattle.sizes.specs.Sizes as Size
+use Rattle.report_text.specs.Arguments.{marked}
+use Rattle.writer.specs.Put.{Put}
+use Rattle.report_text.specs.Report.{linesBytes}
+use Rattle.writer.proofs.Steps.{put-none, put-then}
+use Rattle.report_text.proofs.Steps.{lines-more}
+use Rattle.report_text.proofs.put_lines.Statement.{statement}
+use Rattle.report_text.proofs.put_lines.Tie as tie
+
+abbrev Inv-loop : tie.InvT-loop
+Inv-loop report₀ at netlist numbers next₀ row₀ report next row =
+    (row ≤ Size.lines) × (length report ≡ length report₀) × Put at (linesBytes (marked netlist) numbers row 1) report₀ report next
+
+abbrev μ-loop : tie.MeasureT-loop
+μ-loop report₀ at netlist numbers next₀ row₀ report next row = Size.lines - row
+
+loop-holds : tie.Need-loop-holds Inv-loop μ-loop
+unfolding linesBytes
+loop-holds c = (omega arith, refl, put-none _ _)
+
+loop-again : tie.Need-loop-again Inv-loop μ-loop
+loop-again c =
+    let p = c .before .before in
+    let at = p .before .before .before in
+    let l = at .loop in
+    let a = at .before .before .before .before .args in (
+      omega arith,
+      p .put-row .kept .0 ∙ l .inv .1,
+      rw (add-one (l .row), lines-more (marked (a .netlist .now)) (a .numbers .now) (l .row) 1, add-comm 1 (l .row))
+          (put-then (l .inv .2) (p .put-row .ensures)),
+    )
+
+returns : tie.Need-returns Inv-loop μ-loop
+returns c =
+    let l = c .before .loop in
+    let all : l .row ≡ Size.lines = omega arith in
+    rw all at (l .inv .2)
+
+pub put-lines-spec : {M : Type 1} → statement M
+put-lines-spec =
+    tie.close
+    (tie.spec
+    Inv-loop
+    μ-loop
+    loop-holds
+    (λ c κs. search needs)
+    (λ c. omega arith)
+    (λ c. omega arith)
+    loop-again
+    (λ c. c .before .loop .inv .1)
+    returns)

@@ -1,0 +1,5 @@
+pub mod Meaning
+pub mod Promise
+pub mod Analysis
+pub mod Calls
+pub mod Bounds

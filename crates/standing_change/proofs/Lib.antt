@@ -1,0 +1,5 @@
+pub mod Runs
+pub mod NewNetlist
+pub mod Promise
+pub mod Call
+pub mod Bounds

@@ -1,0 +1,31 @@
+-- "For every row the columns gone to are exactly the named ones, each once, lowest first."
+-- Assumes nothing.
+use mathlib.Core.List.{map}
+use mathlib.Core.Path.{_≡_, refl, _∙_}
+use Prim.Native.Nat.{ℕ, _+_, _*_, _-_, _^_, _≤_, _<_}
+use Rattle.sizes.specs.Sizes as Size
+use Rattle.library_table.specs.Cells.{Row, Cell, bitOf, settingColumns, observingColumns, named}
+use Rattle.library_table.specs.Library.{columnCount}
+use Rattle.calculation.specs.Nodes.{Kind, combinational, sequential}
+use Rattle.calculation.specs.Ways.{Role, setting, observing, wordOf, columnsOf, namedBy}
+use Rattle.sweep_sums.specs.Gone.{columnsGone}
+use Rattle.sweep_sums.proofs.Gone.{gone-places}
+use Rattle.sweep_groups.proofs.Named.{setting-named, observing-named}
+
+module _ (n : ℕ) (few : n ≤ Size.pins) where
+  setting-gone : (columns : ℕ) → columns < 2 ^ (2 * n) → columns < 2 ^ 32 → columnsGone columns ≡ map (bitOf n) (named n (settingColumns n) columns)
+  unfolding bitOf
+  setting-gone columns b w = gone-places columns w ∙ setting-named n (λ j. j) (bitOf n) (λ i v h c. refl) (λ v c. refl) refl columns few b
+
+  observing-gone : (columns : ℕ) → columns < 2 ^ (2 * n + 3) → columns < 2 ^ 32 → columnsGone columns ≡ map (bitOf n) (named n (observingColumns n) columns)
+  unfolding bitOf
+  observing-gone columns b w = gone-places columns w ∙ observing-named n (λ j. j) (bitOf n) (λ i v h c. refl) (λ v c. refl) refl columns few b
+
+-- Of every row of a group: the columns gone to are those that the row names, each once, in their order, by their bits.
+pub gone-named : (k : Kind) (c : Cell) (role : Role) → c .pins ≤ Size.pins → (r : Row) → r .columns < 2 ^ columnCount (wordOf k role) (c .pins)
+    → r .columns < 2 ^ 32 → columnsGone (r .columns) ≡ map (bitOf (c .pins)) (namedBy c role r)
+unfolding namedBy columnsOf wordOf columnCount
+gone-named combinational c (setting e) few r b w = setting-gone (c .pins) few (r .columns) b w
+gone-named sequential c (setting e) few r b w = setting-gone (c .pins) few (r .columns) b w
+gone-named combinational c (observing i) few r b w = observing-gone (c .pins) few (r .columns) b w
+gone-named sequential c (observing i) few r b w = observing-gone (c .pins) few (r .columns) b w

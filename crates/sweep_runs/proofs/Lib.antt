@@ -1,0 +1,5 @@
+pub mod Runs
+pub mod Asleep
+pub mod Bridge
+pub mod Lines
+pub mod FourRuns

@@ -1,0 +1,48 @@
+-- `hand_over` leaves one number more with each turn. Assumes nothing.
+use mathlib.Core.List.{List, _++_}
+use mathlib.Core.Path.{_≡_, refl, _∙_, ap}
+use Prim.Native.Nat.{ℕ, _-_, _≤_}
+use native.Mathlib.Omega.{arith}
+use lib.ListN.{length, take, drop, set, getD, length-set}
+use lib.Seq.{take-all}
+use Rattle.sizes.specs.Sizes as Size
+use Rattle.netlist_table.proofs.Copied.{copy-next}
+use Rattle.sweep_runs.proofs.hand_over.Statement.{statement}
+use Rattle.sweep_runs.proofs.hand_over.Tie as tie
+
+abbrev Inv-loop : tie.InvT-loop
+Inv-loop found numbers₀ i₀ numbers i = (i ≤ Size.numbers) × (length numbers ≡ length numbers₀) × (numbers ≡ take i found ++ drop i numbers₀)
+
+abbrev μ-loop : tie.MeasureT-loop
+μ-loop found numbers₀ i₀ numbers i = Size.numbers - i
+
+loop-again : tie.Need-loop-again Inv-loop μ-loop
+loop-again c =
+    let s = c .before .before .before in
+    let l = c .before .before .loop in
+    (omega arith, simp length-set (l .inv .1), ap (λ (z : List ℕ). set z (l .i) (getD (s .args .found .now) (l .i) 0)) (l .inv .2) ∙ copy-next (s .args .found .now) (s .args .numbers .now) (l .i) (omega arith) (omega arith))
+
+returns : tie.Need-returns Inv-loop μ-loop
+returns c =
+    let s = c .before .before in
+    let l = c .before .loop in
+    let e : l .i ≡ Size.numbers = omega arith in
+    let b : length (s .args .found .now) ≤ Size.numbers = omega arith in
+    rw (take-all Size.numbers (s .args .found .now) b) at (rw e at (l .inv .2))
+
+pub hand-over-spec : {M : Type 1} → statement M
+hand-over-spec =
+    tie.close
+    (tie.spec
+    Inv-loop
+    μ-loop
+    (λ c. (omega arith, refl, refl))
+    (λ c. omega arith)
+    (λ c. omega arith)
+    (λ c. omega arith)
+    (λ c. omega arith)
+    (λ c. omega arith)
+    (λ c. omega arith)
+    loop-again
+    (λ c. c .before .loop .inv .1)
+    returns)

@@ -1,0 +1,4 @@
+pub mod Visits
+pub mod Wakes
+pub mod Turns
+pub mod Groups

@@ -1,0 +1,4 @@
+pub mod Order
+pub mod Renewed
+pub mod Wakes
+pub mod Fits

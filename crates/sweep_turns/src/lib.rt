@@ -1,0 +1,215 @@
+// One gate's turn in a sweep, document 01, "Sweeps": the visits of the gate, each of which renews one
+// number, and the gates that a changed number wakes.
+//
+// For the crates above: `visit_gate` and `store`, with what they ask of the tables (specs/Fits.antt), since the
+// loop of the sweeps tests no bounds; and `either`, of two answers whether a number changed.
+//
+// All goes by a role's number, 0 setting (CC, SC) and 1 observing (CO, SO), and by a kind's number,
+// 0 combinational (CC, CO) and 1 sequential (SC, SO).
+use cost::NEVER;
+use netlist_table::gates::unchecked;
+use sweep_awake::wake_driver;
+use sweep_awake::wake_readers;
+use sweep_groups::cell_place;
+use sweep_groups::gather::column_costs;
+use sweep_groups::least_of;
+use sweep_groups::turns::SETTING;
+use sweep_groups::turns::visit_count;
+use sweep_groups::turns::visit_group;
+use sweep_groups::turns::visit_place;
+use sweep_links::is_tied;
+use sweep_sums::Sum;
+use sweep_sums::is_lower;
+use sweep_sums::kinds::wide;
+use sweep_sums::lesser_of;
+use sweep_sums::number_of;
+use sweep_sums::sum_of;
+ghost use mathlib.Core.Path.{_≡_};
+ghost use mathlib.Core.Bool.{true, _||_};
+ghost use mathlib.Core.List.{List};
+ghost use Prim.Native.Nat.{ℕ, _+_, _*_, _≤_, _<_};
+ghost use lib.ListN.{length, getD};
+ghost use Rattle.sizes.specs.Sizes as Size;
+ghost use Rattle.cost.specs.Cost.{never};
+ghost use Rattle.sweep_sums.specs.Sums.{sumNumber};
+ghost use Rattle.sweep_groups.specs.Tables.{visitWired, groupVisit};
+ghost use Rattle.sweep_links.specs.Lines.{Chained, Driven, Tied};
+ghost use Rattle.sweep_turns.specs.Fits.{StoreFits, VisitFits, CostsOf, WakeFits, GateVisitsFit};
+ghost use Rattle.sweep_turns.specs.Order.{gateVisits};
+ghost use Rattle.sweep_turns.specs.Renewed.{Stored, Led, Renewed, Swept};
+ghost use Rattle.sweep_turns.specs.Wakes.{visitLine, LineWoken, ChangesWoken, DrivenOnce};
+
+pub fn either(a: bool, b: bool) -> bool
+    ensures { λ r. ⌜ r ≡ (a || b) ⌝ }
+{
+    if a { true } else { b }
+}
+
+// Stores a sum at a place of its kind, and says whether another number stood there.
+pub fn store(numbers: &mut [u32; sizes::NUMBERS], place: usize, sum: Sum) -> bool
+    requires { ⌜ StoreFits place sum (now numbers) ⌝ }
+    ensures { λ r. ⌜ Stored place (sumNumber sum) (now (numbers .entry)) (now (numbers .exit)) r ⌝ }
+{
+    let number = number_of(sum);
+    if numbers[place] == number {
+        return false;
+    }
+    numbers[place] = number;
+    true
+}
+
+// Whether no row sum is below a number: where lines are observed, the cost of the gate's output observed
+// is a term of each. A raw number above never is no cost yet: its visit makes one of it.
+fn lowest_already(role: usize, kind: usize, number: u32, observed: u32) -> bool
+    requires { ⌜ kind ≤ 1 ⌝ }
+    ensures { λ r. ⌜ (r ≡ true → (role ≡ 0 → ⊥) × (number ≤ observed) × (number ≤ never)) ⌝ }
+{
+    if role == SETTING {
+        return false;
+    }
+    if NEVER < number {
+        return false;
+    }
+    !is_lower(sum_of(kind, observed), sum_of(kind, number))
+}
+
+// Renews the number at a place by the row sums of a group, over the costs of its columns; whether it
+// changed. Sums that cannot be below the number are not taken.
+fn visit(
+    role: usize,
+    kind: usize,
+    library: &[u32],
+    group: usize,
+    wired: bool,
+    lines: &[u32; sizes::GATE_LINES],
+    costs: &[u32; sizes::COLUMNS],
+    numbers: &mut [u32; sizes::NUMBERS],
+    place: usize,
+    pins: usize,
+) -> bool
+    requires { ⌜ VisitFits wired kind (now library) group (now costs) (now numbers) place pins ⌝ }
+    ensures { λ r.
+        ⌜ (CostsOf kind (now (library .entry)) group (now (lines .entry)) pins
+        (now (numbers .entry)) (now (costs .entry))
+        → Led role (getD (now (costs .entry)) (2 * pins + 2) 0) (now (numbers .entry))
+        (groupVisit wired kind (now (lines .entry)) pins (now (library .entry)) group place)
+        → Renewed
+        (groupVisit wired kind (now (lines .entry)) pins (now (library .entry)) group place)
+        (now (numbers .entry)) (now (numbers .exit)) r) ⌝ }
+{
+    if lowest_already(role, kind, numbers[place], costs[2 * pins + 2]) {
+        return false;
+    }
+    let least = least_of(wired, kind, library, group, lines, pins, costs);
+    let sum = lesser_of(numbers[place], least);
+    store(numbers, place, sum)
+}
+
+// The line whose number a visit renews.
+fn visit_line(role: usize, lines: &[u32; sizes::GATE_LINES], i: usize) -> u32
+    requires { ⌜ i < Size.pins ⌝ }
+    ensures { λ r. ⌜ r ≡ visitLine role (now (lines .entry)) i ⌝ }
+{
+    if role == SETTING {
+        lines[0]
+    } else {
+        lines[i + 1]
+    }
+}
+
+// Where a number of a line changed, wakes the gates that need it: where lines are set those that read
+// the line, where they are observed the one that drives it.
+fn wake_needing(
+    role: usize,
+    changed: bool,
+    line: u32,
+    gates: usize,
+    links: &[u16; sizes::LINKS],
+    awake: &mut [u64; sizes::AWAKE_WORDS],
+)
+    requires { ⌜ WakeFits role line gates (now links) (now awake) ⌝ }
+    ensures { λ _.
+        ⌜ ((netlist : List ℕ) → Chained netlist gates (now (links .entry))
+        → Driven netlist gates (now (links .entry)) → DrivenOnce netlist gates
+        → LineWoken role netlist gates line changed (now (awake .entry)) (now (awake .exit))) ⌝ }
+{
+    if !changed {
+        return;
+    }
+    if role == SETTING {
+        wake_readers(awake, links, wide(line));
+    } else {
+        wake_driver(awake, links, gates, wide(line));
+    }
+}
+
+// Whether the rows of a gate's visits are read as those of one wire, by what was noted of the gate.
+fn wired_of(role: usize, links: &[u16; sizes::LINKS], gate: usize) -> bool
+    requires { ⌜ gate < Size.gates ⌝ }
+    ensures { λ r.
+        ⌜ ((library netlist : List ℕ) (gates : ℕ)
+        → Tied library netlist gates (now (links .entry)) → gate < gates
+        → r ≡ visitWired role library netlist gate) ⌝ }
+{
+    if role != SETTING {
+        return false;
+    }
+    is_tied(links, gate)
+}
+
+// A gate's visits, "the output's 0 before its 1" or "pins in order"; whether a number changed. The costs
+// of its columns are gathered once, and again after a visit that changed a number: the output's 1 sees
+// its 0, and a pin may read the gate's own line.
+pub fn visit_gate(
+    role: usize,
+    kind: usize,
+    library: &[u32],
+    netlist: &[u32],
+    links: &[u16; sizes::LINKS],
+    numbers: &mut [u32; sizes::NUMBERS],
+    awake: &mut [u64; sizes::AWAKE_WORDS],
+    gate: usize,
+) -> bool
+    requires { ⌜ GateVisitsFit role kind (now library) (now netlist) (now links) (now numbers) (now awake)
+        gate ⌝ }
+    ensures swept { λ r.
+        ⌜ Swept
+        (gateVisits role kind (now (library .entry)) (now (netlist .entry)) gate)
+        (now (numbers .entry)) (now (numbers .exit)) r ⌝ }
+    ensures wakes { λ _.
+        ⌜ ChangesWoken role kind (now (library .entry)) (now (netlist .entry)) (now (awake .entry))
+        (now (numbers .entry)) (now (awake .exit)) (now (numbers .exit)) ⌝ }
+{
+    let gates = unchecked::count(netlist);
+    let cell = cell_place(netlist, gate);
+    let pins = wide(library[cell + sizes::PINS_AT]);
+    let lines = unchecked::lines_of(netlist, gate);
+    let count = visit_count(role, pins);
+    let wired = wired_of(role, links, gate);
+    let mut costs = [0u32; sizes::COLUMNS];
+    let mut stale = true;
+    let mut changed = false;
+    let mut i = 0;
+    while i < count {
+        column_costs(stale, role, kind, &lines, pins, numbers, &mut costs);
+        let group = cell + sizes::GROUPS_AT + visit_group(role, kind, i) * sizes::GROUP_WORDS;
+        let place = visit_place(role, kind, &lines, pins, i);
+        stale = visit(
+            role,
+            kind,
+            library,
+            group,
+            wired,
+            &lines,
+            &costs,
+            numbers,
+            place,
+            pins,
+        );
+        let line = visit_line(role, &lines, i);
+        wake_needing(role, stale, line, gates, links, awake);
+        changed = either(changed, stale);
+        i += 1;
+    }
+    changed
+}

@@ -1,0 +1,13 @@
+-- `bit_of` shifts within the word. Assumes nothing.
+use mathlib.Core.Path.{_∙_}
+use native.Mathlib.Omega.{arith}
+use borrow.Author.Needs.{needs}
+use lib.Pow.{shl-exact}
+use Rattle.sweep_wires.proofs.bit_of.Statement.{statement}
+use Rattle.sweep_wires.proofs.bit_of.Tie as tie
+
+returns : tie.Need-returns
+returns c = shl-exact {a = 1} 1 (c .args .column) 32 (omega arith) (omega arith) ∙ omega arith
+
+pub bit-of-spec : {M : Type 1} → statement M
+bit-of-spec = tie.close (tie.spec (λ c. search needs) (λ c. search needs) returns)

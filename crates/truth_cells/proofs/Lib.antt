@@ -1,0 +1,4 @@
+pub mod Steps
+pub mod Held
+pub mod Truth
+pub mod Laws

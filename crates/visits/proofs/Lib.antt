@@ -1,4 +1,0 @@
-pub mod Visits
-pub mod Waking
-pub mod Turning
-pub mod Groups

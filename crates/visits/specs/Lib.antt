@@ -1,4 +1,0 @@
-pub mod Order
-pub mod Renewed
-pub mod Waking
-pub mod Fits
