@@ -88,7 +88,8 @@ pub fn is_way(wired: bool, lines: &[u32; sizes::GATE_LINES], pins: usize, column
     true
 }
 
-// A row's sum, of a kind, the row read as its gate's rows are; never where it is no way.
+// A row's sum, of a kind, the row read as its gate's rows are; never where it is no way. It does not go by `lesser_read`, so
+// that the compiler has the loop of `least_of` alone to put that into.
 pub fn read_sum(
     wired: bool,
     kind: usize,
@@ -103,7 +104,11 @@ pub fn read_sum(
         ⌜ Summed kind (lesserRow (now (costs .entry)) depth
         (readRow wired (now (lines .entry)) pins columns) never) r ⌝ }
 {
-    lesser_read(wired, lines, pins, costs, depth, columns, no_sum(kind))
+    let none = no_sum(kind);
+    if wired {
+        return lesser_wired(lines, pins, costs, depth, columns, none);
+    }
+    lesser_row(costs, depth, columns, none)
 }
 
 // "the least row sum of its group", over the costs of the columns, of a kind. How the rows are read was
