@@ -80,11 +80,11 @@ pub const MOST_ROWS: usize = 16;
 /// The longest two reports of a netlist with ranges.
 const REPORT_ROOM: usize = 127_899;
 /// Above this a plan's length could not be told from a refusal.
-const PLAN_ROOM: usize = 999_999;
+const PLAN_ROOM: usize = REFUSED as usize - 1;
 const ENTRY_ROOM: usize = 8_192;
 /// Numbers of a standing table, and the place of line 1's six costs in it.
-const STANDING: usize = 7_005;
-const STANDING_NUMBERS: usize = 1_005;
+const STANDING: usize = STANDING_NUMBERS + 6 * MOST_LINES;
+const STANDING_NUMBERS: usize = 5 + MOST_LINES;
 /// Numbers of an answer to an ask: CO and SO of line 1, of line 2, ..
 const OBSERVED: usize = 2 * MOST_LINES;
 const REFUSED: u64 = 1_000_000;

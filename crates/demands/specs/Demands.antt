@@ -141,7 +141,7 @@ module _ (g : Given) (before after : Lent) (said : Read Summary) where
     -- "Report bytes past its end keep their values."
     pub past : drop (s .length) (after .report) ≡ drop (s .length) (before .report)
     pub fits : s .length ≤ length (before .report)
-    -- Below the 1,000,000 from which on a C caller has a refusal.
+    -- Below the number from which on a C caller has a refusal.
     pub short : s .length ≤ longest ss
 
   abbrev pub Reporting : Type 0

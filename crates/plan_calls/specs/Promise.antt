@@ -30,7 +30,7 @@ unfoldable pub known : ℕ → ℕ → ℕ → Bool
 known l v kind = (leb 1 l && leb l Size.lines) && (leb v 1 && leb kind 1)
 
 -- "Line numbers run from 1 to 1,000.": the first and the last are lines, and those beside them are none.
-known-ends : (known 0 1 1 ≡ false) × (known 1 1 1 ≡ true) × (known 1000 1 1 ≡ true) × (known 1001 1 1 ≡ false)
+known-ends : (known 0 1 1 ≡ false) × (known 1 1 1 ≡ true) × (known Size.lines 1 1 ≡ true) × (known (suc Size.lines) 1 1 ≡ false)
 unfolding known
 known-ends = (refl, refl, refl, refl)
 

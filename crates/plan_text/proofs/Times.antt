@@ -68,13 +68,13 @@ timely-start xs n m e = absurd (Option·none-ne-some m (sym (unmarked (decLt n (
     unmarked (yes h) = getD-replicate (length xs) n none none h
     unmarked (no h) = List·getD-eq-default (replicate (length xs) none) none {n = n} (rw (length-replicate {A = Option Mark} (length xs) none) (omega arith))
 
-sweeps-time : (vs : List Visit) → length vs ≤ 2000 → (k : ℕ) (t : Trace) → traceSweeps lower vs k t .time ≤ t .time + 2000 * k
+sweeps-time : (vs : List Visit) → length vs ≤ 2 * Size.gates → (k : ℕ) (t : Trace) → traceSweeps lower vs k t .time ≤ t .time + 2 * Size.gates * k
 unfolding traceSweeps
 sweeps-time vs h zero t = omega arith
 sweeps-time vs h (suc k) t = omega (arith, sweeps-time vs h k (traceSweep lower vs t), trace-time lower vs t)
 
 module _ (cells : List Cell) (ss : List Statement) (sound : BothSound cells ss) (k : Kind) where
-  pub early : (n : ℕ) (m : Mark) → markAt (settingTrace k cells ss .marks) n ≡ some m → m .time < 4002000
+  pub early : (n : ℕ) (m : Mark) → markAt (settingTrace k cells ss .marks) n ≡ some m → m .time < 2 * Size.gates * (2 * Size.gates + 1)
   unfolding untraced
   early n m e =
       let t = traceSweeps lower (visits cells ss sound k) (most-sweeps cells ss sound k) (untraced (start ss)) in

@@ -3,22 +3,22 @@
 use mathlib.Core.Bool.{Bool}
 use mathlib.Core.List.{List, [], _∷_, _++_}
 use mathlib.Core.Path.{_≡_, refl, ap}
-use Prim.Native.Nat.{ℕ, zero, suc, _+_, _*_, _^_, _≤_, _<_}
+use Prim.Native.Nat.{ℕ, zero, suc, _+_, _*_, _-_, _^_, _≤_, _<_}
 use native.Mathlib.Omega.{arith}
-use lib.Dec.{leb, eqb}
+use lib.Dec.{leb, ltb, eqb}
 use lib.ListN.{length, getD, length-append}
-use borrow.Author.Tests.{leb-false, eqb-false}
+use borrow.Author.Tests.{leb-false, ltb-true, ltb-false, eqb-false}
 use Rattle.sizes.specs.Sizes as Size
 use Rattle.sizes.specs.Places.{linePlace}
 use Rattle.cost.specs.Cost.{over, never}
 use Rattle.text.specs.Bytes.{bytes}
 use Rattle.reading.specs.Choice.{pick}
 use Rattle.reading.proofs.Laws.{by-test}
-use Rattle.writer.specs.Decimal.{decimalBytes, decimal-open}
+use Rattle.writer.specs.Decimal.{decimalBytes}
 use Rattle.writer.proofs.Decimal.{decimal-below, decimal-length}
 use Rattle.calculation.specs.declared.Counts.{Counts}
 use Rattle.calculation.specs.Settled.{FewSweeps}
-use Rattle.report_text.specs.Report.{costBytes, costsFrom, lineBytes, linesBytes, sweepsBytes, header, reportBytes, highLine, longestReport}
+use Rattle.report_text.specs.Report.{costBytes, costsFrom, lineBytes, linesBytes, sweepsBytes, header, reportBytes, highLine, lineDigits, mostSweeps, sweepDigits, behindNumber, headerBytes, sweepsBeside, longestReport}
 
 -- ---- what the report depends on
 
@@ -66,10 +66,6 @@ costs-length ns (suc n) place =
     rw (length-append (44 ∷ costBytes (getD ns place 0)) (costsFrom ns n (suc place)))
     (omega (arith, cost-length (getD ns place 0), costs-length ns n (suc place)))
 
--- A line's end, and ten bytes for each of its costs, behind the digits of its number.
-abbrev behindNumber : ℕ
-behindNumber = Size.costs * 10 + 1
-
 line-length : (ns : List ℕ) (l : ℕ) → length (lineBytes ns l) ≤ length (decimalBytes l) + behindNumber
 unfolding lineBytes
 line-length ns l =
@@ -91,24 +87,53 @@ lines-length m ns (suc n) l =
     (λ yes. rw (yes, length-append (lineBytes ns l) (linesBytes m ns n (suc l))) (omega (arith, line-length ns l)))
     (λ no. rw no (omega arith))
 
-lines-digits : numbersLength Size.lines 1 ≡ 2893
-unfolding numbersLength decimal-open
-lines-digits = refl
+-- Numbers below a power of ten have no more digits than it has zeros.
+decade : (d n l : ℕ) → l + n ≤ 10 ^ suc d → numbersLength n l ≤ n * suc d
+unfolding numbersLength
+decade d zero l h = omega arith
+decade d (suc n) l h =
+    let rest : numbersLength n (suc l) ≤ n * suc d = decade d n (suc l) (omega arith) in
+    let one : length (decimalBytes l) ≤ suc d = decimal-below d l (omega arith) in
+    omega (arith, rest, one)
 
--- 27 bytes of header, 63,893 for the lines, and 11 for the sweeps beside the digits of each count.
+numbers-then : (n more l : ℕ) → numbersLength (more + n) l ≡ numbersLength n l + numbersLength more (l + n)
+unfolding numbersLength
+numbers-then zero more l =
+    let none : more + 0 ≡ more = omega arith in
+    let same : l + 0 ≡ l = omega arith in
+    rw (none, same) (omega arith)
+numbers-then (suc n) more l =
+    let one : more + suc n ≡ suc (more + n) = omega arith in
+    let same : l + suc n ≡ suc l + n = omega arith in
+    rw (one, same) (omega (arith, numbers-then n more (suc l)))
+
+-- The decades one after the other.
+lines-digits : numbersLength Size.lines 1 ≤ lineDigits
+lines-digits =
+    let ones = numbers-then 9 (Size.lines - 9) 1 in
+    let tens = numbers-then 90 (Size.lines - 99) 10 in
+    let hundreds = numbers-then 900 (Size.lines - 999) 100 in
+    omega (arith, ones, tens, hundreds, decade 0 9 1 (omega arith), decade 1 90 10 (omega arith), decade 2 900 100 (omega arith), decade 3 (Size.lines - 999) 1000 (omega arith))
+
 report-digits : (m : ℕ → Bool) (ns : List ℕ) (k : Counts) (digits : ℕ) → length (decimalBytes (k .cc)) ≤ digits → length (decimalBytes (k .sc)) ≤ digits
-    → length (decimalBytes (k .co)) ≤ digits → length (decimalBytes (k .so)) ≤ digits → length (reportBytes m ns k) ≤ 63931 + 4 * digits
+    → length (decimalBytes (k .co)) ≤ digits → length (decimalBytes (k .so)) ≤ digits → length (reportBytes m ns k) ≤ headerBytes + lineDigits + Size.lines * behindNumber + sweepsBeside + 4 * digits
 unfolding reportBytes header sweepsBytes bytes
 report-digits m ns k digits cc sc co so = simp length-append (omega (arith, lines-length m ns Size.lines 1, lines-digits))
 
--- "With G gates, CC and SC take at most 2G + 1 sweeps each, CO and SO at most G + 1": four digits for each count.
+count-digits : (x : ℕ) → x ≤ mostSweeps → length (decimalBytes x) ≤ sweepDigits
+count-digits x h = by-test (ltb x 10000) (λ t. decimal-four (ltb-true x 10000 t)) (λ t. omega (arith, ltb-false x 10000 t, decimal-below 4 x (omega arith)))
+  where
+    decimal-four : x < 10000 → length (decimalBytes x) ≤ sweepDigits
+    decimal-four b = omega (arith, decimal-below 3 x b)
+
+-- "With G gates, CC and SC take at most 2G + 1 sweeps each, CO and SO at most G + 1".
 pub report-length : (m : ℕ → Bool) (ns : List ℕ) (k : Counts) (gates : ℕ) → gates ≤ Size.gates → FewSweeps gates k → length (reportBytes m ns k) ≤ longestReport
 report-length m ns k gates h few =
-    report-digits m ns k 4
-    (decimal-below 3 (k .cc) (omega arith))
-    (decimal-below 3 (k .sc) (omega arith))
-    (decimal-below 3 (k .co) (omega arith))
-    (decimal-below 3 (k .so) (omega arith))
+    report-digits m ns k sweepDigits
+    (count-digits (k .cc) (omega arith))
+    (count-digits (k .sc) (omega arith))
+    (count-digits (k .co) (omega arith))
+    (count-digits (k .so) (omega arith))
 
 pub high-length : length highLine ≡ 5
 unfolding highLine bytes

@@ -2,7 +2,7 @@
 -- Assumes nothing.
 use mathlib.Core.Bool.{Bool}
 use mathlib.Core.List.{List, [], _∷_, _++_}
-use Prim.Native.Nat.{ℕ, zero, suc, _+_}
+use Prim.Native.Nat.{ℕ, zero, suc, _+_, _*_, _-_, _/_}
 use lib.Dec.{leb, eqb}
 use lib.ListN.{getD}
 use Rattle.sizes.specs.Sizes as Size
@@ -47,10 +47,31 @@ reportBytes mentioned numbers k = header ++ (linesBytes mentioned numbers Size.l
 unfoldable pub highLine : List ℕ
 highLine = bytes "high" ++ (10 ∷ [])
 
--- No report of an analysis is longer: 27 bytes of header; 1,000 lines, each with six costs of nine digits at most, in 63,893;
--- and the sweeps, of four digits at most, in 27 (`report-length` of proofs/Laws.antt).
+-- The digits of all line numbers, of a size from 1,000 to 9,999 lines: four each, but that 9 have one, 90 two and 900 three.
+abbrev pub lineDigits : ℕ
+lineDigits = 4 * Size.lines - 1107
+
+-- The digits of the highest count of sweeps, of such a size: four, and a fifth from 10,000 on.
+abbrev pub mostSweeps : ℕ
+mostSweeps = 2 * Size.gates + 1
+
+abbrev pub sweepDigits : ℕ
+sweepDigits = 4 + mostSweeps / 10000
+
+-- What stands behind the number of a line: each cost of nine digits at most behind its comma, and the line's end.
+abbrev pub behindNumber : ℕ
+behindNumber = Size.costs * 10 + 1
+
+-- The bytes of the header, and those of the sweeps beside the digits of the four counts.
+abbrev pub headerBytes : ℕ
+headerBytes = 27
+
+abbrev pub sweepsBeside : ℕ
+sweepsBeside = 11
+
+-- No report of an analysis is longer (`report-length` of proofs/Laws.antt): of 1,000 lines 63,947 bytes.
 abbrev pub longestReport : ℕ
-longestReport = 63947
+longestReport = headerBytes + lineDigits + Size.lines * behindNumber + sweepsBeside + 4 * sweepDigits
 
 -- .. nor are two, with the line between them (02, K10).
 abbrev pub longestReports : ℕ

@@ -4,7 +4,7 @@ use mathlib.Core.Bool.{Bool, true}
 use mathlib.Core.List.{List}
 use mathlib.Core.Logic.{_↔_}
 use mathlib.Core.Path.{_≡_}
-use Prim.Native.Nat.{ℕ, _+_, _%_, _≤_, _<_}
+use Prim.Native.Nat.{ℕ, _+_, _-_, _%_, _≤_, _<_}
 use lib.Dec.{leb}
 use lib.ListN.{length, replicate}
 use Rattle.sizes.specs.Sizes as Size
@@ -32,7 +32,7 @@ pub record Tells (o : Read ℕ) (said : ℕ) : Type 0 where
 
 -- The longest text whose length the number tells.
 abbrev pub mostTold : ℕ
-mostTold = 999999
+mostTold = codeLines - 1
 
 -- A longer one counts as longer than its buffer, and is refused by the number of its kind.
 unfoldable pub textTold : (number : ℕ) → Read (List ℕ) → Read (List ℕ)

@@ -91,7 +91,7 @@ pub extern "C" fn scoap_built_in(text: &mut [u8]) -> u64
 }
 
 // The longest text whose length is told from a refusal.
-const MOST_TOLD: usize = 999_999;
+const MOST_TOLD: usize = sizes::CODE_LINES - 1;
 
 // A longer text of a plan counts as longer than its buffer.
 fn limit_plan(text: &mut [u8], written: Written) -> Written

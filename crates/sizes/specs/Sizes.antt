@@ -11,6 +11,10 @@ textBytes = 65535
 abbrev pub reportBytes : ℕ
 reportBytes = 65536
 
+-- "else the refusal number times 1,000,000 plus the line": more than a text has lines, and than reports have bytes.
+abbrev pub codeLines : ℕ
+codeLines = 1000000
+
 -- "Line numbers run from 1 to 1,000." Each gate drives a line of its own.
 abbrev pub lines : ℕ
 lines = 1000

@@ -8,6 +8,9 @@ pub const TEXT_BYTES: usize = 65535;
 // "The program scoap .. has a report buffer of 65,536 bytes."
 pub const REPORT_BYTES: usize = 65536;
 
+// "else the refusal number times 1,000,000 plus the line": more than a text has lines, and than reports have bytes.
+pub const CODE_LINES: usize = 1000000;
+
 // "Line numbers run from 1 to 1,000"; a gate drives a line of its own.
 pub const LINES: usize = 1000;
 

@@ -251,9 +251,9 @@ module _ (g : Given) (checks : Checked g) (before report : List ℕ) (long : tab
 
 -- ---- the report's length
 
--- Below the 1,000,000 from which on a C caller has a refusal.
+-- Below the number from which on a C caller has a refusal.
 pub stand-length : (lib net before report after report′ : List ℕ) (told : Read Summary)
-    → StandPromised (O.givenTexts lib net) before report after report′ told → (a : Summary) → told ≡ read a → a .length < 1000000
+    → StandPromised (O.givenTexts lib net) before report after report′ told → (a : Summary) → told ≡ read a → a .length < Size.codeLines
 stand-length lib net before report after report′ told p a e =
     by-test (tableShort before)
     (λ t. refused-read (sym (p .answers ∙ short t) ∙ e))

@@ -7,6 +7,7 @@ use mathlib.Core.Path.{_≡_}
 use Prim.Native.Nat.{ℕ, _+_, _*_, _/_, _%_, _≤_, _<_}
 use lib.Dec.{leb, ltb}
 use lib.ListN.{length, take, drop, replicate}
+use Rattle.sizes.specs.Sizes as Size
 use Rattle.reading.specs.Choice.{pick}
 use Rattle.reading.specs.Numbers as No
 use Rattle.reading.specs.Refusal.{Read, refused, read, _>>_, weigh}
@@ -58,7 +59,7 @@ pub record Closes (number end : ℕ) (before after : List ℕ) (said : Written) 
 
 -- "the refusal number times 1,000,000 plus the line"
 abbrev pub codeLines : ℕ
-codeLines = 1000000
+codeLines = Size.codeLines
 
 abbrev pub refusalCode : (number line : ℕ) → ℕ
 refusalCode number line = number * codeLines + line

@@ -9,7 +9,7 @@
 //
 // Open to others: the type `Written`. For the crates above: `put_byte`, `put_bytes`, `put_decimal`, `put_octal`,
 // `put_refusal`, `refuse`, `close` and `show`, which have no condition; `refusal_code` and `code`, which ask that a
-// refusal's line is below 1,000,000.
+// refusal's line is below `codeLines`.
 use reading::Refusal;
 ghost use mathlib.Core.List.{[], _∷_};
 ghost use mathlib.Core.Path.{_≡_};
@@ -29,7 +29,7 @@ const COMMA: u8 = 44;
 const LINE_END: u8 = 10;
 
 // "the refusal number times 1,000,000 plus the line"
-const CODE_LINES: u64 = 1_000_000;
+const CODE_LINES: u64 = sizes::CODE_LINES as u64;
 
 // A text in the front of a lent buffer, by its length, or a refusal. `writtenRead` gives its cases.
 pub enum Written {

@@ -55,7 +55,7 @@ impl Refusal {
 
     /// In the form of the C entries.
     pub fn code(self) -> u64 {
-        u64::from(self.number) * 1_000_000 + u64::from(self.line)
+        u64::from(self.number) * REFUSED + u64::from(self.line)
     }
 
     /// Whether it was found before anything was read; then nothing that was lent is touched.
@@ -142,9 +142,12 @@ pub fn qualifies_code(lib: &[u8], net: &[u8]) -> u64 {
     }
 }
 
+/// Below it a number for C tells what was accepted; from it on a refusal, whose number it stands before.
+pub const REFUSED: u64 = 1_000_000;
+
 /// The longest text of a plan whose length the C entry's number tells; a longer one counts as longer than
 /// its buffer.
-pub const MOST_TOLD: usize = 999_999;
+pub const MOST_TOLD: usize = REFUSED as usize - 1;
 
 /// The cheapest way to set a line to a value, written out, in the form of the C entry.
 pub fn plan_into(

@@ -17,7 +17,7 @@ use Rattle.plan_marks.proofs.trace.Tie as tie
 abbrev Inv-loop : tie.InvT-loop
 Inv-loop kind library netlist marks₀ gates links numbers₀ clock₀ left₀ marks numbers clock left =
     (left ≤ 2 * gates + 1)
-    × (clock + 2000 * left ≤ 2000 * (2 * gates + 1))
+    × (clock + 2 * Size.gates * left ≤ 2 * Size.gates * (2 * gates + 1))
     × (after kind library netlist (2 * gates + 1 - left) .time ≡ clock)
     × Stands kind library netlist (after kind library netlist (2 * gates + 1 - left)) numbers marks
     × (length numbers ≡ Size.numbers)
