@@ -1,14 +1,21 @@
 //! The shapes that the benchmark times, each with what its label says of it. A shape is the same
 //! however many others are made before it.
 
+mod calls;
+
+use crate::between::parts;
+use crate::cell::built_in;
 use crate::figures::*;
 use crate::generate::{
-    add_cells, add_netlist, fields, groups_of, library_of, rows_line, Order, Pair, Shape, Style,
-    Wiring, ENTRY,
+    add_cells, add_netlist, add_ranges, fields, groups_of, library_of, rows_line, CellForm, Order,
+    Pair, Shape, Style, Wiring, ENTRY,
 };
 use crate::grow::{one_row, WORDS};
 use crate::random::Random;
-use crate::{Counts, MOST_BYTES, MOST_LINES};
+use crate::sweep::is_wired;
+use crate::{both_read, Counts, MOST_BYTES, MOST_LINES};
+pub use calls::{called, Call, Called, Left};
+use std::collections::HashSet;
 use std::ops::Range;
 
 pub const SEED: u64 = 0x5c0a_9197_9115_2026;
@@ -34,6 +41,14 @@ pub enum Claim {
     Sweeps(Counts),
     ReportBytes(Range<usize>),
     RefusedInLastLine,
+    /// The rows that set the output of so many gates are read as those of one wire.
+    Tied(usize),
+    /// The library is the built-in one.
+    BuiltIn,
+    /// No gate reads the line of a gate above it.
+    Backwards,
+    /// There are two reports, and they differ.
+    Ranges,
 }
 
 use Claim::*;
@@ -114,7 +129,33 @@ impl Case {
                 (!netlist || answer % 1_000_000 != lines as u64)
                     .then(|| format!("the answer is {answer}, the last line {lines}"))
             }
+            Tied(count) => {
+                let tied = self.tied();
+                (tied != *count).then(|| format!("{tied} gates with tied pins"))
+            }
+            BuiltIn => (self.lib != built_in().as_bytes()).then(|| "another library".to_string()),
+            Backwards => {
+                let mut above = HashSet::new();
+                let forward = self.gate_lines().any(|gate| {
+                    above.insert(gate[2]);
+                    gate[3..].iter().any(|line| above.contains(line))
+                });
+                forward.then(|| "a gate reads the line of one above it".to_string())
+            }
+            Ranges => {
+                let two = parts(report).is_some_and(|[low, high]| low != high);
+                (!two).then(|| "no second report that differs".to_string())
+            }
         })
+    }
+
+    /// How many gates have pins that are one wire.
+    fn tied(&self) -> usize {
+        let Ok((library, netlist)) = both_read(&self.lib, &self.net) else {
+            return 0;
+        };
+        let tied = |gate: &&_| is_wired(&library, gate);
+        netlist.gates.iter().filter(tied).count()
     }
 }
 
@@ -135,6 +176,12 @@ fn random_pair(seed: u64, gates: usize, wiring: Wiring) -> Pair {
     let mut pair = Pair::default();
     let mut rng = Random::from(seed);
     add_cells(&mut rng, &mut pair, 8, Style::Common);
+    add_random(&mut rng, &mut pair, gates, wiring);
+    pair
+}
+
+/// Such a netlist over the pair's cells.
+fn add_random(rng: &mut Random, pair: &mut Pair, gates: usize, wiring: Wiring) {
     let shape = Shape {
         inputs: (gates / 9).clamp(4, MOST_LINES - gates),
         gates,
@@ -144,8 +191,7 @@ fn random_pair(seed: u64, gates: usize, wiring: Wiring) -> Pair {
         order: Order::Forward,
         scattered: false,
     };
-    add_netlist(&mut rng, &mut pair, &shape);
-    pair
+    add_netlist(rng, pair, &shape);
 }
 
 fn c17() -> Case {
@@ -186,6 +232,52 @@ fn random_any_order(gates: usize) -> Case {
 fn loops(gates: usize) -> Case {
     let pair = any_order(random_pair(SEED, gates, Wiring::Any));
     Case::from("random, loops", &pair, vec![Gates(gates), Loop])
+}
+
+/// The same statements from the last to the first.
+fn backwards(gates: usize) -> Case {
+    let mut pair = random_pair(SEED, gates, Wiring::Forward);
+    pair.net.lines.reverse();
+    Case::from("listed backwards", &pair, vec![Gates(gates), Backwards])
+}
+
+/// With this seed tied pins leave few numbers never.
+const FEW_TIED_LOOPS: u64 = 291;
+
+/// The last pin of each gate that has two or more reads the line of its first.
+fn tied(gates: usize) -> Case {
+    let mut pair = random_pair(FEW_TIED_LOOPS, gates, Wiring::Near);
+    let mut tied = 0;
+    for gate in pair.net.lines.iter_mut().filter(|line| line[0] == b"gate") {
+        if let [_, _, _, first, .., last] = &mut gate[..] {
+            last.clone_from(first);
+            tied += 1;
+        }
+    }
+    Case::from("tied pins", &pair, vec![Gates(gates), Tied(tied), Known])
+}
+
+fn built_in_cells(gates: usize) -> Case {
+    let text = built_in();
+    let mut pair = Pair::default();
+    pair.lib.lines = text.lines().map(fields).collect();
+    for head in pair.lib.lines.iter().step_by(ENTRY) {
+        pair.cells.push(CellForm {
+            name: head[1].clone(),
+            pins: usize::from(head[2][0] - b'0'),
+            deep: false,
+        });
+    }
+    add_random(&mut Random::from(SEED), &mut pair, gates, Wiring::Forward);
+    let claims = vec![Gates(gates), BuiltIn, Sweeps([2; 4])];
+    Case::from("built-in cells", &pair, claims)
+}
+
+/// Two analyses and two reports.
+fn ranged(gates: usize) -> Case {
+    let mut pair = random_pair(FEW_LOOPS, gates, Wiring::Near);
+    add_ranges(&mut Random::from(SEED), &mut pair);
+    Case::from("ranges", &pair, vec![Gates(gates), Ranges, Known])
 }
 
 /// From the input to the output: one sweep finds all, the next one changes nothing.
@@ -310,6 +402,10 @@ pub fn all() -> Vec<Case> {
         random(950),
         random_any_order(950),
         loops(950),
+        tied(950),
+        built_in_cells(950),
+        backwards(500),
+        ranged(950),
         inverters(999),
         inverters_backwards(999),
         latch_array(),

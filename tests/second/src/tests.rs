@@ -10,6 +10,7 @@ mod ranges;
 use crate::generate::{groups_of, ladder, ENTRY};
 use crate::netlist::Rules;
 use crate::random::Random;
+use crate::shapes::Call;
 use crate::{analyse, report_into, shapes, Answer};
 
 const ROOM: usize = 65_536;
@@ -121,5 +122,19 @@ fn each_shape_is_what_its_label_says() {
         };
         let untrue = case.untrue(answer, &buffer[..length]);
         assert_eq!(untrue, None, "{}, {} gates", case.label, case.gates());
+    }
+}
+
+/// What the benchmark times of other calls; advice on a large netlist takes this implementation many seconds here.
+#[test]
+fn each_call_is_what_its_label_says() {
+    let mut calls = shapes::called();
+    calls.retain(|called| !matches!(called.call, Call::Advise) || called.case.gates() <= 100);
+    assert!(calls.len() > 7);
+    for called in calls {
+        let table = called.stood();
+        let mut left = called.lent();
+        called.run(&table, &mut left);
+        assert_eq!(called.untrue(&table, &left), None, "{}", called.label);
     }
 }

@@ -4,13 +4,15 @@
 //! counts for neither side.
 //!
 //! Before a shape is timed, both sides must have given the same answer and the same bytes, and the
-//! shape must be what its label says; else the program fails.
+//! shape must be what its label says; else the program fails. Other calls follow in the same way.
 //!
 //! Last, by the archive alone: what an ask for a pad and its commit cost over scoap_report, what a change of library
 //! costs, what steps within a budget cost, and what a pad tried on every line costs.
 
 #[path = "../archive.rs"]
 mod archive;
+#[path = "bench/calls.rs"]
+mod calls;
 #[path = "bench/changes.rs"]
 mod changes;
 
@@ -469,6 +471,8 @@ fn main() -> ExitCode {
     println!();
     let timed = table();
     println!();
+    let called = calls::calls();
+    println!();
     let asked = pads();
     println!();
     let changed = changes::changes();
@@ -476,7 +480,7 @@ fn main() -> ExitCode {
     let stepped = budgets();
     println!();
     let advised = advice();
-    if grown && timed && asked && changed && stepped && advised {
+    if grown && timed && called && asked && changed && stepped && advised {
         ExitCode::SUCCESS
     } else {
         ExitCode::FAILURE
