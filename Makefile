@@ -1,12 +1,14 @@
 # make help says what there is to make. README says how long each takes the first time. What is proved stays proved until
 # its files change.
 
-.PHONY: help run programs test check fuzz bench archive second pads install uninstall tools clean need-rt need-cargo
+.PHONY: help run programs test check fuzz bench archive second pads large install uninstall tools clean need-rt need-cargo
 
 PROGRAMS = scoap scoap_cell scoap_open scoap_plan
 # For make fuzz; without SEED the time gives it.
 SECONDS = 60
 SEED = $(shell date +%s%N)
+# For make large and make pads: the most lines, where they are not the published 1,000.
+LINES =
 # For make install. DESTDIR stands before every path, and PREFIX is what scoap.pc names.
 PREFIX = /usr/local
 DESTDIR =
@@ -19,6 +21,8 @@ INTO = $(DESTDIR)$(PREFIX)
 help:
 	@echo 'make run       proves and builds the programs, and runs scoap on a bundled example, C17'
 	@echo 'make pads      builds target/bin/scoap_pads, from a netlist of a synthesis tool to its pads'
+	@echo '                 LINES=4000 the same over an analyser of that size'
+	@echo 'make large     proves and builds the analyser for more lines, under names of its own: LINES=4000'
 	@echo 'make archive   proves and builds the archive for C, target/staticlib/libscoap_c.a'
 	@echo 'make install   installs programs, header, archive, shared library and scoap.pc'
 	@echo '                 PREFIX=/usr/local DESTDIR= (make uninstall takes them out again)'
@@ -75,11 +79,20 @@ fuzz: second
 	@target/cargo/release/compare --fuzz $(SECONDS) $(SEED)
 
 # The companion, from a chip's netlist to its pads; it links the archive.
+ifneq ($(LINES),)
+pads: need-rt need-cargo
+	@large/build '$(LINES)' --pads
+else
 pads: archive need-cargo
 	@cd pads && cargo build -q --release --offline -j1
 	@mkdir -p target/bin && cp target/pads/release/scoap_pads target/bin/scoap_pads
 	@target/bin/scoap_pads page examples/c17 -o target/c17.html
 	@target/bin/scoap_pads page examples/recorder/decim.json -l examples/recorder/recorder.lib -o target/decim.html
+endif
+
+# The same proofs at a larger size, in a copy of the tree under target/.
+large: need-rt
+	@large/build '$(LINES)'
 
 # The shared library has the archive's calls and no others. scoap_pads is installed where it was built.
 install: programs archive

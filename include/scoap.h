@@ -1,7 +1,7 @@
 /*
  * Goldstein's six numbers for every line of a netlist, for callers in C and C++.
  *
- * Link target/staticlib/libscoap_c.a, which 'rt staticlib scoap_c' builds. No call takes anything from the heap,
+ * Link libscoap_c.a, which 'make archive' builds in target/staticlib. No call takes anything from the heap,
  * and each but scoap_plan takes less than SCOAP_STACK bytes of stack. Nothing is kept from call to call, so that calls
  * may be made from several threads at once, as long as none writes what another reads or writes.
  */
@@ -18,6 +18,9 @@
 extern "C" {
 #endif
 
+/* The most lines of a netlist. */
+#define SCOAP_LINES 1000u
+
 /* The longest text that is read; a longer one is refused with number 2. */
 #define SCOAP_MOST_TEXT 65535u
 
@@ -30,8 +33,7 @@ extern "C" {
 
 /*
  * No report is longer, so that of a netlist without ranges number 17 never comes of a buffer of this length or
- * more: a header of 27 bytes, 1,000 lines with six costs of nine digits at most (63,893 bytes together), and the
- * sweeps in 27.
+ * more: a header of 27 bytes, 1,000 lines with six costs of nine digits at most, and the sweeps.
  */
 #define SCOAP_MOST_REPORT 63947u
 

@@ -3,7 +3,7 @@
 use crate::archive::MOST_PINS;
 use crate::blif::put_clock;
 use crate::cells::{self, Cell, Kind};
-use crate::hub::{Design, Gate, Lines, Source, MOST_NETS, TOO_MANY};
+use crate::hub::{too_many, Design, Gate, Lines, Source, MOST_NETS};
 use crate::messages::Messages;
 use crate::rows::Table;
 use std::collections::HashMap;
@@ -31,7 +31,7 @@ pub fn read(file: &str, text: &str, wanted: &Wanted, messages: &mut Messages) ->
         }
     }
     if reader.design.full() {
-        reader.messages.error(file, TOO_MANY);
+        reader.messages.error(file, too_many());
     }
     let Reader { mut design, nets, clockless, messages, .. } = reader;
     put_clock(&mut design, &clockless, wanted.clock, |name| nets.get(name).copied(), messages);

@@ -2,7 +2,7 @@
 
 use crate::archive::MOST_PINS;
 use crate::cells::{self, Cell, Kind, Op};
-use crate::hub::{Design, Gate, Lines, Source, MOST_NETS, TOO_MANY};
+use crate::hub::{too_many, Design, Gate, Lines, Source, MOST_NETS};
 use crate::messages::Messages;
 use crate::rows::Table;
 use crate::types::{add_gates, Place, Types};
@@ -69,7 +69,7 @@ pub fn read(file: &str, text: &str, wanted: &Wanted, types: &mut Types, messages
     });
     reader.finish_cover();
     if reader.design.full() {
-        reader.messages.error(file, TOO_MANY);
+        reader.messages.error(file, too_many());
     }
     if reader.models == 0 && reader.messages.errors() == 0 {
         reader.messages.error(file, "no .model: is it BLIF?");

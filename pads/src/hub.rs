@@ -1,6 +1,8 @@
 //! The hub that every reader fills: inputs, outputs, gates of one output each, and names.
 
+use crate::archive::MOST_LINES;
 use crate::cells::{Cell, Kind};
+use crate::cost::grouped;
 use crate::messages::Messages;
 use std::rc::Rc;
 
@@ -100,7 +102,10 @@ pub const MOST_GATES: usize = 20_000;
 pub const MOST_NETS: usize = 40_000;
 /// Bytes of all names together.
 pub const MOST_NAME_BYTES: usize = 16 << 20;
-pub const TOO_MANY: &str = "more than 20,000 gates, 40,000 nets or 16 MB of names, the analyser takes 1,000 lines";
+pub fn too_many() -> String {
+    let lines = grouped(MOST_LINES as u64);
+    format!("more than 20,000 gates, 40,000 nets or 16 MB of names, the analyser takes {lines} lines")
+}
 
 /// The texts of a netlist's lines, for messages; none for JSON.
 pub struct Lines<'a> {

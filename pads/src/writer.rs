@@ -159,6 +159,16 @@ pub fn write(design: &mut Design, messages: &mut Messages) -> Result<Texts, Stop
     writer.texts(messages)
 }
 
+/// The most lines for which an analyser can be built, and the way to one that has room, in thousands of lines.
+const LARGEST: usize = 8_191;
+
+fn larger(lines: usize) -> String {
+    if lines > LARGEST {
+        return String::new();
+    }
+    format!(", or build for more lines: make pads LINES={}", lines.next_multiple_of(1_000).min(LARGEST))
+}
+
 impl Writer<'_> {
     fn gate(&mut self, at: usize, messages: &mut Messages) {
         let gate = self.design.gates[at].clone();
@@ -490,10 +500,11 @@ impl Writer<'_> {
                 &file,
                 format!(
                     "{} lines, the analyser takes {}\n  {}\n  what helps: analyse a block by --top (of a netlist that is not \
-                     flattened), map to larger cells",
+                     flattened), map to larger cells{}",
                     grouped(lines as u64),
                     grouped(MOST_LINES as u64),
-                    told.join(", ")
+                    told.join(", "),
+                    larger(lines)
                 ),
             );
         }

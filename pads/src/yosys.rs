@@ -1,7 +1,9 @@
 //! Netlists as Yosys writes them in JSON.
 
+use crate::archive::MOST_LINES;
 use crate::cells::{Cell, Kind};
-use crate::hub::{Design, Lines, Source, MOST_GATES, TOO_MANY};
+use crate::cost::grouped;
+use crate::hub::{too_many, Design, Lines, Source, MOST_GATES};
 use crate::json::{self, Value};
 use crate::messages::Messages;
 use crate::rows::Table;
@@ -165,7 +167,10 @@ impl Reader<'_, '_, '_> {
         }
         let cells = part("cells");
         if cells.len() > MOST_GATES {
-            self.messages.error(self.file, format!("{} cells, the analyser takes 1,000 lines", cells.len()));
+            self.messages.error(
+                self.file,
+                format!("{} cells, the analyser takes {} lines", cells.len(), grouped(MOST_LINES as u64)),
+            );
             return;
         }
         for (name, cell) in cells {
@@ -175,7 +180,7 @@ impl Reader<'_, '_, '_> {
             }
         }
         if self.design.full() {
-            self.messages.error(self.file, TOO_MANY);
+            self.messages.error(self.file, too_many());
         }
         for (_, who, words, more) in std::mem::take(&mut self.unknown) {
             let more = if more > 0 { format!(" and {more} more") } else { String::new() };

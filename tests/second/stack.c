@@ -13,7 +13,7 @@
 
 #include "scoap.h"
 
-#define LIMIT (512u * 1024u)
+#define LIMIT SCOAP_STACK
 /* Of the call that writes out a plan, which goes down as deep as the tree. */
 #define PLAN_LIMIT SCOAP_PLAN_STACK
 /* Far more than the limit, so that a breach is measured rather than met as a crash. */
@@ -39,7 +39,7 @@ static char more[2 * SCOAP_MOST_TEXT];
 static size_t more_length;
 static uint32_t best[SCOAP_BEST];
 /* All lines but one, and what a pad on it leaves. */
-static uint32_t forbidden[999];
+static uint32_t forbidden[SCOAP_LINES - 1];
 static uint32_t ranks[SCOAP_RANKS];
 
 static volatile int entered;
@@ -116,11 +116,11 @@ static void *run(void *unused)
         break;
     case ADVISE:
         answer = scoap_advise((const uint8_t *)lib, lib_length, (const uint8_t *)net, net_length,
-                              forbidden, 999, ranks, 1);
+                              forbidden, SCOAP_LINES - 1, ranks, 1);
         break;
     case RANK:
         answer = scoap_rank((const uint8_t *)lib, lib_length, (const uint8_t *)net, net_length,
-                            forbidden, 999, ranks, SCOAP_RANKS);
+                            forbidden, SCOAP_LINES - 1, ranks, SCOAP_RANKS);
         break;
     }
     entered = 0;
@@ -267,7 +267,7 @@ static void measure_advice(const char *label, unsigned line, unsigned number)
 {
     char text[64];
 
-    for (unsigned at = 0; at < 999; at++) {
+    for (unsigned at = 0; at < SCOAP_LINES - 1; at++) {
         forbidden[at] = at + 1 < line ? at + 1 : at + 2;
     }
     snprintf(text, sizeof text, "%s, advice", label);
@@ -316,37 +316,38 @@ int main(void)
 
     start();
     add_lib(nand2);
-    for (unsigned line = 1; line <= 1000; line++) {
-        snprintf(text, sizeof text, "gate,NAND2,%u,%u,%u\noutput,%u\n", line, line % 1000 + 1,
-                 (line * 7) % 1000 + 1, line);
+    for (unsigned line = 1; line <= SCOAP_LINES; line++) {
+        snprintf(text, sizeof text, "gate,NAND2,%u,%u,%u\noutput,%u\n", line, line % SCOAP_LINES + 1,
+                 (line * 7) % SCOAP_LINES + 1, line);
         add_net(text);
     }
-    measure("1,000 gates in loops", 0);
-    measure_best("1,000 gates in loops", 0);
+    measure("a gate for each line, in loops", 0);
+    measure_best("a gate for each line, in loops", 0);
 
     start();
     add_lib(slow);
     add_net("input,1\n");
-    for (unsigned line = 1000; line > 1; line--) {
+    for (unsigned line = SCOAP_LINES; line > 1; line--) {
         snprintf(text, sizeof text, "gate,SLOW,%u,%u,%u\n", line, line - 1, line);
         add_net(text);
     }
-    add_net("output,1000\n");
-    measure("1,999 sweeps", 0);
-    measure_pad("1,999 sweeps", 500);
-    measure_change("1,999 sweeps");
-    measure_best("1,999 sweeps", 0);
-    measure_advice("1,999 sweeps", 500, 0);
+    snprintf(text, sizeof text, "output,%u\n", SCOAP_LINES);
+    add_net(text);
+    measure("2G + 1 sweeps", 0);
+    measure_pad("2G + 1 sweeps", 500);
+    measure_change("2G + 1 sweeps");
+    measure_best("2G + 1 sweeps", 0);
+    measure_advice("2G + 1 sweeps", 500, 0);
     /* The same at both ends of a range. */
     add_net("range,1,1,999\n");
-    measure("1,999 sweeps, twice", 0);
+    measure("2G + 1 sweeps, twice", 0);
 
     start();
     for (unsigned cell = 0; cell < 15; cell++) {
         full_entry(cell);
     }
     add_net("input,1\noutput,2\n");
-    for (unsigned line = 2; line <= 1000; line++) {
+    for (unsigned line = 2; line <= SCOAP_LINES; line++) {
         snprintf(text, sizeof text, "gate,FULL%u,%u,1,%u,1,1,%u,1,1,1\n", line % 15, line, line - 1,
                  line);
         add_net(text);
@@ -427,13 +428,13 @@ int main(void)
     start();
     add_lib("Name,DEEP,2\nCC,11,5\nCO,201,201\nSC,10,4\nSO,200,200\nEnd\n");
     add_net("input,1\n");
-    for (unsigned line = 2; line <= 1000; line++) {
+    for (unsigned line = 2; line <= SCOAP_LINES; line++) {
         snprintf(text, sizeof text, "gate,DEEP,%u,%u,%u\n", line, line - 1, line);
         add_net(text);
     }
     entry = PLAN;
-    plan = 1000;
-    measure("a plan of 1,999 nodes in a chain", 0);
+    plan = SCOAP_LINES;
+    measure("the deepest plan", 0);
     /* A tree of more nodes than any buffer has bytes ends with the buffer. */
     start();
     add_lib("Name,AND2,2\nCC,21,M,5,13\nCO,205,221\nSC,20,M,4,12\nSO,204,220\nEnd\n");

@@ -100,7 +100,7 @@ static uint64_t plans(const struct text *lib, const struct text *net, struct wri
     unsigned line, value;
 
     memset(w, 7, sizeof *w);
-    for (line = 1; line <= 1000; line += line < 10 ? 1 : 330) {
+    for (line = 1; line <= SCOAP_LINES; line += line < 10 ? 1 : 330) {
         for (value = 0; value < 2; value++) {
             uint64_t answer = scoap_plan(lib->bytes, lib->length, net->bytes, net->length, line, value, value,
                                          w->text, sizeof w->text);
@@ -146,8 +146,8 @@ static void chain(struct text *lib, struct text *net)
     unsigned line;
 
     lib->length = (size_t)sprintf((char *)lib->bytes, "Name,INV,1\nCC,3,5\nCO,41\nSC,2,4\nSO,40\nEnd\n");
-    net->length = (size_t)sprintf((char *)net->bytes, "input,1\noutput,1000\n");
-    for (line = 1000; line > 1; line--)
+    net->length = (size_t)sprintf((char *)net->bytes, "input,1\noutput,%u\n", SCOAP_LINES);
+    for (line = SCOAP_LINES; line > 1; line--)
         net->length += (size_t)sprintf((char *)net->bytes + net->length, "gate,INV,%u,%u\n", line, line - 1);
 }
 

@@ -196,15 +196,23 @@ module _ (q : List ℕ) (queue : Queue q) where
 abbrev none : ℕ
 none = key never 0
 
+-- Over any size, so that no list is written out.
+module _ (n x : ℕ) where
+  least-alike : (i : ℕ) → 2 * i + 1 < n → Least (replicate n x) i
+  unfolding Least
+  least-alike i h = rw (getD-replicate n i x 0 (omega arith), getD-replicate n (2 * i) x 0 (omega arith), getD-replicate n (2 * i + 1) x 0 h) (omega arith)
+
+  cost-alike : (i : ℕ) → Size.leaves + i < n → costAt (replicate n x) i ≡ x / Size.leaves
+  unfolding costAt
+  cost-alike i h = rw (getD-replicate n (Size.leaves + i) x 0 h) refl
+
 pub empty-queue : Empty (replicate Size.queue none)
 empty-queue =
     record {
       queue =
           record {
             size = length-replicate Size.queue none;
-            inner = λ i a b.
-                unfold Least in
-                rw (getD-replicate Size.queue i none 0 (omega arith), getD-replicate Size.queue (2 * i) none 0 (omega arith), getD-replicate Size.queue (2 * i + 1) none 0 (omega arith));
+            inner = λ i a b. least-alike Size.queue none i (omega arith);
             bounded = λ i h. le-of-eq (cost i h);
             own = λ i h l. absurd (omega (arith, cost i h));
           };
@@ -212,4 +220,4 @@ empty-queue =
     }
   where
     cost : (i : ℕ) → i < Size.leaves → costAt (replicate Size.queue none) i ≡ never
-    cost i h = unfold costAt in rw (getD-replicate Size.queue (Size.leaves + i) none 0 (omega arith))
+    cost i h = cost-alike Size.queue none i (omega arith)

@@ -2,7 +2,7 @@
 -- Assumes nothing.
 use mathlib.Core.Bool.{true, false, _&&_}
 use mathlib.Core.List.{List}
-use mathlib.Core.Path.{_≡_, refl, sym, _∙_}
+use mathlib.Core.Path.{_≡_, refl, sym, ap, _∙_}
 use Prim.Native.Nat.{ℕ}
 use lib.ListN.{length, drop, replicate}
 use lib.Seq.{drop-at}
@@ -27,7 +27,7 @@ use Rattle.netlist_table.proofs.Places.{length-netlistWords}
 use Rattle.netlist_text.specs.Reader.{ReadsAs}
 
 held-past : {table : List ℕ} {ss : List Statement} (h : NetlistHolds table ss) → drop Size.netlist table ≡ h .past
-held-past {table} {ss} h = rw (h .words) (drop-at (netlistWords ss) (h .past) Size.netlist (length-netlistWords ss))
+held-past {table} {ss} h = ap (λ (t : List ℕ). drop Size.netlist t) (h .words) ∙ (drop-at (netlistWords ss) (h .past) Size.netlist (length-netlistWords ss))
 
 module _ {cells : List Cell} (rules : Rules) (before : List ℕ) (ss : List Statement) (so : Sound cells ss) (h : NetlistHolds before ss)
     (r : Verdict) (after : List ℕ) where

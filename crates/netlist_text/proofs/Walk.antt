@@ -69,7 +69,7 @@ pub reading-start : (rules : Rules) (cells : List Cell) (text before : List ℕ)
     → Reading rules cells text 0 1 (cleared Size.netlist before) (drop Size.netlist (cleared Size.netlist before))
 unfolding textStatements
 reading-start rules cells text before h =
-    record { statements = []; rest = rw (linesFrom-start text); sound = sound-none cells; held = rw (cleared-past before h) (cleared-empty before h) }
+    record { statements = []; rest = rw (linesFrom-start text); sound = sound-none cells; held = cleared-empty before h ∙ ap (λ (past : List ℕ). netlistWords [] ++ past) (sym (cleared-past before h)) }
 
 module _ {rules : Rules} {cells : List Cell} {text : List ℕ} {at number : ℕ} {table past : List ℕ}
     (so-far : Reading rules cells text at number table past) where

@@ -1,11 +1,9 @@
 -- Figures of document 01 "Netlist" and "Where a text stops", by computation: the NAND2 latch of "Figures to hold" reads to
 -- its statements, and a text for each refusal 10 to 15, and 20 to 22, is refused by its number at its line. Assumes nothing.
-use mathlib.Core.List.{List, [], _∷_, _++_}
+use mathlib.Core.List.{List, [], _∷_}
 use mathlib.Core.Path.{_≡_, refl}
-use Prim.Native.Nat.{ℕ, suc}
-use Rattle.sizes.specs.Sizes as Size
+use Prim.Native.Nat.{ℕ}
 use Rattle.text.specs.Bytes.{bytes, text}
-use Rattle.writer.specs.Decimal.{decimalBytes, decimal-open}
 use Rattle.reading.specs.Refusal.{Read, refused, read}
 use Rattle.library_table.specs.Cells.{plain, Cell}
 use Rattle.netlist_table.specs.declared.Rules.the-variants.{Old, New}
@@ -44,18 +42,14 @@ pub refused-10 : readAll (text ("input,1" ∷ "input,02" ∷ []) ∷ bytes "inpu
 unfolding readAll netlist-open
 refused-10 = refl
 
--- The number past the last line's, and the end of its line of text.
-abbrev pastLast : List ℕ
-pastLast = decimalBytes (suc Size.lines) ++ (10 ∷ [])
-
--- 11: line 0, the line past the last, and a pin far to the right, ahead of 12 and 13.
+-- 11: line 0, line 1,001, and a pin far to the right, ahead of 12 and 13.
 pub refused-11 : readAll
     (text ("input,0" ∷ [])
-    ∷ (text ("output,1" ∷ []) ++ (bytes "output," ++ pastLast))
-    ∷ (bytes "gate,AND2,1,2,3,4,5,6,7,8,9,10," ++ pastLast)
+    ∷ text ("output,1" ∷ "output,1001" ∷ [])
+    ∷ text ("gate,AND2,1,2,3,4,5,6,7,8,9,10,1001" ∷ [])
     ∷ [])
     ≡ refused 11 1 ∷ refused 11 2 ∷ refused 11 1 ∷ []
-unfolding readAll netlist-open decimal-open
+unfolding readAll netlist-open
 refused-11 = refl
 
 pub refused-12 : readAll (text ("input,1" ∷ "gate,AND2,2,1,1" ∷ []) ∷ []) ≡ refused 12 2 ∷ []

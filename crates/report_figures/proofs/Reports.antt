@@ -3,7 +3,7 @@
 -- length. Assumes nothing.
 use mathlib.Core.List.{List, [], _∷_, _++_}
 use mathlib.Core.Path.{_≡_, refl}
-use Prim.Native.Nat.{ℕ, suc, _-_}
+use Prim.Native.Nat.{ℕ, _-_}
 use lib.Dec.{eqb}
 use lib.ListN.{replicate, take, drop}
 use Rattle.sizes.specs.Places.{linePlace}
@@ -84,7 +84,7 @@ short =
     }
 
 long : Given
-long = givenTexts [] (replicate (suc Size.textBytes) 10)
+long = givenTexts [] (replicate 65536 10)
 
 entry-refusals :
     (outcome long short ≡ refused 1 0) ×

@@ -3,6 +3,7 @@
 
 use crate::refusal::{LIBRARY_FORM, PINS_BAD, REPORT_LONG, TEXT_LONG};
 use crate::text::{decimal, fields, name};
+use crate::REFUSED;
 use crate::{Refusal, MOST_BYTES};
 use std::collections::BTreeSet;
 
@@ -167,7 +168,7 @@ fn text_into(made: Result<String, Refusal>, buffer: &mut [u8]) -> u64 {
             if number > TEXT_LONG {
                 buffer.fill(0);
             }
-            u64::from(number) * 1_000_000 + u64::from(line)
+            u64::from(number) * REFUSED + u64::from(line)
         }
     }
 }

@@ -13,6 +13,7 @@ use crate::generate::{
 use crate::grow::{one_row, WORDS};
 use crate::random::Random;
 use crate::sweep::is_wired;
+use crate::REFUSED;
 use crate::{both_read, Counts, MOST_BYTES, MOST_LINES};
 pub use calls::{called, Call, Called, Left};
 use std::collections::HashSet;
@@ -87,7 +88,7 @@ impl Case {
     /// The first claim that does not hold. The answer is in the form of the C entry, with the report
     /// where there is one.
     pub fn untrue(&self, answer: u64, report: &[u8]) -> Option<String> {
-        let refused = answer >= 1_000_000;
+        let refused = answer >= REFUSED;
         let refusal = |claim: &Claim| matches!(claim, RefusedInLastLine);
         if refused != self.claims.iter().any(refusal) {
             return Some(format!("the answer is {answer}"));
@@ -126,7 +127,7 @@ impl Case {
                 let lines = self.net.iter().filter(|&&b| b == b'\n').count();
                 // Numbers from 10 on are those of the netlist.
                 let netlist = (10_000_000..17_000_000).contains(&answer);
-                (!netlist || answer % 1_000_000 != lines as u64)
+                (!netlist || answer % REFUSED != lines as u64)
                     .then(|| format!("the answer is {answer}, the last line {lines}"))
             }
             Tied(count) => {

@@ -12,8 +12,9 @@ use crate::netlist::Rules;
 use crate::random::Random;
 use crate::shapes::Call;
 use crate::{analyse, report_into, shapes, Answer};
+use crate::{MOST_BYTES, REFUSED};
 
-const ROOM: usize = 65_536;
+const ROOM: usize = MOST_BYTES + 1;
 
 fn report(lib: &str, net: &str) -> String {
     match analyse(lib.as_bytes(), net.as_bytes(), ROOM) {
@@ -115,11 +116,7 @@ fn each_shape_is_what_its_label_says() {
     for case in shapes {
         let mut buffer = vec![0; ROOM];
         let answer = report_into(&case.lib, &case.net, &mut buffer);
-        let length = if answer < 1_000_000 {
-            answer as usize
-        } else {
-            0
-        };
+        let length = if answer < REFUSED { answer as usize } else { 0 };
         let untrue = case.untrue(answer, &buffer[..length]);
         assert_eq!(untrue, None, "{}, {} gates", case.label, case.gates());
     }

@@ -1,6 +1,6 @@
 -- `read_lines` walks the lines of the text: the table holds the statements passed. Assumes nothing.
 use mathlib.Core.List.{List}
-use mathlib.Core.Path.{_≡_, refl, ap, _∙_}
+use mathlib.Core.Path.{_≡_, refl, sym, ap, subst, _∙_}
 use Prim.Native.Nat.{ℕ, _+_, _-_, _≤_, _<_}
 use native.Mathlib.Omega.{arith}
 use lib.ListN.{length, drop}
@@ -109,7 +109,9 @@ loop-holds c =
       omega arith,
       omega arith,
       refl,
-      λ cells lib. rw (cleared-front k) (reading-start (a .rules) cells (a .text .now) (a .table .now) (begun k .pre .1)),
+      λ cells lib.
+          subst (λ (t : List ℕ). Reading (a .rules) cells (a .text .now) 0 1 t (drop Size.netlist t)) (sym (cleared-front k))
+          (reading-start (a .rules) cells (a .text .now) (a .table .now) (begun k .pre .1)),
     )
 
 same-length : tie.Need-same-length Inv-loop μ-loop

@@ -21,11 +21,12 @@ use second::budget::{best_into, BEST};
 use second::report_into;
 use second::shapes::{self, Case, SEED};
 use second::standing::{ask_into, OBSERVED, STANDING};
+use second::{MOST_BYTES, MOST_LINES, REFUSED};
 use std::hint::black_box;
 use std::process::ExitCode;
 use std::time::Duration;
 
-const ROOM: usize = 65_536;
+const ROOM: usize = MOST_BYTES + 1;
 const ROUNDS: usize = 11;
 /// A batch of calls takes about so long, so that the clock's own steps don't show.
 const BATCH: Duration = Duration::from_millis(12);
@@ -103,11 +104,7 @@ fn measure(case: &Case) -> Result<Times, String> {
     if buffers[0] != buffers[1] {
         return Err(format!("both answer {answer}, with different bytes"));
     }
-    let length = if answer < 1_000_000 {
-        answer as usize
-    } else {
-        0
-    };
+    let length = if answer < REFUSED { answer as usize } else { 0 };
     let report = &buffers[0][..length];
     if let Some(instead) = case.untrue(answer, report) {
         return Err(format!("not what its label says: {instead}"));
@@ -251,15 +248,15 @@ fn growth() -> bool {
 fn askable(case: &Case, table: &[u32], answer: &mut [u32]) -> Result<Vec<u64>, String> {
     let mut other = vec![0; OBSERVED];
     let mut lines = Vec::new();
-    for line in (1..=1_000).step_by(61) {
+    for line in (1..=MOST_LINES as u64).step_by(61) {
         let said = archive::scoap_ask(&case.lib, &case.net, table, line, answer);
         let wanted = ask_into(&case.lib, &case.net, table, line, &mut other);
-        if said != wanted || (said < 1_000_000 && answer != other) {
+        if said != wanted || (said < REFUSED && answer != other) {
             return Err(format!(
                 "ask {line}: the archive answers {said}, the second {wanted}"
             ));
         }
-        if said < 1_000_000 {
+        if said < REFUSED {
             lines.push(line);
         }
     }

@@ -8,6 +8,7 @@ use crate::low;
 use crate::random::Random;
 use crate::refusal::{LIBRARY_FORM, NETLIST_FORM, TABLE_SHORT, TEXT_LONG, UNDECLARED};
 use crate::sweep::{row_sum, wired_sum, Setting};
+use crate::REFUSED;
 use crate::{MOST_BYTES, OVER};
 
 /// What an entry holds that nobody should have touched.
@@ -21,7 +22,7 @@ fn refused(number: u32, line: u32) -> u64 {
 fn within(lib: &str, net: &str, budget: u64) -> (u64, Vec<u32>) {
     let mut table = vec![KEPT; BEST + 3];
     let steps = best_into(lib.as_bytes(), net.as_bytes(), budget, &mut table);
-    assert!(steps < 1_000_000, "{steps}");
+    assert!(steps < REFUSED, "{steps}");
     assert_eq!(table[BEST..], [KEPT; 3]);
     table.truncate(BEST);
     (steps, table)

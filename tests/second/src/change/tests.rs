@@ -13,8 +13,9 @@ use crate::standing::{
     analysed, ask_into, commit_into, observed, stand_into, OBSERVED, PADS_AT, STANDING_NUMBERS,
 };
 use crate::NEVER;
+use crate::REFUSED;
 
-const ROOM: usize = 2 * 65_536;
+const ROOM: usize = 2 * (MOST_BYTES + 1);
 /// What stands past the table, and must not be touched.
 const PAST: [u32; 3] = [77, 78, 79];
 
@@ -42,7 +43,7 @@ impl Held {
         let mut table = vec![0; STANDING];
         table.extend(PAST);
         let answer = stand_into(lib, net, &mut table, &mut vec![0; ROOM]);
-        assert!(answer < 1_000_000, "{answer}");
+        assert!(answer < REFUSED, "{answer}");
         Held {
             lib: lib.to_vec(),
             net: net.to_vec(),
@@ -75,7 +76,7 @@ impl Held {
         let before = self.table.clone();
         let said = change_into(&self.lib, lib, &self.net, &mut self.table);
         assert_eq!(self.table[STANDING..], PAST);
-        if said >= 1_000_000 {
+        if said >= REFUSED {
             assert_eq!(self.table, before);
             return said;
         }
@@ -452,7 +453,7 @@ fn foreign_tables() {
         }
         let before = table.clone();
         let said = change_into(&fresh.lib, lib.as_bytes(), &fresh.net, &mut table);
-        if said >= 1_000_000 {
+        if said >= REFUSED {
             assert_eq!(table, before);
         }
         (said, table)
@@ -590,7 +591,7 @@ fn lists_of_asks_commits_and_changes() {
             let standing = held.counts()[..2].to_vec();
             let count = u64::from(held.table[0]);
             let said = commit_into(&held.lib, &held.net, &mut held.table, line, count);
-            if said < 1_000_000 {
+            if said < REFUSED {
                 across += 1;
                 let anew = analysed(&held.lib, &held.net, held.pads()).unwrap();
                 assert_eq!(held.table[PADS_AT..STANDING], anew[PADS_AT..]);
@@ -621,7 +622,7 @@ fn step(
     };
     let lib = String::from_utf8_lossy(&change.lib);
     assert_eq!(said, wanted, "{:?}: {lib}", change.kind);
-    if said < 1_000_000 {
+    if said < REFUSED {
         *made = change.pair;
         let gates = made.net.lines.iter().filter(|line| line[0] == b"gate");
         let gates = gates.count() as u32;

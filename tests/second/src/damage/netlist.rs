@@ -4,6 +4,7 @@ use super::{bad_field, non_zero, place_of, take};
 use crate::generate::{fields, fresh_name, Fields, Pair};
 use crate::random::Random;
 use crate::refusal::*;
+use crate::MOST_LINES;
 
 /// Bad form of one line of a netlist.
 pub(super) fn bad_net_line(rng: &mut Random, line: &mut Fields) {
@@ -62,9 +63,9 @@ pub(super) fn bad_line_number(rng: &mut Random, line: &mut Fields) {
     };
     line[at] = match rng.below(6) {
         0 | 1 => b"0".to_vec(),
-        2 | 3 => b"1001".to_vec(),
+        2 | 3 => (MOST_LINES + 1).to_string().into_bytes(),
         4 => b"99999".to_vec(),
-        _ => rng.within(1_001, 99_999).to_string().into_bytes(),
+        _ => rng.within(MOST_LINES + 1, 99_999).to_string().into_bytes(),
     };
 }
 
@@ -120,7 +121,7 @@ pub(super) fn undeclared(rng: &mut Random, pair: &mut Pair) -> Option<()> {
                 .any(|line| line[0] == b"output" && line.get(1) == Some(number))
     };
     let number = (0..20)
-        .map(|_| rng.within(1, 1_000).to_string().into_bytes())
+        .map(|_| rng.within(1, MOST_LINES).to_string().into_bytes())
         .find(free)?;
     let at = rng.within(0, lines.len());
     pair.net.lines.insert(at, vec![b"output".to_vec(), number]);
@@ -141,8 +142,8 @@ pub(super) fn one_gate_line(rng: &mut Random, pair: &mut Pair, lowest: &mut u32)
     let cell = rng.pick(&pair.cells).clone();
     let again = take(rng, lowest, DRIVEN_BEFORE, false);
     let driven: Vec<&Vec<u8>> = pair.net.lines.iter().filter_map(driven_line).collect();
-    let number = (1..=1_000)
-        .map(|number: u32| number.to_string().into_bytes())
+    let number = (1..=MOST_LINES)
+        .map(|number| number.to_string().into_bytes())
         .find(|number| driven.contains(&number) == again)?;
     let mut line = vec![b"gate".to_vec(), cell.name, number.clone()];
     line.resize(3 + cell.pins, number);

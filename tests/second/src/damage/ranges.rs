@@ -5,6 +5,7 @@ use super::{place_of, take};
 use crate::generate::{bounds, range_line, Pair};
 use crate::random::Random;
 use crate::refusal::*;
+use crate::MOST_LINES;
 
 /// A line that no input marks above a place, in range: another line, or one whose input comes later.
 fn unmarked(rng: &mut Random, pair: &Pair, at: usize) -> Option<Vec<u8>> {
@@ -19,7 +20,7 @@ fn unmarked(rng: &mut Random, pair: &Pair, at: usize) -> Option<Vec<u8>> {
         .iter()
         .filter(|line| line[0] == b"input")
         .map(|line| line[1].clone());
-    let number = |rng: &mut Random| rng.within(1, 1_000).to_string().into_bytes();
+    let number = |rng: &mut Random| rng.within(1, MOST_LINES).to_string().into_bytes();
     let any: Vec<Vec<u8>> = (0..20).map(|_| number(rng)).collect();
     let mut found = Vec::new();
     found.extend(near.filter(|_| rng.once_in(2)));
@@ -29,7 +30,7 @@ fn unmarked(rng: &mut Random, pair: &Pair, at: usize) -> Option<Vec<u8>> {
         let digits = std::str::from_utf8(number)
             .ok()
             .and_then(|text| text.parse().ok());
-        digits.is_some_and(|line: u32| (1..=1_000).contains(&line)) && !marked(number)
+        digits.is_some_and(|line: u32| (1..=MOST_LINES as u32).contains(&line)) && !marked(number)
     })
 }
 

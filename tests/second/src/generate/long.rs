@@ -57,11 +57,11 @@ pub fn netlist_of(rng: &mut Random, bytes: usize) -> Pair {
         scattered: false,
     };
     add_netlist(rng, &mut pair, &shape);
-    // Only pins on line 1,000 make a text so long; it changes places with line 1, an input.
+    // Only pins on the last line make a text so long; it changes places with line 1, an input.
     for field in pair.net.lines.iter_mut().flatten() {
         if field == b"1" {
-            *field = b"1000".to_vec();
-        } else if field == b"1000" {
+            *field = MOST_LINES.to_string().into_bytes();
+        } else if *field == MOST_LINES.to_string().into_bytes() {
             *field = b"1".to_vec();
         }
     }
@@ -75,7 +75,7 @@ pub fn netlist_of(rng: &mut Random, bytes: usize) -> Pair {
     {
         if length <= bytes {
             length += 4 - pin.len();
-            *pin = b"1000".to_vec();
+            *pin = MOST_LINES.to_string().into_bytes();
         }
     }
     // Whole output marks first, then single digits of pins.

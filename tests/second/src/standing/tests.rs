@@ -7,8 +7,9 @@ use crate::generate::{add_ranges, ladder, pair, Pair};
 use crate::random::Random;
 use crate::refusal::{LIBRARY_FORM, NETLIST_FORM, REPORT_LONG, TEXT_LONG};
 use crate::MOST_BYTES;
+use crate::REFUSED;
 
-const ROOM: usize = 2 * 65_536;
+const ROOM: usize = 2 * (MOST_BYTES + 1);
 /// What an entry holds that nobody should have touched.
 const KEPT: u32 = 77;
 
@@ -28,7 +29,7 @@ impl Held {
     fn of(lib: &[u8], net: &[u8]) -> Self {
         let mut table = vec![KEPT; STANDING];
         let answer = stand_into(lib, net, &mut table, &mut vec![0; ROOM]);
-        assert!(answer < 1_000_000, "{answer}");
+        assert!(answer < REFUSED, "{answer}");
         Held {
             lib: lib.to_vec(),
             net: net.to_vec(),
@@ -44,7 +45,7 @@ impl Held {
     fn ask(&self, line: u64) -> (u64, Vec<u32>) {
         let mut answer = vec![KEPT; OBSERVED + 3];
         let said = ask_into(&self.lib, &self.net, &self.table, line, &mut answer);
-        let kept = if said < 1_000_000 { OBSERVED } else { 0 };
+        let kept = if said < REFUSED { OBSERVED } else { 0 };
         assert!(answer[kept..].iter().all(|&number| number == KEPT));
         answer.truncate(kept);
         (said, answer)
@@ -54,7 +55,7 @@ impl Held {
     fn commit(&mut self, line: u64, count: u64) -> u64 {
         let before = self.table.clone();
         let said = commit_into(&self.lib, &self.net, &mut self.table, line, count);
-        assert_eq!(said < 1_000_000, self.table != before);
+        assert_eq!(said < REFUSED, self.table != before);
         said
     }
 
@@ -181,7 +182,7 @@ fn refusals_of_the_texts() {
         (&b"x\n"[..], net, LIBRARY_FORM),
         (lib, &b"x\n"[..], NETLIST_FORM),
     ] {
-        let code = u64::from(number) * 1_000_000 + 1;
+        let code = u64::from(number) * REFUSED + 1;
         let mut longer = held.table.clone();
         longer.extend([KEPT; 3]);
         let kept = longer.clone();
@@ -284,7 +285,7 @@ fn list(rng: &mut Random, made: &Pair) -> usize {
     for _ in 0..12 {
         let line = *rng.pick(&lines);
         let (count, answer) = held.ask(line);
-        if count >= 1_000_000 {
+        if count >= REFUSED {
             assert_eq!(count, refused(UNPADDABLE));
             assert_eq!(held.commit(line, pads.len() as u64), count);
             continue;

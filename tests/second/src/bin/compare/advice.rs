@@ -14,6 +14,7 @@ use second::generate::{add_ranges, doubled, ladder, pair, Pair};
 use second::random::Random;
 use second::refusal::TABLE_SHORT;
 use second::shapes;
+use second::REFUSED;
 use second::{Cost, LARGEST, MOST_LINES, NEVER, OVER};
 
 /// Random netlists, each with a list of forbidden lines.
@@ -363,7 +364,7 @@ fn beside(
     }
     let said = call.check(all, "short slice", &short);
     tally.note(said.kind(), true);
-    let meant = u64::from(TABLE_SHORT) * 1_000_000;
+    let meant = u64::from(TABLE_SHORT) * REFUSED;
     let problem = (said.answer != meant).then(|| answer_of(said.answer));
     all.verdict_on("short slice", &short, problem);
     let mut bad = question.lending(call);

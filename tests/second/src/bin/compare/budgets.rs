@@ -13,6 +13,7 @@ use second::kept::Case;
 use second::random::Random;
 use second::refusal::TABLE_SHORT;
 use second::standing::{analysed, COSTS, STANDING, STANDING_NUMBERS};
+use second::REFUSED;
 use second::{Cost, LARGEST, MOST_LINES, NEVER, OVER};
 
 /// Random netlists, each at some budgets.
@@ -256,7 +257,7 @@ fn beside(all: &mut Comparison, rng: &mut Random, tally: &mut Tally, made: &Pair
     }
     let said = check(all, "short slice", &short, budget);
     tally.note(said.kind(), true);
-    let meant = u64::from(TABLE_SHORT) * 1_000_000;
+    let meant = u64::from(TABLE_SHORT) * REFUSED;
     let problem = (said.answer != meant).then(|| format!("{} is answered", said.answer));
     all.verdict_on("short slice", &short, problem);
     let mut bad = lent.clone();
@@ -300,10 +301,11 @@ fn fixed(all: &mut Comparison) {
     let inputs: String = (1..=MOST_LINES)
         .map(|line| format!("input,{line}\n"))
         .collect();
-    let edges = [0, 1_999, 2_000, 2_001, u64::MAX];
+    let values = 2 * MOST_LINES as u64;
+    let edges = [0, values - 1, values, values + 1, u64::MAX];
     ascending(all, "a thousand inputs", &lending("", &inputs), &edges);
     let gates = MOST_LINES - 1;
-    let budgets = [0, 100, 1_000, 1_999, u64::MAX];
+    let budgets = [0, 100, values / 2, values - 1, u64::MAX];
     for (label, lib, net) in [
         ("full rows", full_cell(), full_chain(60)),
         ("2G + 1 sweeps", SLOW.to_string(), slow_chain(gates)),

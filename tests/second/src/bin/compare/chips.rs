@@ -6,6 +6,7 @@ use second::chip::Chip;
 use second::damage::scramble;
 use second::generate::{add_ranges, pair};
 use second::random::Random;
+use second::REFUSED;
 
 /// Random netlists of truth tables, tried at every setting of their inputs.
 const CHIPS: usize = 4_000;
@@ -25,7 +26,7 @@ pub fn at_every_setting(all: &mut Comparison, rng: &mut Random, tree: bool, show
     all.check("chip", &lib, &net, ROOM, None);
     let mut buffer = vec![0; ROOM];
     let answer = archive::scoap_report(&lib, &net, &mut buffer);
-    let length = if answer < 1_000_000 { answer } else { 0 };
+    let length = if answer < REFUSED { answer } else { 0 };
     let report = String::from_utf8_lossy(&buffer[..length as usize]).into_owned();
     let read_once = chip.read_once();
     let qualified = all.check_qualifies("chip", &lib, &net);

@@ -6,11 +6,12 @@ use crate::lent::{canary, Lent};
 use crate::watched::Watched;
 use second::kept::Case;
 use second::{analyse, plan_into, qualifies_code, report_into, Answer, Refusal, MOST_LINES};
+use second::{MOST_BYTES, REFUSED};
 
 /// Every answer must come up at least so often among the random pairs.
 const AT_LEAST: u64 = 100;
 /// The buffer that the program itself lends.
-pub const ROOM: usize = 65_536;
+pub const ROOM: usize = MOST_BYTES + 1;
 /// Failures told in full.
 const TOLD: u64 = 10;
 
@@ -31,7 +32,7 @@ const SHOWN: [(&str, [u64; 2]); 6] = [
     ("more than 3 sweeps", [AT_LEAST, 1_000]),
     ("more than 100 sweeps", [10, 50]),
     ("more sweeps than lines", [0, AT_LEAST]),
-    ("1,000 lines", [10, 10]),
+    ("as many lines as there may be", [10, 10]),
 ];
 
 pub struct Comparison {
@@ -56,14 +57,10 @@ pub struct Comparison {
 }
 
 pub fn answer_of(answer: u64) -> String {
-    if answer < 1_000_000 {
+    if answer < REFUSED {
         format!("accepted, {answer}")
     } else {
-        format!(
-            "refused, {}, line {}",
-            answer / 1_000_000,
-            answer % 1_000_000
-        )
+        format!("refused, {}, line {}", answer / REFUSED, answer % REFUSED)
     }
 }
 
@@ -86,7 +83,7 @@ impl Comparison {
 
     /// Counts a call's answer.
     pub fn answered(&mut self, answer: u64) {
-        let number = (answer / 1_000_000) as usize;
+        let number = (answer / REFUSED) as usize;
         if let Some(count) = self.met.get_mut(number) {
             *count += 1;
         }
@@ -160,12 +157,12 @@ impl Comparison {
 
         self.answered(answer);
         self.watch(lib, net, answer == room as u64, false, false);
-        self.answers[if answer < 1_000_000 {
+        self.answers[if answer < REFUSED {
             0
         } else {
-            (answer / 1_000_000).min(HIGHEST as u64) as usize
+            (answer / REFUSED).min(HIGHEST as u64) as usize
         }] += 1;
-        if answer < 1_000_000 && answer <= room as u64 {
+        if answer < REFUSED && answer <= room as u64 {
             self.note(&got.inner()[..answer as usize]);
         }
         let problem = if answer != expected {
@@ -285,8 +282,8 @@ impl Comparison {
                 for kind in [0, 1] {
                     let asked = [line, value, kind];
                     let answer = self.check_plan(label, [lib, net], asked, 4_000);
-                    self.plans[usize::from(answer >= 1_000_000)] += 1;
-                    if answer < 1_000_000 {
+                    self.plans[usize::from(answer >= REFUSED)] += 1;
+                    if answer < REFUSED {
                         self.check_plan(label, [lib, net], asked, answer as usize);
                         self.check_plan(label, [lib, net], asked, answer as usize - 1);
                     }
@@ -329,7 +326,7 @@ impl Comparison {
             most > 3,
             most > 100,
             most as usize > lines,
-            lines == 1_000,
+            lines == MOST_LINES,
         ];
         for (count, shown) in self.shown.iter_mut().zip(shows) {
             *count += u64::from(shown);
@@ -354,7 +351,7 @@ impl Comparison {
                     self.check(label, lib, net, room, known);
                 }
                 for room in [0, 1, length / 2, length - 1] {
-                    self.check(label, lib, net, room, Some(17_000_000));
+                    self.check(label, lib, net, room, Some(17 * REFUSED));
                 }
             }
             Answer::Refused { number, line } => {

@@ -7,6 +7,7 @@ use second::generate::{
 };
 use second::random::Random;
 use second::MOST_BYTES;
+use second::MOST_LINES;
 
 pub fn figures(all: &mut Comparison) {
     all.figure("C1130", C1130, C1130_NET, C1130_REPORT);
@@ -44,7 +45,7 @@ pub fn figures(all: &mut Comparison) {
     all.costs("28 of both values", &both, &doubling("AND2", 28), &known);
     let known = [(30, 0, text("30")), (30, 1, text("over"))];
     all.costs("29 of both values", &both, &doubling("AND2", 29), &known);
-    for gates in [1, 2, 3, 10, 27, 30, 31, 40, 999] {
+    for gates in [1, 2, 3, 10, 27, 30, 31, 40, MOST_LINES - 1] {
         for (cell, lib) in [("AND2", AND2), ("NAND2", NAND2)] {
             all.costs(&format!("{gates} {cell}"), lib, &doubling(cell, gates), &[]);
         }
@@ -86,7 +87,7 @@ pub fn figures(all: &mut Comparison) {
             &known,
         );
     }
-    for gates in [1, 2, 5, 100, 999] {
+    for gates in [1, 2, 5, 100, MOST_LINES - 1] {
         let most = [2 * gates + 1, 2 * gates + 1, gates + 1, gates + 1];
         let known: Vec<_> = (0..4)
             .map(|column| (0, column, most[column].to_string()))
@@ -209,9 +210,9 @@ pub fn largest(all: &mut Comparison, rng: &mut Random) {
                     add_cells(rng, &mut most, cells, style);
                     let shape = Shape {
                         inputs,
-                        gates: 1_000 - inputs,
+                        gates: MOST_LINES - inputs,
                         undriven: 0,
-                        outputs: rng.within(1, 1_000),
+                        outputs: rng.within(1, MOST_LINES),
                         wiring,
                         order,
                         scattered: false,

@@ -7,6 +7,7 @@ use second::generate::Pair;
 use second::kept::Case;
 use second::random::Random;
 use second::refusal::{TABLE_SHORT, TEXT_LONG};
+use second::REFUSED;
 
 /// The texts, numbers that a call only reads, and how many it may write.
 #[derive(Clone)]
@@ -35,12 +36,12 @@ pub struct Said {
 
 impl Said {
     pub fn accepted(&self) -> bool {
-        self.answer < 1_000_000
+        self.answer < REFUSED
     }
 
     /// Acceptance, 1, 2, or a refusal of the texts.
     pub fn kind(&self) -> &'static str {
-        match (self.answer / 1_000_000) as u32 {
+        match (self.answer / REFUSED) as u32 {
             0 => "accepted",
             TABLE_SHORT => "refused 1",
             TEXT_LONG => "refused 2",

@@ -142,7 +142,7 @@ fn fixed(lists: &mut Lists) {
         let said = list.ask(lists, "a thousand pads", 1);
         let problem = (said != refused(UNPADDABLE)).then(|| answer_of(said));
         lists.all.verdict("a thousand pads", problem);
-        list.commit(lists, "a thousand pads", 1, 1_000);
+        list.commit(lists, "a thousand pads", 1, MOST_LINES as u64);
     }
 }
 

@@ -5,6 +5,7 @@ use crate::extent::PAIRS;
 use second::damage::{any_damage, babble, one_line, overlong, scramble};
 use second::generate::{add_ranges, ladder, pair};
 use second::random::Random;
+use second::MOST_LINES;
 use second::{analyse, Answer, Refusal, MOST_BYTES};
 
 /// Random ladders, besides those of chosen sizes.
@@ -16,7 +17,7 @@ pub fn random(all: &mut Comparison, rng: &mut Random) {
         0..=119 => 8,
         120..=179 => 40,
         180..=196 => 200,
-        _ => 1_000,
+        _ => MOST_LINES,
     };
     let mut made = pair(rng, gates);
     if rng.once_in(4) {
@@ -122,7 +123,20 @@ pub fn random(all: &mut Comparison, rng: &mut Random) {
 pub fn ladders(all: &mut Comparison, rng: &mut Random) {
     let mut sizes = all.extent.random();
     let count = all.extent.count(LADDERS);
-    for gates in [63, 64, 65, 127, 128, 129, 960, 961, 998, 999, 999, 999] {
+    for gates in [
+        63,
+        64,
+        65,
+        127,
+        128,
+        129,
+        960,
+        961,
+        MOST_LINES - 2,
+        MOST_LINES - 1,
+        MOST_LINES - 1,
+        MOST_LINES - 1,
+    ] {
         for _ in 0..4 {
             ladder_of(all, rng, gates);
         }
@@ -137,7 +151,7 @@ pub fn any_size(sizes: &mut Random) -> usize {
     match sizes.below(200) {
         0..=159 => sizes.within(1, 40),
         160..=197 => sizes.within(41, 200),
-        _ => sizes.within(201, 999),
+        _ => sizes.within(201, MOST_LINES - 1),
     }
 }
 

@@ -4,6 +4,7 @@ use crate::comparison::Comparison;
 use second::figures::*;
 use second::generate::{add_ranges, ladder, pair};
 use second::random::Random;
+use second::{MOST_TOLD, REFUSED};
 
 /// Random ladders whose plans are written out.
 const PLAN_PAIRS: usize = 300;
@@ -64,18 +65,18 @@ pub fn plans(all: &mut Comparison, rng: &mut Random) {
 /// Plans as long as the number tells, and longer: 19 then, however long the buffer is, and never a length that reads as
 /// a refusal.
 fn long_plans(all: &mut Comparison) {
-    let long = 19_000_000;
+    let long = 19 * REFUSED;
     // A row of both values, so that both pins are paid and written out: the text has 3,014,134 bytes.
     let both = AND2.replace("CC,21,M,5,13", "CC,21,M,7,M,5,13");
     let net = doubling("AND2", 17);
     let mut cases = vec![(both, net, 18, 4_000_000, long)];
     for (length, room, expected) in [
-        (999_999, 4_000_000, 999_999),
-        (999_999, 999_999, 999_999),
-        (999_999, 999_998, long),
-        (1_000_000, 999_999, long),
-        (1_000_000, 1_000_000, long),
-        (1_000_000, 4_000_000, long),
+        (MOST_TOLD, 4 * MOST_TOLD, MOST_TOLD as u64),
+        (MOST_TOLD, MOST_TOLD, MOST_TOLD as u64),
+        (MOST_TOLD, MOST_TOLD - 1, long),
+        (MOST_TOLD + 1, MOST_TOLD, long),
+        (MOST_TOLD + 1, MOST_TOLD + 1, long),
+        (MOST_TOLD + 1, 4 * MOST_TOLD, long),
     ] {
         let (net, top) = plan_of_length(length);
         cases.push((WIDE.to_string(), net, top, room, expected));

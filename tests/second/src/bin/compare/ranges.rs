@@ -5,6 +5,7 @@ use crate::comparison::{Comparison, ROOM};
 use second::between::{at_some_prices, between, parts};
 use second::generate::{add_ranges, ladder, pair};
 use second::random::Random;
+use second::REFUSED;
 
 /// Random pairs with ranges, each tried at prices within them so many times.
 const RANGED: usize = 2_400;
@@ -72,10 +73,6 @@ fn reports(all: &mut Comparison, lib: &[u8], net: &[u8]) -> Vec<u8> {
     all.check("ranges", lib, net, 2 * ROOM, None);
     let mut buffer = vec![0; 2 * ROOM];
     let answer = archive::scoap_report(lib, net, &mut buffer);
-    buffer.truncate(if answer < 1_000_000 {
-        answer as usize
-    } else {
-        0
-    });
+    buffer.truncate(if answer < REFUSED { answer as usize } else { 0 });
     buffer
 }

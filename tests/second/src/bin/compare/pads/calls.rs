@@ -7,7 +7,7 @@ use second::kept::Case;
 use second::standing::{ask_into, commit_into, stand_into};
 
 /// Answers from here on are refusals.
-pub const REFUSED: u64 = 1_000_000;
+pub use second::REFUSED;
 
 /// All that a call may read or write.
 #[derive(Clone)]

@@ -18,7 +18,7 @@ fn any_number(rng: &mut Random) -> u32 {
 /// Makes a table into one that no analysis of its texts left, or that only looks like one.
 pub fn foreign_table(rng: &mut Random, table: &mut [u32], lines: &[u64], other: &[u32]) {
     let any_pad = |rng: &mut Random| match rng.below(6) {
-        0 => *rng.pick(&[0, 1_001, u32::MAX, 65_537]),
+        0 => *rng.pick(&[0, MOST_LINES as u32 + 1, u32::MAX, 65_537]),
         1 => rng.within(1, MOST_LINES) as u32,
         _ if lines.is_empty() => 1,
         _ => *rng.pick(lines) as u32,
@@ -49,8 +49,8 @@ pub fn foreign_table(rng: &mut Random, table: &mut [u32], lines: &[u64], other: 
             table[0] = *rng.pick(&[
                 table[0] + 1,
                 table[0].saturating_sub(1),
-                1_000,
-                1_001,
+                MOST_LINES as u32,
+                MOST_LINES as u32 + 1,
                 u32::MAX,
             ])
         }

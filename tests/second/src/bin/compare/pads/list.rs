@@ -162,7 +162,12 @@ impl List {
             }
             6 => (
                 self.any_line(rng),
-                *rng.pick(&[self.count() + 1, self.count() + (1 << 32), u64::MAX, 1_000]),
+                *rng.pick(&[
+                    self.count() + 1,
+                    self.count() + (1 << 32),
+                    u64::MAX,
+                    MOST_LINES as u64,
+                ]),
             ),
             _ => (self.any_line(rng), self.count().saturating_sub(1)),
         }
@@ -245,7 +250,7 @@ impl List {
             // An accepted answer is never taken for a refusal, and the next call goes on from it.
             lists.all.verdict(
                 "foreign table",
-                (said.answer > 1_000).then(|| format!("{} pads", said.answer)),
+                (said.answer > MOST_LINES as u64).then(|| format!("{} pads", said.answer)),
             );
             lending.table = said.table;
         }
