@@ -146,8 +146,12 @@ module _ (t : List ℕ) (pads : ℕ) (few : pads ≤ Size.pads) (long : Size.sta
       whole₂ : t₂ ≡ take Size.padsAt t ++ rest
       whole₂ =
           e₂
-          ∙ rw (whole₁, take-at front (drop Size.standingNumbers t) Size.standingNumbers front-length, drop-at front (drop Size.standingNumbers t) Size.standingNumbers front-length, drop-drop Size.numbers Size.standingNumbers t)
-          (append-assoc (take Size.padsAt t) (fitted 0 Size.pads stood) (numbers ++ drop Size.standing t))
+          ∙ ap (λ (x : List ℕ). take Size.standingNumbers x ++ (numbers ++ drop Size.numbers (drop Size.standingNumbers x))) whole₁
+          ∙ ap₂ (λ (x y : List ℕ). x ++ (numbers ++ drop Size.numbers y))
+          (take-at front (drop Size.standingNumbers t) Size.standingNumbers front-length)
+          (drop-at front (drop Size.standingNumbers t) Size.standingNumbers front-length)
+          ∙ ap (λ (y : List ℕ). front ++ (numbers ++ y)) (drop-drop Size.numbers Size.standingNumbers t)
+          ∙ append-assoc (take Size.padsAt t) (fitted 0 Size.pads stood) (numbers ++ drop Size.standing t)
 
 -- One pad more behind the others, with the numbers and counts that were found.
 module _ (before : List ℕ) (pads l : ℕ) (few : pads < Size.pads) (long : Size.standing ≤ length before) where

@@ -419,6 +419,19 @@ pub fn all() -> Vec<Case> {
     ]
 }
 
+/// Those by which larger analysers are compared, each with so many lines.
+pub fn sized(lines: usize) -> Vec<Case> {
+    // A ninth as many inputs as gates.
+    let gates = lines * 9 / 10;
+    let pair = random_pair(FEW_LOOPS, gates, Wiring::Near);
+    vec![
+        Case::from("random", &pair, vec![Gates(gates)]),
+        Case::from("the same, any order", &any_order(pair), vec![Gates(gates)]),
+        inverters(lines - 1),
+        slow(lines - 1),
+    ]
+}
+
 /// Those whose values are settled step by step, the heaviest last.
 pub fn stepped() -> Vec<Case> {
     vec![

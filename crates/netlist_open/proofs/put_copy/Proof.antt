@@ -1,8 +1,11 @@
 -- `put_copy` puts the copy, or the refusal, into the buffer. Assumes nothing.
+use mathlib.Core.Path.{_≡_}
 use native.Mathlib.Omega.{arith}
 use denote.Ref.{now}
+use lib.ListN.{length}
 use Rattle.sizes.specs.Sizes as Size
 use Rattle.analysis_texts.proofs.Own.{zeros-cleared}
+use Rattle.netlist_open.specs.Copied.{copyBytes}
 use Rattle.netlist_open.proofs.Opens.{put-refused, put-accepted, at-entry, later, both-old}
 use borrow.Author.Needs.{needs}
 use Rattle.netlist_open.proofs.put_copy.Statement.{statement}
@@ -32,11 +35,14 @@ returns-2 c =
     put-refused (now (a .lib)) (now (a .net)) (now (a .copy)) (search needs) _ (c .put-refusal2 .result) told
     (later (now (a .lib)) (now (a .net)) _ _ (k .read-texts .result) (k .read-texts .ensures) told (search needs)) (c .put-refusal2 .ensures)
 
+room : (c : tie.After-put-declared-arg) → copyBytes ≡ length (now (begins (reads (c .before .before .before)) .args .copy))
+room c = search needs
+
 returns-3 : tie.Need-returns-3
 returns-3 c =
     let k = reads (c .before .before .before .before .before) in
     let a = begins k .args in
-    put-accepted (now (a .lib)) (now (a .net)) (now (a .copy)) (search needs) _ (c .put-declared .result) _
+    put-accepted (now (a .lib)) (now (a .net)) (now (a .copy)) (room (c .before .before)) _ (c .put-declared .result) _
     (both-old (now (a .lib)) (now (a .net)) _ _ (k .read-texts .result) (k .read-texts .ensures) (search needs)) (c .put-declared .ensures)
 
 pub put-copy-spec : {M : Type 1} → statement M

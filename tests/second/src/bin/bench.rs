@@ -6,6 +6,8 @@
 //! Before a shape is timed, both sides must have given the same answer and the same bytes, and the
 //! shape must be what its label says; else the program fails. Other calls follow in the same way.
 //!
+//! With --sizes: shapes of 1,000 to 8,000 lines instead, as far as the analyser takes them.
+//!
 //! Last, by the archive alone: what an ask for a pad and its commit cost over scoap_report, what a change of library
 //! costs, what steps within a budget cost, and what a pad tried on every line costs.
 
@@ -244,6 +246,40 @@ fn growth() -> bool {
     sound
 }
 
+/// The same shapes at a thousand lines, at twice, four times and eight times as many, as far as this analyser takes them.
+fn sizes() -> bool {
+    println!(
+        "{:<27} {:>6} {:<20} {:>11} {:>11} {:>7}",
+        "shape", "lines", "sweeps CC,SC,CO,SO", "archive", "second", "ratio"
+    );
+    let sizes = [1_000, 2_000, 4_000, 8_000]
+        .map(|lines| (lines <= MOST_LINES).then(|| shapes::sized(lines)));
+    let mut sound = true;
+    for at in 0..4 {
+        for (lines, cases) in [1_000, 2_000, 4_000, 8_000].into_iter().zip(&sizes) {
+            let Some(case) = cases.as_ref().map(|cases| &cases[at]) else {
+                continue;
+            };
+            match measure(case) {
+                Ok(Times {
+                    archive,
+                    second,
+                    sweeps,
+                }) => println!(
+                    "{:<27} {lines:>6} {sweeps:<20} {archive:>11.1} {second:>11.1} {:>7.4}",
+                    case.label,
+                    archive / second
+                ),
+                Err(problem) => {
+                    failed(case, &problem);
+                    sound = false;
+                }
+            }
+        }
+    }
+    sound
+}
+
 /// Some lines that an ask accepts, spread over the netlist.
 fn askable(case: &Case, table: &[u32], answer: &mut [u32]) -> Result<Vec<u64>, String> {
     let mut other = vec![0; OBSERVED];
@@ -464,6 +500,13 @@ fn main() -> ExitCode {
         LONG.as_secs()
     );
     println!();
+    if std::env::args().nth(1).as_deref() == Some("--sizes") {
+        return if sizes() {
+            ExitCode::SUCCESS
+        } else {
+            ExitCode::FAILURE
+        };
+    }
     let grown = growth();
     println!();
     let timed = table();
