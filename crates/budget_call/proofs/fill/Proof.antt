@@ -1,5 +1,5 @@
 -- `fill`: the run, its last cost, and the words of all values. Assumes nothing.
-use mathlib.Core.Path.{_∙_}
+use mathlib.Core.Path.{refl, _∙_}
 use lib.ListN.{length-set}
 use borrow.Author.Needs.{needs}
 use Rattle.budget_call.proofs.Words.{filled}
@@ -11,6 +11,12 @@ began c = c .before .before .before .before .before .before .before
 
 abbrev ran : tie.After-hand-over → tie.After-run
 ran c = c .before .before .before .before
+
+run-requires : tie.Need-run-requires
+run-requires c κs =
+    let e = c .before .before in
+    let p = e .before .before .before .before .pre in
+    record { cells = p .cells; statements = p .statements; holds = p .holds; none = refl; empty = e .empty .ensures }
 
 returns : tie.Need-returns
 returns c cells ss h =
@@ -30,7 +36,7 @@ fill-spec =
     tie.close
     (tie.spec
     (λ c κs. search needs)
-    (λ c κs. search needs)
+    run-requires
     (λ c. search needs)
     (λ c κs.
     let r = c .before .before .before in
