@@ -16,7 +16,7 @@ use Rattle.calculation.specs.Added.{OutputsAdded}
 use Rattle.calculation.specs.Prices.{Pricing, Figures, pricesOf}
 use Rattle.calculation.specs.Calculation.{analysedAt, analysed}
 use Rattle.calculation.specs.Runs.{observedAnew}
-use Rattle.calculation.specs.Pads.{padded, State, statementsOf, fresh, unpaddable, takesNone, stale, placeable, placed, Operation, ask, commit, step, steps, AsNew, AllStand, PadAnalysed}
+use Rattle.calculation.specs.Pads.{padded, State, statementsOf, fresh, unpaddable, takesNone, stale, placeable, placed, Operation, ask, commit, step, steps, AsNew, AllStand}
 use Rattle.calculation.proofs.Prices.{own-figures}
 use Rattle.calculation.proofs.Outputs.{outputs-analysed, outputs-lower}
 
@@ -33,7 +33,7 @@ module _ (cells : List Cell) (ss : List Statement) (l : ℕ) (old : BothSound ce
   pub pad-figures : Figures (pricesOf ss) ts
   pad-figures = subst (λ (price : Pricing). Figures price ts) (pad-prices ss l) (own-figures both-sound)
 
-  -- A pad changes no price.
+  -- What an ask answers with, and a commit makes stand, is the new analysis: a pad changes no price.
   pub anew : observedAnew (pricesOf ts) cells ts (analysed cells ss) ≡ analysed cells ts
   anew =
       subst (λ (price : Pricing). observedAnew price cells ts (analysed cells ss) ≡ analysedAt price cells ts) (sym (pad-prices ss l))
@@ -43,9 +43,6 @@ module _ (cells : List Cell) (ss : List Statement) (l : ℕ) (old : BothSound ce
   lowers n =
       subst (λ (price : Pricing). at (analysedAt price cells ts .numbers) n ≤ at (analysed cells ss .numbers) n) (sym (pad-prices ss l))
       (outputs-lower cells ss ts old both-sound pad-added (pricesOf ss) (own-figures old) pad-figures n)
-
-pub pad-analysed : PadAnalysed
-pad-analysed cells ss l old said free = anew cells ss l old said free
 
 -- ---- every list of asks and commits
 

@@ -43,11 +43,10 @@ own-of f x (q ∷ rs) a r (List·Memᴰ·tail m) =
     let other : q .line ≡ r .line → ⊥ = λ e. clash (member (q .line) (rangeLines rs)) (rw e (listed-line r rs m)) (a .0) in
     rw (ne-eqb (q .line) (r .line) other) (own-of f x rs (a .1) r m)
 
-price-order : (ss : List Statement) (rs : List Range) → Each (RangeSound ss) rs → (l : ℕ)
-    → (ofRange (λ r. r .low) 1 rs l ≤ ofRange (λ r. r .high) 1 rs l) × (ofRange (λ r. r .high) 1 rs l ≤ Size.mostPrice)
+price-most : (ss : List Statement) (rs : List Range) → Each (RangeSound ss) rs → (l : ℕ) → ofRange (λ r. r .high) 1 rs l ≤ Size.mostPrice
 unfolding ofRange Each pick
-price-order ss [] h l = (omega arith, omega arith)
-price-order ss (r ∷ rs) h l = by-test (eqb (r .line) l) (λ t. rw t (h .0 .order, h .0 .most)) (λ t. rw t (price-order ss rs (h .1) l))
+price-most ss [] h l = omega arith
+price-most ss (r ∷ rs) h l = by-test (eqb (r .line) l) (λ t. rw t (h .0 .most)) (λ t. rw t (price-most ss rs (h .1) l))
 
 -- ---- prices within the ranges
 
@@ -69,10 +68,6 @@ module _ {cells : List Cell} {ss : List Statement} (sound : BothSound cells ss) 
   pub within-ends : (price : Pricing) → WithinRanges ss price → (l : ℕ) → isInput l ss ≡ true → (lowPrice ss l ≤ price l) × (price l ≤ highPrice ss l)
   unfolding lowPrice highPrice hasRange
   within-ends price w l e = within-of price (rangesOf ss) (w .ranged) l (λ h. w .others l e (rw (ranged-lines ss) h))
-
-  pub ends-order : (l : ℕ) → lowPrice ss l ≤ highPrice ss l
-  unfolding lowPrice highPrice
-  ends-order l = price-order ss (rangesOf ss) (sound .netlist .ranges) l .0
 
   -- Both ends are within.
   unranged : (f : Range → ℕ) (l : ℕ) → hasRange l ss ≡ false → ofRange f 1 (rangesOf ss) l ≡ 1
@@ -103,7 +98,7 @@ module _ {cells : List Cell} {ss : List Statement} (sound : BothSound cells ss) 
   unfolding highPrice
   within-figures price w l e =
       let t : price l ≤ Size.mostPrice =
-      le-trans (unfold highPrice in within-ends price w l e .1) (price-order ss (rangesOf ss) (sound .netlist .ranges) l .1)
+      le-trans (unfold highPrice in within-ends price w l e .1) (price-most ss (rangesOf ss) (sound .netlist .ranges) l)
       in
       omega (arith, t)
 

@@ -1,6 +1,6 @@
 -- Pads, and the CO and SO that follow from one more. Document 02, K11.
 -- Assumes nothing.
-use mathlib.Core.Bool.{Bool, true, false, not, _&&_, _||_}
+use mathlib.Core.Bool.{Bool, true, not, _&&_, _||_}
 use mathlib.Core.List.{List, [], _∷_, _++_, map}
 use mathlib.Core.Path.{_≡_}
 use Prim.Native.Nat.{ℕ}
@@ -98,13 +98,3 @@ pub record AsNew (s : State) : Type 0 where
 -- `all-stand`: "For every list of asks and commits from a freshly analysed netlist".
 abbrev pub AllStand : Type 0
 AllStand = (cells : List Cell) (ss : List Statement) → BothSound cells ss → (os : List Operation) → AsNew (steps (fresh cells ss) os)
-
--- `pad-analysed`: what an ask answers with, and a commit makes stand, is the new analysis.
-abbrev pub PadAnalysed : Type 0
-PadAnalysed =
-    (cells : List Cell) (ss : List Statement) (l : ℕ) →
-    BothSound cells ss →
-    mentioned l ss ≡ true →
-    isOutput l ss ≡ false →
-    let ts = ss ++ (mark output l ∷ []) in
-    observedAnew (pricesOf ts) cells ts (analysed cells ss) ≡ analysed cells ts

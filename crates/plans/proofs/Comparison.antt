@@ -24,7 +24,7 @@ use Rattle.plans.specs.System.{
 }
 use Rattle.plans.specs.Exact.{Stands, AttainedBy, Exact, Attained}
 use Rattle.plans.proofs.Exactness.{stands}
-use Rattle.plans.specs.Statements.{PlanWithin, PlanAtAnyPrices, AttainedMore, ExactWithin, MoreWays, MorePrices, ExactOnce}
+use Rattle.plans.specs.Statements.{AttainedMore, ExactOnce}
 
 -- ---- a number that stands is attained, and no plan costs less
 
@@ -114,62 +114,30 @@ exact-once S n x y e f =
 
 -- ---- two systems
 
--- A plan of `S` is one of `T`, node by node; what holds between the prices, and between sums where it does between their
--- terms, holds between the costs.
+-- A plan of `S` is one of `T` at the same cost, node by node.
 module _
-    (R : ℕ → ℕ → Type 0)
-    (equal : (a : ℕ) → R a a)
-    (add : (a b c d : ℕ) → R a b → R c d → R (a + c) (b + d))
     (S T : System)
-    (prices : (n c : ℕ) → S .price n ≡ some c → (d : ℕ) × (T .price n ≡ some d) × R d c)
+    (prices : (n c : ℕ) → S .price n ≡ some c → T .price n ≡ some c)
     (ways : (n : ℕ) (w : Way) → Offers (S .visits) n w → Offers (T .visits) n w)
   where
     mutual
       unfolding cost
 
-      carry : {n : ℕ} (p : Plan S n) → (q : Plan T n) × R (cost q) (cost p)
-      carry {n} (priced c e) =
-          let t : (d : ℕ) × (T .price n ≡ some d) × R d c = prices n c e in
-          (priced (t .0) (t .1), t .2)
+      carry : {n : ℕ} (p : Plan S n) → (q : Plan T n) × (cost q ≡ cost p)
+      carry {n} (priced c e) = (priced c (prices n c e), refl)
       carry {n} (chosen w o ps) =
-          let t : (qs : Plans T (w .needs)) × R (costs qs) (costs ps) = carry-all ps in
-          (chosen w (ways n w o) (t .0), add (w .depth) (w .depth) (costs (t .0)) (costs ps) (equal (w .depth)) (t .1))
+          let t : (qs : Plans T (w .needs)) × (costs qs ≡ costs ps) = carry-all ps in
+          (chosen w (ways n w o) (t .0), ap (λ (c : ℕ). w .depth + c) (t .1))
 
-      carry-all : {ns : List ℕ} (ps : Plans S ns) → (qs : Plans T ns) × R (costs qs) (costs ps)
-      carry-all done = (done, equal 0)
+      carry-all : {ns : List ℕ} (ps : Plans S ns) → (qs : Plans T ns) × (costs qs ≡ costs ps)
+      carry-all done = (done, refl)
       carry-all (also {n = n} {ns = ns} p ps) =
-          let t : (q : Plan T n) × R (cost q) (cost p) = carry p in
-          let s : (qs : Plans T ns) × R (costs qs) (costs ps) = carry-all ps in
-          (also (t .0) (s .0), add (cost (t .0)) (cost p) (costs (s .0)) (costs ps) (t .1) (s .1))
-
-pub plan-within : PlanWithin
-plan-within S T h n p =
-    carry (λ (a b : ℕ). a ≤ b) le-refl (λ a b c d i j. omega arith) S T (h .prices) (h .ways) p
-
-pub plan-at-any-prices : PlanAtAnyPrices
-plan-at-any-prices S T prices ways n p =
-    carry (λ (a b : ℕ). Unit {0}) (λ a. tt) (λ a b c d i j. tt) S T
-    (λ m c e. let t : (d : ℕ) × (T .price m ≡ some d) = prices m c e in (t .0, t .1, tt))
-    ways p .0
+          let t : (q : Plan T n) × (cost q ≡ cost p) = carry p in
+          let s : (qs : Plans T ns) × (costs qs ≡ costs ps) = carry-all ps in
+          (also (t .0) (s .0), rw (t .1, s .1) refl)
 
 pub attained-more : AttainedMore
 attained-more S T prices ways n x (inl e) = inl e
 attained-more S T prices ways n x (inr t) =
-    let q : (q : Plan T n) × (cost q ≡ cost (t .0)) =
-    carry (λ (a b : ℕ). a ≡ b) (λ a. refl) (λ a b c d i j. omega arith) S T (λ m c e. (c, prices m c e, refl)) ways (t .0) in
+    let q : (q : Plan T n) × (cost q ≡ cost (t .0)) = carry S T prices ways (t .0) in
     inr (q .0, t .1 ∙ ap capped (sym (q .1)))
-
-pub exact-within : ExactWithin
-exact-within S T h n x y e f = stands-least (λ p. cost p) (λ p. cost p) (plan-within S T h n) x y e f
-
-pub more-ways : MoreWays
-more-ways S T p v n x y e f =
-    exact-within S T
-    (record {
-      prices = λ m c q. (c, sym (p m) ∙ q, le-refl c);
-      ways = λ m w o. record { visit = o .visit; listed = v (o .visit) (o .listed); same = o .same; among = o .among };
-    })
-    n x y e f
-
-pub more-prices : MorePrices
-more-prices S T v p n x y e f = exact-within S T (record { prices = p; ways = λ m w o. rw v at o }) n x y e f

@@ -1,8 +1,7 @@
 -- Runs that go on from numbers that stand.
 -- Assumes nothing.
 use mathlib.Core.List.{List, [], _∷_, List·Memᴰ, List·Memᴰ·head, List·Memᴰ·tail}
-use mathlib.Core.Logic.{_⊎_, inl, inr}
-use mathlib.Core.Option.{some}
+use mathlib.Core.Logic.{inl, inr}
 use mathlib.Core.Path.{_≡_, refl, sym, _∙_, ap}
 use Prim.Native.Nat.{ℕ, zero, suc, _+_, _-_, _≤_, _<_}
 use native.Mathlib.Decide.{ℕ-discrete, decLt}
@@ -17,7 +16,7 @@ use Rattle.plans.specs.Sweep.{at, sums, way, least, Rule, lower, sweep, 
 use Rattle.plans.specs.Exact.{Attained}
 use Rattle.plans.specs.Stages.{Stage, allVisits, AllWithin, Stages, Stages.ended, Stages.stage}
 use Rattle.plans.proofs.BothRules.{lowers-settle}
-use Rattle.plans.specs.Continued.{AllExact, ExactTable, StandingStart, PricedStart, StandingAbove, Continued, SettledStays, LowerStart, BetweenSettles, PadSettles, PadIdle, LoweredStages, LoweredUnder}
+use Rattle.plans.specs.Continued.{AllExact, ExactTable, StandingStart, StandingAbove, Continued, SettledStays, LowerStart, BetweenSettles, PadSettles, PadIdle, LoweredStages, LoweredUnder}
 use Rattle.plans.proofs.Numbers.{at-set-same, at-set-other, Under, under-refl, under-trans, under-antisym, under-set, at-ext}
 use Rattle.plans.proofs.Lowered.{lesser-left, lesser-right, lesser-bound, lesser-most, least-bound, least-below, least-mono, lower-here, lower-past, rests-head, rests-tail}
 use Rattle.plans.proofs.Kept.{lower-stores, rule-length, rule-other}
@@ -38,14 +37,6 @@ standing-start S T m xs h =
           attained-more S T (λ i c e. sym (m .prices i) ∙ e) (m .ways) n (at xs n) (exact-attained S n (at xs n) (h n));
       prices = λ n c e. exact-below S n (at xs n) (h n) (priced c (m .prices n ∙ e));
     }
-
-pub priced-start : PricedStart
-unfolding cost
-priced-start S T prices ways xs ys h from low = record { attained = λ n. given n (from n); prices = low }
-  where
-    given : (n : ℕ) → (at ys n ≡ at xs n) ⊎ ((c : ℕ) × (T .price n ≡ some c) × (at ys n ≡ capped c)) → Attained T n (at ys n)
-    given n (inl e) = rw e (attained-more S T prices ways n (at xs n) (exact-attained S n (at xs n) (h n)))
-    given n (inr t) = inr (priced (t .0) (t .1), t .2)
 
 module _ (S : System) (xs : List ℕ) (exact : AllExact S xs) where
   -- Plans of the nodes that a row needs cost at least its sum.

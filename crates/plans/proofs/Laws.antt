@@ -40,11 +40,11 @@ pub use Rattle.plans.proofs.Idle.{turn-listed, idles-rest, asleep-skipp
 pub use Rattle.plans.proofs.BothRules.{lowers-settle, within-lowers}
 -- ---- runs one after the other, as specs/Stages.antt states them
 pub use Rattle.plans.proofs.Stages.{settles-under, ranked-apart, stages-within, stages-once, stages-append, stages-left, stages-exact, first-start}
--- ---- what a reader may ask of exact numbers, and what requests K10, K11 and K14 rest on
-pub use Rattle.plans.proofs.Comparison.{stands-least, stands-carried, exact-once, plan-within, plan-at-any-prices, attained-more, exact-within, more-ways, more-prices}
+-- ---- exact numbers of one node, and of two systems
+pub use Rattle.plans.proofs.Comparison.{stands-least, stands-carried, exact-once, attained-more}
 -- ---- runs from numbers that stand, as specs/Continued.antt states them: K11, K13 and K14
 pub use Rattle.plans.proofs.Numbers.{at-ext}
-pub use Rattle.plans.proofs.Continued.{exact-table, standing-start, priced-start, standing-above, continued, settled-stays, lower-start, between-settles, pad-settles, pad-idle, lowered-stages, lowered-under}
+pub use Rattle.plans.proofs.Continued.{exact-table, standing-start, standing-above, continued, settled-stays, lower-start, between-settles, pad-settles, pad-idle, lowered-stages, lowered-under}
 pub use Rattle.plans.proofs.Alike.{lower-reads, renew-reads, rests-alike, alike-settles}
 -- ---- numbers within a budget (K12), as specs/Budget.antt states it; `way-fixed`, what an offer is, for a reader
 pub use Rattle.plans.proofs.Budget.{way-fixed, fixed-exact, other-between, budget-stops, steps-counted, more-budget, budget-ends, budget-same, idle-same, among-most, first-cheapest, step-first, step-none, bid-kept, offered-one, offered-none, at-none}

@@ -2,12 +2,10 @@
 -- K13 (a pad on trial) and K14 (rows added to a library). What is shown stands under the names of proofs/Continued.antt.
 -- Assumes nothing.
 use mathlib.Core.List.{List, [], _∷_, List·Memᴰ}
-use mathlib.Core.Logic.{_⊎_}
 use mathlib.Core.Option.{some}
 use mathlib.Core.Path.{_≡_}
 use Prim.Native.Nat.{ℕ, _≤_, _<_}
 use lib.ListN.{length, set}
-use Rattle.cost.specs.Cost.{capped}
 use Rattle.plans.specs.System.{Way, Visit, System, Offers}
 use Rattle.plans.specs.Sweep.{at, Rule, lower, sweeps, Rests, Settles, Inside, Above}
 use Rattle.plans.specs.Exact.{Exact, Start}
@@ -29,21 +27,9 @@ pub record WaysAdded (S T : System) : Type 0 where
   pub prices : (n : ℕ) → S .price n ≡ T .price n
   pub ways : (n : ℕ) (w : Way) → Offers (S .visits) n w → Offers (T .visits) n w
 
--- `standing-start`: numbers that stand are a start where ways are added ..
+-- `standing-start`: numbers that stand are a start where ways are added.
 abbrev pub StandingStart : Type 0
 StandingStart = (S T : System) → WaysAdded S T → (xs : List ℕ) → AllExact S xs → Start T xs
-
--- `priced-start`: .. and where prices are added, once each number is at most its new price.
-abbrev pub PricedStart : Type 0
-PricedStart =
-    (S T : System) →
-    ((n c : ℕ) → S .price n ≡ some c → T .price n ≡ some c) →
-    ((n : ℕ) (w : Way) → Offers (S .visits) n w → Offers (T .visits) n w) →
-    (xs ys : List ℕ) →
-    AllExact S xs →
-    ((n : ℕ) → (at ys n ≡ at xs n) ⊎ ((c : ℕ) × (T .price n ≡ some c) × (at ys n ≡ capped c))) →
-    ((n c : ℕ) → T .price n ≡ some c → at ys n ≤ capped c) →
-    Start T ys
 
 -- `standing-above`: exact numbers are at least the least sums of visits that have all ways of their nodes, and perhaps others,
 -- where no such node has a price. So the numbers that stand may be renewed with rows added, and `renewing-works` gives the bound.

@@ -138,44 +138,7 @@ LeadBound =
     length outs < fuel →
     SettlesWithin lower vs xs fuel (length outs + 1)
 
--- ---- more to plan with: requests K10 (prices within a range), K11 (pads) and K14 (rows added to a library) rest on these
-
--- Whatever `S` has, `T` has too: each price, or a lower one, and each way.
-pub record Within (S T : System) : Type 0 where
-  pub prices : (n c : ℕ) → S .price n ≡ some c → (d : ℕ) × (T .price n ≡ some d) × (d ≤ c)
-  pub ways : (n : ℕ) (w : Way) → Offers (S .visits) n w → Offers (T .visits) n w
-
--- `plan-within`: then each plan of `S` gives one of `T` that costs no more ..
-abbrev pub PlanWithin : Type 0
-PlanWithin = (S T : System) → Within S T → (n : ℕ) (p : Plan S n) → (q : Plan T n) × (cost q ≤ cost p)
-
--- `exact-within`: .. and no number of `T` is higher.
-abbrev pub ExactWithin : Type 0
-ExactWithin = (S T : System) → Within S T → (n x y : ℕ) → Exact S n x → Exact T n y → y ≤ x
-
--- `more-ways`, `more-prices`: in particular where ways are added ..
-abbrev pub MoreWays : Type 0
-MoreWays =
-    (S T : System) →
-    ((n : ℕ) → S .price n ≡ T .price n) →
-    ((v : Visit) → List·Memᴰ v (S .visits) → List·Memᴰ v (T .visits)) →
-    (n x y : ℕ) → Exact S n x → Exact T n y → y ≤ x
-
--- .. and where prices are added or lowered.
-abbrev pub MorePrices : Type 0
-MorePrices =
-    (S T : System) →
-    S .visits ≡ T .visits →
-    ((n c : ℕ) → S .price n ≡ some c → (d : ℕ) × (T .price n ≡ some d) × (d ≤ c)) →
-    (n x y : ℕ) → Exact S n x → Exact T n y → y ≤ x
-
--- `plan-at-any-prices`: a plan is one at any other prices of the same nodes.
-abbrev pub PlanAtAnyPrices : Type 0
-PlanAtAnyPrices =
-    (S T : System) →
-    ((n c : ℕ) → S .price n ≡ some c → (d : ℕ) × (T .price n ≡ some d)) →
-    ((n : ℕ) (w : Way) → Offers (S .visits) n w → Offers (T .visits) n w) →
-    (n : ℕ) → Plan S n → Plan T n
+-- ---- more to plan with: request K14 (rows added to a library) rests on this
 
 -- `attained-more`: numbers that stand are still attained where prices and ways are added, so that sweeps go on from them.
 abbrev pub AttainedMore : Type 0

@@ -74,8 +74,5 @@ module _ (number space : ℕ) (text : List ℕ) (some : 1 ≤ number) (short : l
       let same : length text ≡ n = cc in
       omega arith)
 
-  pub text-line : LineBelow (lengthRead (textWithin number space text))
-  text-line = line-below _ text-within
-
   pub text-tells : (said : ℕ) → said ≡ codeOf (lengthRead (textWithin number space text)) → Tells (lengthRead (textWithin number space text)) said
   text-tells = tells _ text-within text-small

@@ -10,7 +10,7 @@ use Rattle.reading.specs.Numbers as No
 use Rattle.reading.specs.Refusal.{Read, refused, read, _>>=_}
 use Rattle.reading.specs.declared.Refusal.{Refusal}
 use Rattle.reading.proofs.Bounds.{Within, anyNumber}
-use Rattle.reading.proofs.Laws.{refused-read}
+use Rattle.reading.proofs.Laws.{refused-read, same-refusal}
 use Rattle.writer.specs.Buffer.{codeLines, refusalCode, codeOf, LineBelow}
 use Rattle.writer.proofs.Buffer.{decoded, told-line}
 use Rattle.scoap_c.specs.Number.{lastLine, toldBy, Tells}
@@ -37,9 +37,6 @@ module _ {A : Type 0} (f : A → ℕ) (o : Read A) where
 pub within-told : {A : Type 0} (o : Read A) → ((number line : ℕ) → o ≡ refused number line → (1 ≤ number) × (line ≤ lastLine)) → Within anyNumber lastLine o
 within-told (refused k l) h = let t = h k l refl in (le-leb 1 k (t .0), t .1)
 within-told (read a) h = tt
-
-same-refusal : {A : Type 0} (k l number line : ℕ) → _≡_ {A = Read A} (refused k l) (refused number line) → (k ≡ number) × (l ≡ line)
-same-refusal k l number line e = (cc, cc)
 
 same-read : {A : Type 0} (a b : A) → read a ≡ read b → a ≡ b
 same-read a b e = cc

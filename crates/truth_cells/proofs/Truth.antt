@@ -19,8 +19,9 @@ use Rattle.truth_tables.specs.Tables.{Setting, Term, digit, settings, place, ou
 use Rattle.truth_tables.proofs.Cover.{covered}
 use Rattle.truth_tables.proofs.Lists.{map-map, map-each}
 use Rattle.truth_tables.proofs.Order.{place-below, term-below}
+use Rattle.truth_tables.proofs.Rows.{primes-length}
 use Rattle.truth_rows.specs.Masks.{upFrom}
-use Rattle.truth_rows.proofs.Conditions.{places, settings-length, primes-length}
+use Rattle.truth_rows.proofs.Conditions.{places, settings-length}
 use Rattle.truth_cells.specs.Words.{admits, metBy, rowsAt, metFrom, metAt, truthBits}
 use Rattle.truth_cells.proofs.Held.{Stands}
 

@@ -16,9 +16,10 @@ use Rattle.reading.specs.Choice.{pick}
 use Rattle.reading.specs.Each.{Each}
 use Rattle.reading.proofs.Laws.{by-test, clash, and-left, and-right, each-append, each-map}
 use Rattle.truth_tables.specs.Entries.{literalColumns, termColumns, observeColumn, settingRow, observingRow, settingGroup, observingGroup, rowNumber}
-use Rattle.truth_tables.specs.Tables.{Setting, Term, Condition, digit, settings, place, output, same, terms, allOf, prime, primes, gives, putIn, changes, observing}
-use Rattle.truth_tables.proofs.Lists.{map-append, map-map, map-each, each-kept}
-use Rattle.truth_tables.proofs.Order.{place-below, term-below, terms-length, length-putIn}
+use Rattle.truth_tables.specs.Tables.{Setting, Term, Condition, digit, settings, place, output, same, allOf, primes, gives, putIn, changes, observing}
+use Rattle.truth_tables.proofs.Lists.{map-append, map-map, map-each}
+use Rattle.truth_tables.proofs.Order.{place-below, term-below, length-putIn}
+use Rattle.truth_tables.proofs.Rows.{primes-length}
 use Rattle.truth_rows.specs.Masks.{maskOf, wantedMask, isBit, isOne, Bits, askAt, upFrom, primeRows, spread, numberOf}
 use Rattle.truth_rows.proofs.Primes.{prime-rows}
 
@@ -201,10 +202,6 @@ module _ (n : ℕ) (bits : List ℕ) (B : Bits n bits) (k value : ℕ) (h : k < 
       ∙ sym (map-each (λ s. length s ≡ n - 1) (changes (map isOne bits) k) (λ s. f (place s)) (λ s l. differs s l) (settings (n - 1)) (settings-length (n - 1))))
 
 -- ---- rows
-
-pub primes-length : (n : ℕ) (C : Condition) → Each (λ t. length t ≡ n) (primes n C)
-unfolding primes
-primes-length n C = each-kept (λ t. length t ≡ n) (prime n C) (terms n) (terms-length n)
 
 module _ (d n : ℕ) (C : Condition) (wanted : ℕ) (e : wanted ≡ wantedMask n C) where
   setting-numbers : map (numberOf d (4 ^ n) n) (primeRows wanted n) ≡ map rowNumber (map (settingRow d) (primes n C))

@@ -121,7 +121,7 @@ unfolding anyOf Each
 any-rows f p q [] e = refl
 any-rows f p q (t ∷ ts) e = rw (e .0, any-rows f p q ts (e .1)) refl
 
-primes-length : (n : ℕ) (C : Condition) → Each (λ t. length t ≡ n) (primes n C)
+pub primes-length : (n : ℕ) (C : Condition) → Each (λ t. length t ≡ n) (primes n C)
 unfolding primes
 primes-length n C = each-kept (λ t. length t ≡ n) (prime n C) (terms n) (terms-length n)
 

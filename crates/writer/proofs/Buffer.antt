@@ -20,7 +20,7 @@ use Rattle.writer.specs.declared.Written.{Written}
 use Rattle.writer.specs.declared.Written.the-variants.{Length}
 use Rattle.writer.specs.Put.{Put}
 use Rattle.writer.specs.Refused.{refusalBytes}
-use Rattle.writer.specs.Buffer.{textWithin, lengthRead, leftBy, writtenRead, Writes, Refuses, Closes, codeLines, refusalCode, codeOf, Decoded, LineBelow, shown, ShownBy, Prints}
+use Rattle.writer.specs.Buffer.{textWithin, lengthRead, leftBy, writtenRead, Writes, Refuses, Closes, codeLines, refusalCode, Decoded, LineBelow, shown, ShownBy, Prints}
 use Rattle.writer.proofs.Decimal.{decimal-length}
 use Rattle.writer.proofs.Steps.{put-front}
 
@@ -129,19 +129,11 @@ writes-prints {o = o} {before = before} h long c s =
 pub decoded : (number line : ℕ) → 1 ≤ number → line < codeLines → Decoded (refusalCode number line) number line
 decoded number line h k = record { above = omega arith; numberIs = omega arith; lineIs = omega arith }
 
--- Where a refusal's number is not 0 and its line is small, the number tells both.
+-- A line that is small enough is told.
 module _ (n : ℕ) (h : n < codeLines) where
   pub told-line : (o : Read ℕ) → Within anyNumber n o → LineBelow o
   told-line (refused k l) b number line e = let same : l ≡ line = cc in omega (arith, b .1)
   told-line (read m) b number line e = refused-read (sym e)
-
-  pub told-code : (o : Read ℕ) → Within anyNumber n o → (number line : ℕ) → o ≡ refused number line → Decoded (codeOf o) number line
-  unfolding codeOf
-  told-code (refused k l) b number line e =
-      let same-number : k ≡ number = cc in
-      let same-line : l ≡ line = cc in
-      rw (← same-number, ← same-line) (decoded k l (leb-true 1 k (b .0)) (omega (arith, b .1)))
-  told-code (read m) b number line e = refused-read (sym e)
 
 pub length-within : (may : ℕ → Bool) (n : ℕ) (o : Read (List ℕ)) → Within may n o → Within may n (lengthRead o)
 unfolding lengthRead
