@@ -22,7 +22,7 @@ use Rattle.calculation.specs.Ways.{asked, purposeOf, visit, settingVisit
 use Rattle.calculation.specs.Acceptance.{BothSound}
 use Rattle.calculation.specs.Calculation.{startAt, stages, analysedAt}
 use Rattle.calculation.specs.Settled.{inOrder}
-use Rattle.calculation.specs.Plans.{Plan, Plan.input, Plan.row, Plan.output, Plan.through, Plans, Plans.done, Plans.also, costAt, costsAt}
+use Rattle.calculation.specs.LinePlans.{Plan, Plan.input, Plan.row, Plan.output, Plan.through, Plans, Plans.done, Plans.also, costAt, costsAt}
 use Rattle.calculation.specs.Between.{numberAt, AnalysisAt, Between}
 use Rattle.calculation.proofs.Places.{Placed, node-injective, firstNumber, start-length, start-at}
 use Rattle.calculation.proofs.Prices.{within-ends, low-within, high-within, within-figures}

@@ -20,8 +20,8 @@ use Rattle.calculation.specs.Ways.{pinLine}
 use Rattle.calculation.specs.Acceptance.{BothSound}
 use Rattle.calculation.specs.Calculation.{startAt, stages, analysedAt}
 use Rattle.calculation.specs.Settled.{inOrder}
-use Rattle.calculation.specs.Plans.{Plan, ExactAt, costAt}
-use Rattle.calculation.specs.Plans as P
+use Rattle.calculation.specs.LinePlans.{Plan, ExactAt, costAt}
+use Rattle.calculation.specs.LinePlans as P
 use Rattle.calculation.proofs.Places.{Placed, node-inside}
 use Rattle.calculation.proofs.Visits.{getD-listed}
 use Rattle.netlist_table.specs.Netlist as NL

@@ -24,7 +24,7 @@ use Rattle.calculation.specs.Ways.{cellOf, asked, needs, Role, setting, 
 use Rattle.calculation.specs.Acceptance.{BothSound}
 use Rattle.calculation.specs.Calculation.{startAt, stages}
 use Rattle.calculation.specs.Systems.{priceOf, priceAt, systemAt}
-use Rattle.calculation.specs.Plans.{Plan, Plan.input, Plan.row, Plan.output, Plan.through, Plans, Plans.done, Plans.also, costAt, costsAt}
+use Rattle.calculation.specs.LinePlans.{Plan, Plan.input, Plan.row, Plan.output, Plan.through, Plans, Plans.done, Plans.also, costAt, costsAt}
 use Rattle.calculation.proofs.Places.{Placed, node-injective, cost-figure, start-at, start-bounded}
 use Rattle.calculation.proofs.Visits.{Has, Visiting, Offer, offer, offer-needs, usable-listed, asks-named, observing-is-way}
 use Rattle.netlist_table.specs.Netlist as NL

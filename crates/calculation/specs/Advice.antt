@@ -17,7 +17,7 @@ use Rattle.calculation.specs.declared.Advice.the-variants.{NoneAllowed, 
 use Rattle.calculation.specs.Nodes.{combinational, observe, node}
 use Rattle.calculation.specs.Acceptance.{BothSound}
 use Rattle.calculation.specs.Calculation.{analysed}
-use Rattle.calculation.specs.Plans.{Exact}
+use Rattle.calculation.specs.LinePlans.{Exact}
 
 -- ---- which lines may be padded
 

@@ -14,7 +14,7 @@ use Rattle.calculation.specs.Nodes.{Kind, combinational, sequential, Pur
 use Rattle.calculation.specs.Prices.{Pricing}
 use Rattle.calculation.specs.Calculation.{Analysed, analysedAt}
 use Rattle.calculation.specs.Settled.{SettledAt, FewSweeps}
-use Rattle.calculation.specs.Plans.{ExactAt}
+use Rattle.calculation.specs.LinePlans.{ExactAt}
 
 -- The number of the calculation at these prices.
 abbrev pub numberAt : Pricing → List Cell → List Statement → Kind → Purpose → ℕ

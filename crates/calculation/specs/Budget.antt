@@ -19,7 +19,7 @@ use Rattle.netlist_table.specs.Sound.{InRange}
 use Rattle.calculation.specs.Nodes.{combinational, set, node}
 use Rattle.calculation.specs.Prices.{pricesOf}
 use Rattle.calculation.specs.Systems.{system}
-use Rattle.calculation.specs.Plans.{Exact}
+use Rattle.calculation.specs.LinePlans.{Exact}
 use Rattle.calculation.specs.Between.{numberAt}
 
 -- ---- the run

@@ -4,7 +4,7 @@ pub mod Ways
 pub mod Calculation
 pub mod Systems
 pub mod Runs
-pub mod Plans
+pub mod LinePlans
 pub mod Settled
 pub mod Acceptance
 pub mod Added

@@ -15,7 +15,7 @@ use Rattle.calculation.specs.Acceptance.{BothSound}
 use Rattle.calculation.specs.Nodes.{combinational, set}
 use Rattle.calculation.specs.Prices.{Pricing, pricesOf, WithinRanges}
 use Rattle.calculation.specs.Calculation.{analysedAt}
-use Rattle.calculation.specs.Plans.{Plan, ExactAt}
+use Rattle.calculation.specs.LinePlans.{Plan, ExactAt}
 use Rattle.calculation.specs.Ways.{cellOf}
 use Rattle.calculation.proofs.Laws.{exact}
 use Rattle.demands.specs.declared.Summary.{Summary}

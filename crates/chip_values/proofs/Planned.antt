@@ -18,7 +18,7 @@ use Rattle.calculation.specs.Acceptance.{BothSound}
 use Rattle.calculation.specs.Nodes.{Kind, combinational, Purpose, set}
 use Rattle.calculation.specs.Nodes as N
 use Rattle.calculation.specs.Ways.{cellOf, pinLine, asked, setting, namedBy, merges, sameValue, otherValue, anyAsks, needsBoth, asks, isWay}
-use Rattle.calculation.specs.Plans.{Plan, Plan.input, Plan.row, Plans, Plans.done, Plans.also}
+use Rattle.calculation.specs.LinePlans.{Plan, Plan.input, Plan.row, Plans, Plans.done, Plans.also}
 use Rattle.calculation.proofs.Laws.{getD-listed, pin-count}
 use Rattle.calculation.proofs.Visits.{MayName, named-may, asks-from}
 use Rattle.truth_tables.specs.Tables.{digit}

@@ -19,7 +19,7 @@ use Rattle.calculation.specs.Acceptance.{BothSound}
 use Rattle.calculation.specs.Nodes.{Kind, combinational, Purpose, set}
 use Rattle.calculation.specs.Nodes as N
 use Rattle.calculation.specs.Ways.{cellOf, pinLine, asked, Role, setting, groupOf, namedBy, merges, sameValue, anyAsks, once, asks}
-use Rattle.calculation.specs.Plans.{Plan, Plan.input, Plan.row, Plans, Plans.done, Plans.also}
+use Rattle.calculation.specs.LinePlans.{Plan, Plan.input, Plan.row, Plans, Plans.done, Plans.also}
 use Rattle.calculation.proofs.Laws.{pin-count}
 use Rattle.calculation.proofs.Visits.{MayName}
 use Rattle.truth_tables.specs.Tables.{digit}

@@ -12,7 +12,7 @@ use Rattle.netlist_table.specs.Sound.{InRange}
 use Rattle.calculation.specs.Prices.{pricesOf}
 use Rattle.calculation.specs.Nodes.{Purpose, set, observe, node}
 use Rattle.calculation.specs.Calculation.{analysed}
-use Rattle.calculation.specs.Plans.{Exact}
+use Rattle.calculation.specs.LinePlans.{Exact}
 use Rattle.calculation.specs.Acceptance.{BothSound}
 use Rattle.calculation.proofs.Laws.{own-figures, exact, settled, settled-once, few-sweeps, numbers-length, node-inside, Placed}
 use Rattle.demands.specs.Demands.{Reported, NumbersStand}

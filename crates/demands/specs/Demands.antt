@@ -21,7 +21,7 @@ use Rattle.calculation.specs.Calculation.{Analysed, analysed}
 use Rattle.calculation.specs.Prices.{Pricing, WithinRanges}
 use Rattle.calculation.specs.Between.{AnalysisAt, Between}
 use Rattle.calculation.specs.Settled.{Settled, FewSweeps}
-use Rattle.calculation.specs.Plans.{Exact}
+use Rattle.calculation.specs.LinePlans.{Exact}
 use Rattle.report_text.specs.Report.{reportBytes, longestReport, longestReports}
 use Rattle.demands.specs.declared.Summary.{Summary}
 use Rattle.demands.specs.Outcome.{Given, Lent, entry, outcome, answer, second, reports, left, zeroed}

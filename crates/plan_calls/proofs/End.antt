@@ -26,7 +26,7 @@ use Rattle.netlist_table.specs.Netlist.{Statement}
 use Rattle.calculation.specs.Prices.{pricesOf}
 use Rattle.calculation.specs.Nodes.{kindNumber, set, node}
 use Rattle.calculation.specs.Calculation.{analysed}
-use Rattle.calculation.specs.Plans.{Plan, cost}
+use Rattle.calculation.specs.LinePlans.{Plan, cost}
 use Rattle.calculation.specs.Acceptance.{BothSound}
 use Rattle.calculation.specs.declared.Counts.{Counts}
 use Rattle.calculation.proofs.Laws.{own-figures, exact, entry-bounded, numbers-length}

@@ -19,7 +19,7 @@ use Rattle.netlist_table.specs.Netlist.{Statement}
 use Rattle.netlist_table.specs.Layout.{netlistWords}
 use Rattle.calculation.specs.Nodes.{Kind, combinational, sequential, set}
 use Rattle.calculation.specs.Calculation.{analysed}
-use Rattle.calculation.specs.Plans.{Plan, cost}
+use Rattle.calculation.specs.LinePlans.{Plan, cost}
 use Rattle.plan_text.specs.PlanText.{planText, cheapestText}
 use Rattle.plan_text.specs.Plan.{Cheapest}
 use Rattle.demands.specs.Demands.{Reported, NumbersStand}

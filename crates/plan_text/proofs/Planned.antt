@@ -24,7 +24,7 @@ use Rattle.calculation.specs.Nodes.{Kind, set, node}
 use Rattle.calculation.specs.Ways.{cellOf, pinLine, asked, needs, setting, groupOf, asks, isWay, wayOf}
 use Rattle.calculation.specs.Acceptance.{BothSound}
 use Rattle.calculation.specs.Calculation.{start}
-use Rattle.calculation.specs.Plans.{Plan, Plan.input, Plan.row, Plans, Plans.done, Plans.also, costAt, costsAt, cost}
+use Rattle.calculation.specs.LinePlans.{Plan, Plan.input, Plan.row, Plans, Plans.done, Plans.also, costAt, costsAt, cost}
 use Rattle.calculation.proofs.Places.{Placed, start-at}
 use Rattle.calculation.proofs.Visits.{getD-listed, MayName, asks-named, usable-from}
 use Rattle.calculation.proofs.Acceptance.{asked-placed}

@@ -8,7 +8,7 @@ use Rattle.library_table.specs.Cells.{Cell}
 use Rattle.netlist_table.specs.Netlist.{Statement}
 use Rattle.calculation.specs.Nodes.{Kind, set, node}
 use Rattle.calculation.specs.Calculation.{analysed}
-use Rattle.calculation.specs.Plans.{Plan, cost}
+use Rattle.calculation.specs.LinePlans.{Plan, cost}
 use Rattle.plan_marks.specs.Lowered.{settingTrace}
 use Rattle.plan_text.specs.PlanText.{planText, LastLowered, cheapestText}
 

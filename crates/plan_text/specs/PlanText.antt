@@ -17,7 +17,7 @@ use Rattle.netlist_table.specs.Netlist.{Gate, Statement, gatesOf}
 use Rattle.netlist_table.specs.Gates.{noGate}
 use Rattle.calculation.specs.Nodes.{Kind, Purpose, set, node}
 use Rattle.calculation.specs.Ways.{cellOf, setting, groupOf, usable}
-use Rattle.calculation.specs.Plans.{Plan, Plan.input, Plan.row, Plan.output, Plan.through, Plans, Plans.done, Plans.also}
+use Rattle.calculation.specs.LinePlans.{Plan, Plan.input, Plan.row, Plan.output, Plan.through, Plans, Plans.done, Plans.also}
 use Rattle.plan_marks.specs.Lowered.{settingTrace, lowered-open}
 
 -- "as `depth in tree,line,value,row`", with byte 10 behind it.

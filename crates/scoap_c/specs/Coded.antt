@@ -11,7 +11,7 @@ use Rattle.reading.specs.Refusal.{Read}
 use Rattle.netlist_table.specs.Netlist.{mentioned}
 use Rattle.calculation.specs.declared.Counts.{Counts}
 use Rattle.calculation.specs.Nodes.{Kind, Purpose, node}
-use Rattle.calculation.specs.Plans.{Exact}
+use Rattle.calculation.specs.LinePlans.{Exact}
 use Rattle.calculation.specs.Settled.{Settled}
 use Rattle.writer.specs.Buffer.{codeLines}
 use Rattle.report_text.specs.Report.{reportBytes}

@@ -31,7 +31,7 @@ use Rattle.demands.specs.Own.{ownTables}
 use Rattle.standing_texts.specs.Held.{entered}
 use Rattle.standing_calls.specs.Calls.{tableShort, standing, stoodLater, stoodFrom, stood, reportedFrom, reported}
 use Rattle.standing_calls.specs.Promise.{StandPromised}
-use Rattle.standing_table.specs.Table.{standingWords, StandsIn}
+use Rattle.standing_table.specs.StandingTable.{standingWords, StandsIn}
 use Rattle.standing_calls.proofs.Meaning.{means}
 
 module _ (g : Given) (checks : Checked g) (before report : List ℕ) where

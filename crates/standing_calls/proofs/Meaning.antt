@@ -16,7 +16,7 @@ use Rattle.netlist_table.specs.Netlist.{Statement}
 use Rattle.calculation.specs.Prices.{pricesOf}
 use Rattle.calculation.specs.Nodes.{node}
 use Rattle.calculation.specs.Calculation.{analysed}
-use Rattle.calculation.specs.Plans.{Exact}
+use Rattle.calculation.specs.LinePlans.{Exact}
 use Rattle.calculation.specs.Pads.{State, statementsOf, Operation, checked}
 use Rattle.calculation.specs.StandingAnalysis.{Standing}
 use Rattle.calculation.proofs.Laws.{own-figures, exact, settled, numbers-length, entry-bounded, node-inside}
@@ -27,8 +27,8 @@ use Rattle.sweep_reruns.specs.Kept.{held}
 use Rattle.standing_texts.specs.Held.{entered, foreign, heldBy}
 use Rattle.standing_calls.specs.Calls.{comes, tableShort}
 use Rattle.standing_calls.specs.Promise.{Meant}
-use Rattle.standing_table.specs.Table.{standingWords, analysisHeld, stateHeld, StandsIn}
-use Rattle.standing_table.proofs.Table.{standing-length, numbers-part, pads-part, counts-part, number-at, held-same}
+use Rattle.standing_table.specs.StandingTable.{standingWords, analysisHeld, stateHeld, StandsIn}
+use Rattle.standing_table.proofs.StandingTable.{standing-length, numbers-part, pads-part, counts-part, number-at, held-same}
 
 module _ {given : List Cell → Read (List Statement)} (s : State) (h : Standing given s) where
   pub numbers-size : length (s .analysis .numbers) ≡ Size.numbers

@@ -23,7 +23,7 @@ use Rattle.calculation.specs.Acceptance.{BothSound}
 use Rattle.calculation.specs.Prices.{pricesOf}
 use Rattle.calculation.specs.Nodes.{Kind, kindNumber, observe, node}
 use Rattle.calculation.specs.Calculation.{analysed}
-use Rattle.calculation.specs.Plans.{Exact}
+use Rattle.calculation.specs.LinePlans.{Exact}
 use Rattle.calculation.specs.Pads.{padded, State, statementsOf, unpaddable, stale, placeable, placed, Operation, ask, commit, causesOf, checked, step}
 use Rattle.calculation.specs.StandingAnalysis.{Standing, OnePadMore}
 use Rattle.calculation.proofs.Laws.{own-figures, exact, numbers-length, node-inside}
@@ -35,11 +35,11 @@ use Rattle.demands.proofs.Acceptance.{read-as}
 use Rattle.demands.proofs.Given.{Checked}
 use Rattle.standing_texts.specs.Held.{entered, foreign, heldBy}
 use Rattle.standing_calls.specs.Calls.{comes, tableShort, answerShort, ticketOf, answerAfter, placedOf, tableAfter, asked, committed}
-use Rattle.standing_table.specs.Table.{answerPlace}
+use Rattle.standing_table.specs.StandingTable.{answerPlace}
 use Rattle.standing_calls.specs.Promise.{Answered, AskRefused, PadSeen, AskPromised, CommitRefused, CommitPromised}
-use Rattle.standing_table.specs.Table.{standingWords, padsHeld, observedPlace, observedWords, stateHeld, StandsIn}
+use Rattle.standing_table.specs.StandingTable.{standingWords, padsHeld, observedPlace, observedWords, stateHeld, StandsIn}
 use Rattle.standing_calls.proofs.Meaning.{numbers-size, table-long, held-standing, comes-standing, means}
-use Rattle.standing_table.proofs.Table.{numbers-part, number-at, observed-length, observed-word, observed-at}
+use Rattle.standing_table.proofs.StandingTable.{numbers-part, number-at, observed-length, observed-word, observed-at}
 
 -- ---- the checks of an ask and of a commit
 

@@ -15,7 +15,7 @@ use Rattle.demands.specs.Own.{ownTables}
 use Rattle.standing_texts.specs.Held.{entered, heldBy}
 use Rattle.standing_calls.specs.declared.Pads.{Pads}
 use Rattle.standing_calls.specs.declared.Pads.the-variants.{Count, Refused}
-use Rattle.standing_table.specs.Table.{standingWords, observedWords}
+use Rattle.standing_table.specs.StandingTable.{standingWords, observedWords}
 
 -- ---- asking and committing
 

@@ -14,7 +14,7 @@ use Rattle.reading.specs.Refusal.{Read, refused, read}
 use Rattle.calculation.specs.Nodes.{Kind, Purpose, kindNumber, observe, node}
 use Rattle.calculation.specs.Calculation.{analysed}
 use Rattle.calculation.specs.Settled.{Settled, FewSweeps}
-use Rattle.calculation.specs.Plans.{Exact}
+use Rattle.calculation.specs.LinePlans.{Exact}
 use Rattle.calculation.specs.Pads.{State, statementsOf, fresh, unpaddable, stale, placed, ask, commit, step}
 use Rattle.calculation.specs.StandingAnalysis.{OnePadMore}
 use Rattle.netlist_table.specs.Netlist.{gatesOf}
@@ -22,7 +22,7 @@ use Rattle.demands.specs.declared.Summary.{Summary}
 use Rattle.demands.specs.Demands.{Reported, PairRead, Promised}
 use Rattle.demands.specs.Outcome as O
 use Rattle.demands.specs.Own.{ownTables}
-use Rattle.standing_table.specs.Table.{observedWords, StandsIn, answerPlace}
+use Rattle.standing_table.specs.StandingTable.{observedWords, StandsIn, answerPlace}
 use Rattle.standing_calls.specs.Calls.{comes, tableShort, answerShort, ticketOf, answerAfter, placedOf, tableAfter, asked, committed, standing, stood, reported}
 
 -- Demands 2 and 3 of the numbers that stand in a table: they are those of a new analysis with the pads as outputs, to which the

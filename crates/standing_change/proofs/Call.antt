@@ -38,7 +38,7 @@ use Rattle.calculation.specs.Stored.{Holds, Ready}
 use Rattle.library_growth.specs.Held.{HoldsCells, SomeCells}
 use Rattle.demands.specs.Outcome.{Given, Pair, readPair, givenBy, givenTexts, textLong}
 use Rattle.demands.proofs.Acceptance.{read-as}
-use Rattle.standing_table.specs.Table.{padsHeld, stateHeld}
+use Rattle.standing_table.specs.StandingTable.{padsHeld, stateHeld}
 use Rattle.standing_texts.specs.Held.{entered, foreign, heldBy}
 use Rattle.standing_calls.specs.Calls.{tableShort}
 use Rattle.standing_texts.specs.Parts.{PadsJudged, HeldRead}

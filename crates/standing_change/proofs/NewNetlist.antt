@@ -23,7 +23,7 @@ use Rattle.calculation.specs.StandingAnalysis.{begunAgain}
 use Rattle.calculation.specs.Stored.{Holds}
 use Rattle.calculation.proofs.NewLibrary.{again-placeable, on-read, on-sound}
 use Rattle.library_growth.specs.Held.{HoldsCells}
-use Rattle.standing_table.specs.Table.{standingWords, padsHeld, stateHeld}
+use Rattle.standing_table.specs.StandingTable.{standingWords, padsHeld, stateHeld}
 use Rattle.standing_texts.specs.Held.{foreign}
 use Rattle.standing_texts.specs.Parts.{PadsJudged}
 use Rattle.standing_change.specs.Calls.{goneOn, Change, changeOf, readUnder, changed, answerOf, tableAfter}

@@ -20,7 +20,7 @@ use Rattle.calculation.specs.Pads.{State}
 use Rattle.calculation.specs.StandingAnalysis.{Standing, wentOn, begunAgain, changedTo}
 use Rattle.calculation.proofs.NewLibrary.{on-read, lesser-on, changed-standing, on-goes}
 use Rattle.demands.specs.Outcome.{Given}
-use Rattle.standing_table.specs.Table.{standingWords, StandsIn}
+use Rattle.standing_table.specs.StandingTable.{standingWords, StandsIn}
 use Rattle.standing_texts.specs.Held.{heldBy}
 use Rattle.standing_calls.specs.Calls.{tableShort}
 use Rattle.standing_calls.proofs.Meaning.{table-long, held-standing, means}

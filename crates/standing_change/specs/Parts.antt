@@ -14,7 +14,7 @@ use Rattle.calculation.specs.Runs.{lesserRuns}
 use Rattle.calculation.specs.Pads.{State, statementsOf, placeable}
 use Rattle.calculation.specs.Stored.{Holds}
 use Rattle.library_growth.specs.Held.{SomeCells}
-use Rattle.standing_table.specs.Table.{standingWords, padsHeld, analysisHeld}
+use Rattle.standing_table.specs.StandingTable.{standingWords, padsHeld, analysisHeld}
 use Rattle.standing_texts.specs.Parts.{PadsJudged}
 use Rattle.standing_change.specs.Calls.{Change, readUnder, answerOf, tableAfter}
 

@@ -14,7 +14,7 @@ use Rattle.calculation.specs.Growth.{grown}
 use Rattle.calculation.specs.Pads.{State}
 use Rattle.calculation.specs.StandingAnalysis.{changedTo, GoesOn}
 use Rattle.demands.specs.Outcome.{Given}
-use Rattle.standing_table.specs.Table.{StandsIn}
+use Rattle.standing_table.specs.StandingTable.{StandsIn}
 use Rattle.standing_calls.specs.Promise.{Meant}
 use Rattle.standing_change.specs.Calls.{comes, answerOf, tableAfter, told}
 

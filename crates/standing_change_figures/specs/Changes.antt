@@ -19,7 +19,7 @@ use Rattle.sweep_reruns.specs.Kept.{held}
 use Rattle.demands.specs.Outcome.{Given, givenTexts, readPair}
 use Rattle.report_figures.specs.Entries.{nand2, and2}
 use Rattle.report_figures.specs.Figures.{outcome-open}
-use Rattle.standing_table.specs.Table.{standingWords, padsHeld, countsHeld, analysisHeld, stateHeld}
+use Rattle.standing_table.specs.StandingTable.{standingWords, padsHeld, countsHeld, analysisHeld, stateHeld}
 use Rattle.standing_texts.specs.Held.{entered, foreign, heldBy}
 use Rattle.standing_calls.specs.Calls.{tableShort, stoodLater, stoodFrom, stood}
 use Rattle.standing_change.specs.Calls.{goneOn, Change, changeOf, changed, changedBy, comes, answerOf, tableAfter}

@@ -16,7 +16,7 @@ use Rattle.sweep_reruns.specs.Kept.{held}
 use Rattle.demands.specs.Outcome.{Given, givenTexts, readPair}
 use Rattle.report_figures.specs.Entries.{nand2}
 use Rattle.report_figures.specs.Figures.{outcome-open}
-use Rattle.standing_table.specs.Table.{standingWords, padsHeld, countsHeld, analysisHeld, stateHeld, observedWords}
+use Rattle.standing_table.specs.StandingTable.{standingWords, padsHeld, countsHeld, analysisHeld, stateHeld, observedWords}
 use Rattle.standing_texts.specs.Held.{entered, foreign, heldBy}
 use Rattle.standing_calls.specs.Calls.{comes, tableShort, ticketOf, answerAfter, placedOf, tableAfter, stoodLater, stoodFrom, stood}
 

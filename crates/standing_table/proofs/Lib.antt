@@ -1,3 +1,3 @@
 pub mod Slices
 pub mod Lengths
-pub mod Table
+pub mod StandingTable

@@ -19,7 +19,7 @@ ghost use Rattle.library_table.specs.Cells.{Cell};
 ghost use Rattle.netlist_table.specs.Netlist.{Statement};
 ghost use Rattle.calculation.specs.Stored.{Holds, Ready, whole};
 ghost use Rattle.sweep_reruns.specs.Kept.{ObservedAnew};
-ghost use Rattle.standing_table.specs.Table.{standingWords, observedWords, StoresPad};
+ghost use Rattle.standing_table.specs.StandingTable.{standingWords, observedWords, StoresPad};
 
 // CO and SO run again, over the values that stand in a standing table.
 pub fn observe(

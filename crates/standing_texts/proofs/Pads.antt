@@ -31,7 +31,7 @@ use Rattle.calculation.proofs.Pads.{padded-more, placeable-append, placeable-mo
 use Rattle.calculation.specs.Stored.{Holds}
 use Rattle.standing_texts.specs.Held.{foreign}
 use Rattle.standing_texts.specs.Parts.{PadTried, PadsTried, PadsJudged}
-use Rattle.standing_table.specs.Table.{padsHeld, stateHeld}
+use Rattle.standing_table.specs.StandingTable.{padsHeld, stateHeld}
 
 -- ---- one pad
 

@@ -32,7 +32,7 @@ use Rattle.analysis_texts.proofs.Own.{zeros-cleared}
 use Rattle.analysis_texts.proofs.Reached.{stands-hold}
 use Rattle.standing_texts.specs.Held.{entered, foreign, heldBy, padCauses}
 use Rattle.standing_texts.specs.Parts.{PadTried, PadsJudged, Zero, TextsRead, HeldRead, PadRead}
-use Rattle.standing_table.specs.Table.{stateHeld}
+use Rattle.standing_table.specs.StandingTable.{stateHeld}
 
 -- ---- one step behind another
 

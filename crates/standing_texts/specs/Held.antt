@@ -10,7 +10,7 @@ use Rattle.reading.specs.Numbers as No
 use Rattle.reading.specs.Refusal.{Read, read, _>>=_, _>>_, weigh}
 use Rattle.calculation.specs.Pads.{State, placeable}
 use Rattle.demands.specs.Outcome as O
-use Rattle.standing_table.specs.Table.{stateHeld}
+use Rattle.standing_table.specs.StandingTable.{stateHeld}
 
 -- "1 a lent table below its published size; 2 a text above 65,535 bytes"
 unfoldable pub entered : Bool → O.Given → Read (Unit {0})

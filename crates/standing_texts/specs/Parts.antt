@@ -14,7 +14,7 @@ use Rattle.netlist_table.specs.Netlist.{Statement, mark, output}
 use Rattle.calculation.specs.Pads.{padded, State, statementsOf, takesNone, unpaddable, placeable, placed}
 use Rattle.calculation.specs.Stored.{Holds}
 use Rattle.demands.specs.Outcome.{Given, Pair, readPair}
-use Rattle.standing_table.specs.Table.{stateHeld}
+use Rattle.standing_table.specs.StandingTable.{stateHeld}
 use Rattle.standing_texts.specs.Held.{entered, foreign, heldBy, padCauses}
 
 -- A pad on a line: whether it may be placed, and, where it was, the netlist table with its mark.

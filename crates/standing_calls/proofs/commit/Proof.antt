@@ -12,7 +12,7 @@ use Rattle.reading.specs.Verdict.{verdictRead}
 use Rattle.demands.specs.Outcome.{Given, givenTexts}
 use Rattle.demands.proofs.Given.{texts-checked}
 use Rattle.standing_calls.specs.Calls.{tableShort, padsRead}
-use Rattle.standing_table.specs.Table.{StoresPad}
+use Rattle.standing_table.specs.StandingTable.{StoresPad}
 use Rattle.standing_texts.specs.Parts.{PadRead}
 use Rattle.standing_calls.specs.Promise.{CommitPromised}
 use Rattle.standing_calls.proofs.Calls.{is-short, is-long, ready, in-range, room, commit-short, commit-stopped, commit-stored}

@@ -8,8 +8,8 @@ use lib.Seq.{take-all}
 use denote.Ref.{now}
 use Rattle.sizes.specs.Sizes as Size
 use Rattle.netlist_table.proofs.Copied.{copy-next}
-use Rattle.standing_table.specs.Table.{observedPlace, observedWords}
-use Rattle.standing_table.proofs.Table.{observed-length, observed-word}
+use Rattle.standing_table.specs.StandingTable.{observedPlace, observedWords}
+use Rattle.standing_table.proofs.StandingTable.{observed-length, observed-word}
 use Rattle.standing_table.proofs.hand_observed.Statement.{statement}
 use Rattle.standing_table.proofs.hand_observed.Tie as tie
 

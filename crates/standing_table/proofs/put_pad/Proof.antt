@@ -8,7 +8,7 @@ use borrow.Author.Needs.{needs}
 use Rattle.sizes.specs.Sizes as Size
 use Rattle.standing_table.proofs.Slices.{ready-size}
 use Rattle.standing_table.proofs.Lengths.{anew-length}
-use Rattle.standing_table.proofs.Table.{stores}
+use Rattle.standing_table.proofs.StandingTable.{stores}
 use Rattle.standing_table.proofs.put_pad.Statement.{statement}
 use Rattle.standing_table.proofs.put_pad.Tie as tie
 

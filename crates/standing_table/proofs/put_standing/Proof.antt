@@ -6,7 +6,7 @@ use native.Mathlib.Omega.{arith}
 use lib.ListN.{set}
 use denote.Ref.{now}
 use borrow.Author.Needs.{needs}
-use Rattle.standing_table.proofs.Table.{stored}
+use Rattle.standing_table.proofs.StandingTable.{stored}
 use Rattle.standing_table.proofs.put_standing.Statement.{statement}
 use Rattle.standing_table.proofs.put_standing.Tie as tie
 

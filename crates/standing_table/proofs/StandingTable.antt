@@ -22,9 +22,9 @@ use Rattle.calculation.proofs.Laws.{kind-small}
 use Rattle.sweep_runs.specs.declared.Sweeps.{Sweeps}
 use Rattle.sweep_reruns.specs.Kept.{asCost, held, ObservedAnew}
 use Rattle.calculation.specs.Stored.{whole}
-use Rattle.standing_table.specs.Table.{StoresPad}
-use Rattle.standing_table.specs.Table.{answerPlace}
-use Rattle.standing_table.specs.Table.{standingWords, padsHeld, countsHeld, analysisHeld, observedPlace, observedWords}
+use Rattle.standing_table.specs.StandingTable.{StoresPad}
+use Rattle.standing_table.specs.StandingTable.{answerPlace}
+use Rattle.standing_table.specs.StandingTable.{standingWords, padsHeld, countsHeld, analysisHeld, observedPlace, observedWords}
 
 -- ---- a table that holds pads and an analysis
 
