@@ -1,5 +1,5 @@
--- The columns that a row names at a gate: their places in the numbers table are the nodes that specs/Ways.antt asks for.
--- Assumes nothing.
+-- The columns that a row names at a gate: their places in the numbers table are the nodes that calculation/specs/Ways.antt
+-- asks for. Assumes nothing.
 use mathlib.Core.List.{List, [], _∷_, _++_, map}
 use mathlib.Core.Path.{_≡_, refl, sym, ap, ap₂, _∙_}
 use Prim.Native.Nat.{ℕ, zero, suc, _+_, _*_, _-_, _/_, _%_, _^_, _≤_, _<_}
