@@ -1,15 +1,18 @@
 -- A table that holds statements says of their lines. What each law says is in specs/Lines.antt's words.
 -- Assumes nothing.
-use mathlib.Core.Bool.{Bool, not, Bool·not-not}
+use mathlib.Core.Bool.{Bool, false, not, Bool·not-not}
 use mathlib.Core.List.{List, _++_}
 use mathlib.Core.Path.{_≡_, refl, ap, _∙_}
-use Prim.Native.Nat.{ℕ, zero, suc, _+_, _≤_, _<_}
+use Prim.Native.Nat.{ℕ, zero, suc, _+_, _-_, _≤_, _<_}
 use native.Mathlib.Omega.{arith}
 use lib.Dec.{eqb}
+use lib.ListN.{length}
+use Rattle.sizes.specs.Places.{mentionPlace}
 use Rattle.sizes.specs.Sizes as Size
+use Rattle.table.proofs.UsedPart.{used-most, used-behind, used-stands}
 use Rattle.netlist_table.specs.Netlist.{Statement, isInput, mentioned, linesWhere}
 use Rattle.netlist_table.specs.Layout.{mentionWord, netlistWords}
-use Rattle.netlist_table.specs.Lines.{inputAt, mentionAt, inputsHeld, mentionsHeld}
+use Rattle.netlist_table.specs.Lines.{inputAt, mentionAt, highestMentioned, inputsHeld, mentionsHeld}
 use Rattle.netlist_table.proofs.Causes.{flag-zero, driver-input}
 use Rattle.netlist_table.proofs.Places.{driver-word, mention-word}
 
@@ -22,6 +25,19 @@ where-same p q (suc n) first same =
       same first (omega arith) (omega arith),
       where-same p q n (suc first) (λ l low high. same l (omega arith) (omega arith)),
     )
+
+-- No line past the highest is mentioned; and the lines up to it stand in the table.
+module _ (table : List ℕ) where
+  pub past-highest : (l : ℕ) → highestMentioned table < l → l ≤ Size.lines → mentionAt table l ≡ false
+  past-highest l low high =
+      let e : mentionPlace l ≡ mentionPlace 1 + (l - 1) = omega arith in
+      rw (e, used-behind table (mentionPlace 1) Size.lines (l - 1) (omega arith) (omega arith))
+
+  pub highest-few : highestMentioned table ≤ Size.lines
+  highest-few = used-most table (mentionPlace 1) Size.lines
+
+  pub highest-stands : (l : ℕ) → 1 ≤ l → l ≤ highestMentioned table → mentionPlace l < length table
+  highest-stands l low high = omega (arith, used-stands table (mentionPlace 1) Size.lines (omega arith))
 
 module _ (ss : List Statement) (past : List ℕ) where
   abbrev table : List ℕ

@@ -1,10 +1,10 @@
 -- What the table says of lines that nothing declares, behind refusal 20, and whether there is a range.
 -- Assumes nothing.
-use mathlib.Core.Bool.{Bool, true, false, not, _&&_, and-false, Bool·not-not}
+use mathlib.Core.Bool.{Bool, true, false, not, _&&_, _||_, and-false, or-assoc, Bool·not-not}
 use mathlib.Core.List.{List, [], _∷_, flatMap}
 use mathlib.Core.Logic.{_⊎_, inl, inr, ⊎-elim}
 use mathlib.Core.Path.{_≡_, refl, ap, _∙_}
-use Prim.Native.Nat.{ℕ, suc, _+_, _-_, _≤_, _<_}
+use Prim.Native.Nat.{ℕ, zero, suc, _+_, _-_, _≤_, _<_}
 use native.Mathlib.Omega.{arith}
 use lib.Dec.{eqb}
 use borrow.Author.Tests.{eqb-true}
@@ -124,32 +124,30 @@ some-ranged {table} {ss} h = rw (h .words, ranged-word ss (h .past)) (ap not (fl
 
 -- ---- the loop over the lines
 
-module _ (p : ℕ → Bool) (n l : ℕ) where
-  some-here : p l ≡ true → someLine (linesWhere p (suc n) l) ≡ true
+-- What is left to ask from line l on.
+abbrev pub someFrom : (ℕ → Bool) → ℕ → Bool
+someFrom p l = someLine (linesWhere p (Size.lines + 1 - l) l)
+
+module _ (p : ℕ → Bool) where
+  some-step : (n l : ℕ) → someLine (linesWhere p (suc n) l) ≡ (p l || someLine (linesWhere p n (suc l)))
   unfolding linesWhere someLine pick
-  some-here t = rw t
+  some-step n l = by-test (p l) (λ t. rw t) (λ t. rw t)
 
-  some-next : p l ≡ false → someLine (linesWhere p (suc n) l) ≡ someLine (linesWhere p n (suc l))
-  unfolding linesWhere pick
-  some-next t = rw t
+  pub some-more : (l : ℕ) (found : Bool) → l ≤ Size.lines → (found || someFrom p l) ≡ ((found || p l) || someFrom p (l + 1))
+  some-more l found h =
+      let n : Size.lines + 1 - l ≡ suc (Size.lines - l) = omega arith in
+      let m : Size.lines + 1 - (l + 1) ≡ Size.lines - l = omega arith in
+      let k : l + 1 ≡ suc l = omega arith in
+      rw (n, m, k, some-step (Size.lines - l) l, or-assoc found (p l) (someLine (linesWhere p (Size.lines - l) (suc l))))
 
-module _ (p : ℕ → Bool) (l : ℕ) (low : l ≤ Size.lines) where
-  left-lines : Size.lines + 1 - l ≡ suc (Size.lines - l)
-  left-lines = omega arith
+  none-where : (n l : ℕ) → ((k : ℕ) → l ≤ k → k < l + n → p k ≡ false) → someLine (linesWhere p n l) ≡ false
+  unfolding linesWhere someLine
+  none-where zero l h = refl
+  none-where (suc n) l h =
+      some-step n l ∙ rw (h l (omega arith) (omega arith)) (none-where n (suc l) (λ k low high. h k (omega arith) (omega arith)))
 
-  pub where-here : p l ≡ true → someLine (linesWhere p (Size.lines + 1 - l) l) ≡ true
-  where-here t = rw left-lines (some-here p (Size.lines - l) l t)
-
-  pub where-next : p l ≡ false
-      → someLine (linesWhere p (Size.lines + 1 - l) l) ≡ someLine (linesWhere p (Size.lines + 1 - (l + 1)) (l + 1))
-  where-next t =
-      let n : Size.lines + 1 - (l + 1) ≡ Size.lines - l = omega arith in
-      let m : l + 1 ≡ suc l = omega arith in
-      rw (left-lines, n, m) (some-next p (Size.lines - l) l t)
-
-pub where-end : (p : ℕ → Bool) (l : ℕ) → Size.lines < l → someLine (linesWhere p (Size.lines + 1 - l) l) ≡ false
-unfolding linesWhere someLine
-where-end p l h = let n : Size.lines + 1 - l ≡ 0 = omega arith in rw n
+  pub none-from : (l : ℕ) → ((k : ℕ) → l ≤ k → k ≤ Size.lines → p k ≡ false) → someFrom p l ≡ false
+  none-from l h = none-where (Size.lines + 1 - l) l (λ k low high. h k low (omega arith))
 
 -- ---- behind all statements
 

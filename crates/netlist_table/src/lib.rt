@@ -7,8 +7,8 @@
 ghost use mathlib.Core.Path.{_≡_};
 ghost use mathlib.Core.List.{List, [], _∷_};
 ghost use mathlib.Core.Option.{Option, some};
-ghost use Prim.Native.Nat.{_+_, _*_, _≤_, min};
-ghost use lib.ListN.{set, take};
+ghost use Prim.Native.Nat.{_+_, _*_, _≤_, _<_, min};
+ghost use lib.ListN.{length, set, take};
 ghost use lib.Seq.{sets};
 ghost use Rattle.sizes.specs.Places.{gatePlace, mentionPlace};
 ghost use Rattle.sizes.specs.Sizes as Size;
@@ -22,7 +22,9 @@ use gates::place_of;
 use library_table::cells::count;
 use library_table::cells::pins_of;
 use lines::driver_of;
+use lines::highest;
 use lines::mentioned;
+use lines::unchecked;
 use table::put;
 use table::word;
 
@@ -316,18 +318,28 @@ pub fn undeclared(table: &[u32], l: usize) -> bool
     mentioned(table, line) & unclaimed
 }
 
-// Whether some line is.
+// The same of a line that stands in the table.
+fn stands_undeclared(table: &[u32], l: usize) -> bool
+    requires { ⌜ mentionPlace l < length (now table) ⌝ }
+    ensures { λ r. ⌜ r ≡ wordsUndeclared (now (table .entry)) l ⌝ }
+{
+    let unclaimed = unchecked::driver_of(table, l) == 0;
+    (unchecked::mention_of(table, l) != 0) & unclaimed
+}
+
+// Whether some line is. No line past the highest that is mentioned is asked for, and no turn of the loop leaves it, so that the
+// compiler takes several lines at once.
 pub fn some_undeclared(table: &[u32]) -> bool
     ensures { λ r. ⌜ r ≡ someUndeclared (now (table .entry)) ⌝ }
 {
+    let end = highest(table);
+    let mut found = false;
     let mut l = 1;
-    while l <= sizes::LINES {
-        if undeclared(table, l) {
-            return true;
-        }
+    while l <= end {
+        found = found | stands_undeclared(table, l);
         l += 1;
     }
-    false
+    found
 }
 
 // ---- ranges

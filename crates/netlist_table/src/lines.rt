@@ -1,10 +1,11 @@
 // What a netlist table says of its lines (specs/Lines.antt), over any table: a place past its end counts as 0.
 //
-// Open to others: `driver_of` and `mentioned`. Module `unchecked` is for the loop that lays the start.
+// Open to others: `driver_of`, `mentioned` and `highest`. Module `unchecked` is for loops over lines that stand in the table.
 ghost use mathlib.Core.Path.{_≡_};
 ghost use lib.ListN.{getD};
 ghost use Rattle.sizes.specs.Places.{driverPlace};
-ghost use Rattle.netlist_table.specs.Lines.{mentionAt};
+ghost use Rattle.netlist_table.specs.Lines.{mentionAt, highestMentioned};
+use table::used;
 use table::word;
 
 pub mod unchecked;
@@ -21,4 +22,11 @@ pub fn mentioned(table: &[u32], l: u32) -> bool
     ensures { λ r. ⌜ r ≡ mentionAt (now (table .entry)) l ⌝ }
 {
     word(table, sizes::MENTIONS_AT + l as usize) != 0
+}
+
+// The highest line that stands anywhere in the netlist, 0 where none does.
+pub fn highest(table: &[u32]) -> usize
+    ensures { λ r. ⌜ r ≡ highestMentioned (now (table .entry)) ⌝ }
+{
+    used(table, sizes::MENTIONS_AT + 1, sizes::LINES)
 }

@@ -1,48 +1,64 @@
--- `some_undeclared` looks for a line: none of those passed is one. Assumes nothing.
-use mathlib.Core.Path.{_≡_, refl, sym, _∙_}
-use Prim.Native.Nat.{_+_, _-_, _≤_}
+-- `some_undeclared` asks one line more with each turn; those past the highest that is mentioned are none. Assumes nothing.
+use mathlib.Core.Bool.{Bool, _||_, or-false}
+use mathlib.Core.List.{List}
+use mathlib.Core.Path.{_≡_, refl, sym, ap, _∙_}
+use Prim.Native.Nat.{ℕ, _+_, _-_, _≤_}
 use native.Mathlib.Omega.{arith}
-use Rattle.sizes.specs.Sizes as Size
-use Rattle.netlist_table.specs.Netlist.{linesWhere, someLine}
+use borrow.Author.Needs.{needs}
+use Rattle.netlist_table.specs.Lines.{highestMentioned}
 use Rattle.netlist_table.specs.Admission.{wordsUndeclared, someUndeclared}
-use Rattle.netlist_table.proofs.OpenLines.{where-here, where-next, where-end}
+use Rattle.netlist_table.proofs.HeldLines.{past-highest, highest-few, highest-stands}
+use Rattle.netlist_table.proofs.OpenLines.{someFrom, some-more, none-from}
 use Rattle.netlist_table.proofs.some_undeclared.Statement.{statement}
 use Rattle.netlist_table.proofs.some_undeclared.Tie as tie
 
 abbrev Inv-loop : tie.InvT-loop
-Inv-loop table l₀ l =
-    (l ≤ Size.lines + 1) × (someUndeclared table ≡ someLine (linesWhere (wordsUndeclared table) (Size.lines + 1 - l) l))
+Inv-loop table end found₀ l₀ found l =
+    (1 ≤ l) × (l ≤ highestMentioned table + 1) × (someUndeclared table ≡ (found || someFrom (wordsUndeclared table) l))
 
 abbrev μ-loop : tie.MeasureT-loop
-μ-loop table l₀ l = Size.lines + 1 - l
+μ-loop table end found₀ l₀ found l = end + 1 - l
+
+abbrev table : tie.At-loop Inv-loop μ-loop → List ℕ
+table l = l .before .before .before .args .table .now
 
 loop-holds : tie.Need-loop-holds Inv-loop μ-loop
-loop-holds c = (omega arith, refl)
+loop-holds c = (omega arith, omega arith, refl)
 
-undeclared-requires : tie.Need-undeclared-requires Inv-loop μ-loop
-undeclared-requires c κs = omega arith
-
-returns : tie.Need-returns Inv-loop μ-loop
-returns c =
-    let u = c .before in
-    let w = u .before .before in
-    sym (w .loop .inv .1 ∙ where-here _ (w .loop .l) (omega arith) (sym (u .undeclared .ensures) ∙ c .if1 .taken))
+stands-undeclared-requires : tie.Need-stands-undeclared-requires Inv-loop μ-loop
+stands-undeclared-requires c κs =
+    let l = c .before in
+    highest-stands (table l) (l .loop .l) (omega arith) (omega arith)
 
 add-l : tie.Need-add-l Inv-loop μ-loop
-add-l c = omega arith
-
-loop-less : tie.Need-loop-less Inv-loop μ-loop
-loop-less c = omega arith
+add-l c = omega (arith, highest-few (table (c .before .before)))
 
 loop-again : tie.Need-loop-again Inv-loop μ-loop
 loop-again c =
-    let u = c .before in
-    let w = u .before .before in
-    (omega arith, w .loop .inv .1 ∙ where-next _ (w .loop .l) (omega arith) (sym (u .undeclared .ensures) ∙ c .if1 .left))
+    let l = c .before .before in
+    let p = wordsUndeclared (table l) in (
+      omega arith,
+      omega arith,
+      l .loop .inv .2 ∙ some-more p (l .loop .l) (l .loop .found) (omega (arith, highest-few (table l)))
+          ∙ ap (λ (b : Bool). (l .loop .found || b) || someFrom p (l .loop .l + 1)) (sym (c .stands-undeclared .ensures)),
+    )
 
-returns-2 : tie.Need-returns-2 Inv-loop μ-loop
-returns-2 c = let w = c .before in sym (w .loop .inv .1 ∙ where-end _ (w .loop .l) (omega arith))
+returns : tie.Need-returns Inv-loop μ-loop
+returns c =
+    let l = c .before in
+    let none = none-from (wordsUndeclared (table l)) (l .loop .l) (λ k low high. rw (past-highest (table l) k (omega arith) high)) in
+    sym (l .loop .inv .2 ∙ ap (λ (b : Bool). l .loop .found || b) none ∙ or-false (l .loop .found))
 
 pub some-undeclared-spec : {M : Type 1} → statement M
 some-undeclared-spec =
-    tie.close (tie.spec Inv-loop μ-loop loop-holds undeclared-requires returns add-l loop-less loop-again returns-2)
+    tie.close
+    (tie.spec
+    Inv-loop
+    μ-loop
+    (λ c κs. search needs)
+    loop-holds
+    stands-undeclared-requires
+    add-l
+    (λ c. omega arith)
+    loop-again
+    returns)

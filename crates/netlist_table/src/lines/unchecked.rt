@@ -2,7 +2,7 @@
 ghost use mathlib.Core.Path.{_≡_};
 ghost use Prim.Native.Nat.{_<_};
 ghost use lib.ListN.{length, getD};
-ghost use Rattle.sizes.specs.Places.{driverPlace, outputPlace, rangePlace};
+ghost use Rattle.sizes.specs.Places.{driverPlace, outputPlace, mentionPlace, rangePlace};
 
 // What drives a line.
 pub fn driver_of(table: &[u32], l: usize) -> u32
@@ -18,6 +18,14 @@ pub fn output_of(table: &[u32], l: usize) -> u32
     ensures { λ r. ⌜ r ≡ getD (now (table .entry)) (outputPlace l) 0 ⌝ }
 {
     table[sizes::OUTPUTS_AT + l]
+}
+
+// Whether a line stands anywhere in the netlist: 0 where it does not.
+pub fn mention_of(table: &[u32], l: usize) -> u32
+    requires { ⌜ mentionPlace l < length (now table) ⌝ }
+    ensures { λ r. ⌜ r ≡ getD (now (table .entry)) (mentionPlace l) 0 ⌝ }
+{
+    table[sizes::MENTIONS_AT + l]
 }
 
 // The range of a line in its one number, 0 where there is none.
