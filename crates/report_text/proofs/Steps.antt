@@ -1,11 +1,13 @@
 -- What the functions that write a report share: a cost more, a line more.
 -- Assumes nothing.
-use mathlib.Core.Bool.{Bool}
+use mathlib.Core.Bool.{Bool, false}
 use mathlib.Core.List.{List, [], _∷_, _++_, append-nil, append-assoc}
-use mathlib.Core.Path.{_≡_, sym}
-use Prim.Native.Nat.{ℕ, zero, suc, _+_}
+use mathlib.Core.Path.{_≡_, sym, ap, _∙_}
+use Prim.Native.Nat.{ℕ, zero, suc, _+_, _-_, _≤_, _<_}
 use native.Mathlib.Nat.{add-zero, add-suc, suc-add}
+use native.Mathlib.Omega.{arith}
 use lib.ListN.{getD}
+use Rattle.sizes.specs.Sizes as Size
 use Rattle.reading.specs.Choice.{pick}
 use Rattle.report_text.specs.Report.{costBytes, costsFrom, lineBytes, linesBytes}
 
@@ -26,3 +28,20 @@ lines-more mentioned numbers (suc n) l =
     (sym
     (append-assoc (pick (mentioned l) (lineBytes numbers l) []) (linesBytes mentioned numbers n (suc l))
     (pick (mentioned (suc (l + n))) (lineBytes numbers (suc (l + n))) [])))
+
+-- Lines that are not mentioned have nothing.
+lines-none : (mentioned : ℕ → Bool) (numbers : List ℕ) (n k l : ℕ) → ((i : ℕ) → n ≤ i → i < n + k → mentioned (l + i) ≡ false)
+    → linesBytes mentioned numbers (n + k) l ≡ linesBytes mentioned numbers n l
+unfolding pick
+lines-none mentioned numbers n zero l none = rw (add-zero n)
+lines-none mentioned numbers n (suc k) l none =
+    rw (add-suc n k, lines-more mentioned numbers (n + k) l, none (n + k) (omega arith) (omega arith), append-nil (linesBytes mentioned numbers (n + k) l))
+    (lines-none mentioned numbers n k l (λ i low high. none i low (omega arith)))
+
+-- So all lines are those up to one past which none is mentioned.
+pub lines-all : (mentioned : ℕ → Bool) (numbers : List ℕ) (n : ℕ) → n ≤ Size.lines → ((l : ℕ) → n < l → l ≤ Size.lines → mentioned l ≡ false)
+    → linesBytes mentioned numbers n 1 ≡ linesBytes mentioned numbers Size.lines 1
+lines-all mentioned numbers n few none =
+    let all : n + (Size.lines - n) ≡ Size.lines = omega arith in
+    sym (lines-none mentioned numbers n (Size.lines - n) 1 (λ i low high. none (1 + i) (omega arith) (omega arith)))
+    ∙ ap (λ (k : ℕ). linesBytes mentioned numbers k 1) all

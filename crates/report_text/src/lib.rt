@@ -9,6 +9,7 @@ ghost use mathlib.Core.List.{[], _∷_, _++_};
 ghost use Prim.Native.Nat.{_+_};
 ghost use Rattle.sizes.specs.Sizes as Size;
 ghost use Rattle.reading.specs.Choice.{pick};
+ghost use Rattle.netlist_table.specs.Lines.{highestMentioned};
 ghost use Rattle.writer.specs.Decimal.{decimalBytes};
 ghost use Rattle.writer.specs.Put.{Put};
 ghost use Rattle.report_text.specs.Report.{costBytes, costsFrom, lineBytes, linesBytes, sweepsBytes, highLine};
@@ -22,8 +23,6 @@ use writer::put_decimal;
 const COMMA: u8 = 44;
 
 const LINE_END: u8 = 10;
-
-const LINES: u16 = sizes::LINES as u16;
 
 const COSTS: u32 = sizes::COSTS as u32;
 
@@ -86,14 +85,23 @@ fn put_row(report: &mut [u8], at: usize, netlist: &[u32], numbers: &[u32], row: 
     }
 }
 
+// The highest line that the netlist table mentions.
+fn last_line(netlist: &[u32]) -> u16
+    ensures { λ r. ⌜ r ≡ highestMentioned (now (netlist .entry)) ⌝ }
+{
+    lines::highest(netlist) as u16
+}
+
+// The lines that the netlist table mentions. Of those past the highest there is nothing to print, and they are not asked for.
 fn put_lines(report: &mut [u8], at: usize, netlist: &[u32], numbers: &[u32]) -> usize
     ensures { λ r.
         ⌜ Put at (linesBytes (marked (now (netlist .entry))) (now (numbers .entry)) Size.lines 1)
         (now (report .entry)) (now (report .exit)) r ⌝ }
 {
+    let end = last_line(netlist);
     let mut next = at;
     let mut row = 0;
-    while row < LINES {
+    while row < end {
         next = put_row(report, next, netlist, numbers, row);
         row += 1;
     }

@@ -3,18 +3,27 @@
 use mathlib.Core.Bool.{Bool}
 use mathlib.Core.List.{List, [], _∷_, _++_, append-assoc, append-nil}
 use mathlib.Core.Path.{_≡_, refl, sym, ap, _∙_}
-use Prim.Native.Nat.{ℕ, zero, suc, _+_, _*_, _-_, _≤_}
+use Prim.Native.Nat.{ℕ, zero, suc, _+_, _*_, _-_, _≤_, _<_}
 use native.Mathlib.Omega.{arith}
-use lib.ListN.{length, getD, drop, set, length-append, length-drop, drop-of-length-le}
-use lib.Seq.{sets, sets-eq, take-at, drop-append-add, drop-drop}
+use lib.ListN.{length, getD, drop, set, replicate, length-append, length-drop, length-replicate, replicate-append-replicate}
+use lib.Seq.{sets, sets-eq, take-at, drop-at, drop-append-add, drop-drop}
 use Rattle.sizes.specs.Sizes as Size
 use Rattle.sizes.specs.Places.{driverPlace, outputPlace}
-use Rattle.sweep_start.specs.Start.{startNumber, linePrice, lineStart, linesStart}
+use Rattle.table.proofs.UsedPart.{used-most, used-behind}
+use Rattle.reading.specs.Choice.{pick}
+use Rattle.cost.specs.Cost.{never}
+use Rattle.sweep_start.specs.Start.{startNumber, linePrice, lineStart, linesStart, lastMarked}
 
 -- Six stores, one behind the other.
 six-stores : (xs : List ℕ) (place a b c d e f : ℕ)
     → set (set (set (set (set (set xs place a) (place + 1) b) (place + 2) c) (place + 3) d) (place + 4) e) (place + 5) f ≡ sets xs place (a ∷ b ∷ c ∷ d ∷ e ∷ f ∷ [])
 six-stores xs place a b c d e f = simp native.Mathlib.Numerals.towards-suc
+
+-- What is left of numbers that are all never.
+nevers-left : (a b n : ℕ) → n ≡ a + b → drop a (replicate n never) ≡ replicate b never
+nevers-left a b n e =
+    ap (λ (m : ℕ). drop a (replicate m never)) e ∙ ap (drop a) (sym (replicate-append-replicate a b never))
+    ∙ drop-at (replicate a never) (replicate b never) a (length-replicate a never)
 
 module _ (high : Bool) (netlist : List ℕ) where
   -- The six numbers of a line, as they are stored.
@@ -66,7 +75,46 @@ module _ (high : Bool) (netlist : List ℕ) where
       ∙ sets-eq (lineStart high netlist (1 + i)) (p ++ q) (i * Size.costs) b
       ∙ rw (take-at p q (i * Size.costs) n, d, m, lines-next i 1)
 
-  pub laid-all : (xs ys : List ℕ) (i : ℕ) → length xs ≡ i * Size.costs → Laid xs i ys → ys ≡ linesStart high netlist i 1
-  laid-all xs ys i h l =
-      let e : length xs ≤ i * Size.costs = omega arith in
-      l ∙ rw (drop-of-length-le xs e, append-nil (linesStart high netlist i 1))
+  -- ---- past the last line that is marked
+
+  -- A line that is neither driven nor an output starts at never.
+  unmarked-start : (l : ℕ) → getD netlist (driverPlace l) 0 ≡ 0 → getD netlist (outputPlace l) 0 ≡ 0 → lineStart high netlist l ≡ replicate Size.costs never
+  unfolding lineStart startNumber pick
+  unmarked-start l d o = rw (d, o)
+
+  past-marked : (l : ℕ) → lastMarked netlist < l → l ≤ Size.lines → lineStart high netlist l ≡ replicate Size.costs never
+  past-marked l low up =
+      let d : driverPlace l ≡ driverPlace 1 + (l - 1) = omega arith in
+      let o : outputPlace l ≡ outputPlace 1 + (l - 1) = omega arith in
+      unmarked-start l
+      (rw d (used-behind netlist (driverPlace 1) Size.lines (l - 1) (omega arith) (omega arith)))
+      (rw o (used-behind netlist (outputPlace 1) Size.lines (l - 1) (omega arith) (omega arith)))
+
+  pub marked-few : lastMarked netlist ≤ Size.lines
+  marked-few = omega (arith, used-most netlist (driverPlace 1) Size.lines, used-most netlist (outputPlace 1) Size.lines)
+
+  nevers : (k first : ℕ) → ((l : ℕ) → first ≤ l → l < first + k → lineStart high netlist l ≡ replicate Size.costs never)
+      → linesStart high netlist k first ≡ replicate (k * Size.costs) never
+  unfolding linesStart
+  nevers zero first h = refl
+  nevers (suc k) first h =
+      let e : suc k * Size.costs ≡ Size.costs + k * Size.costs = omega arith in
+      rw (e, h first (omega arith) (omega arith), nevers k (suc first) (λ l low up. h l (omega arith) (omega arith)))
+      (replicate-append-replicate Size.costs (k * Size.costs) never)
+
+  lines-split : (i k first : ℕ) → linesStart high netlist (i + k) first ≡ linesStart high netlist i first ++ linesStart high netlist k (first + i)
+  unfolding linesStart
+  lines-split zero k first = let n : 0 + k ≡ k = omega arith in let m : first + 0 ≡ first = omega arith in rw (n, m)
+  lines-split (suc i) k first =
+      let n : suc i + k ≡ suc (i + k) = omega arith in
+      let m : first + suc i ≡ suc first + i = omega arith in
+      rw (n, m, lines-split i k (suc first))
+      (sym (append-assoc (lineStart high netlist first) (linesStart high netlist i (suc first)) (linesStart high netlist k (suc first + i))))
+
+  pub laid-all : (ys : List ℕ) (i : ℕ) → lastMarked netlist ≤ i → i ≤ Size.lines → Laid (replicate Size.numbers never) i ys → ys ≡ linesStart high netlist Size.lines 1
+  laid-all ys i h few l =
+      let k = Size.lines - i in
+      let all : i + k ≡ Size.lines = omega arith in
+      l ∙ ap (λ (q : List ℕ). linesStart high netlist i 1 ++ q)
+      (nevers-left (i * Size.costs) (k * Size.costs) Size.numbers (omega arith) ∙ sym (nevers k (1 + i) (λ m low up. past-marked m (omega arith) (omega arith))))
+      ∙ sym (lines-split i k 1) ∙ ap (λ (n : ℕ). linesStart high netlist n 1) all

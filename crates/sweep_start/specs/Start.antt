@@ -2,11 +2,12 @@
 -- Assumes nothing.
 use mathlib.Core.Bool.{Bool}
 use mathlib.Core.List.{List, [], _∷_, _++_}
-use Prim.Native.Nat.{ℕ, zero, suc, _/_, _%_}
+use Prim.Native.Nat.{ℕ, zero, suc, _/_, _%_, max}
 use lib.Dec.{eqb}
 use lib.ListN.{getD}
 use Rattle.sizes.specs.Sizes as Size
 use Rattle.sizes.specs.Places.{driverPlace, outputPlace, rangePlace, rangedPlace}
+use Rattle.table.specs.Blocks.{used}
 use Rattle.cost.specs.Cost.{never}
 use Rattle.reading.specs.Choice.{pick}
 
@@ -35,3 +36,7 @@ lineStart high netlist l =
 unfoldable pub linesStart : Bool → List ℕ → ℕ → ℕ → List ℕ
 linesStart high netlist zero first = []
 linesStart high netlist (suc count) first = lineStart high netlist first ++ linesStart high netlist count (suc first)
+
+-- The highest line that the table says is driven, open or an output.
+abbrev pub lastMarked : List ℕ → ℕ
+lastMarked netlist = max (used netlist (driverPlace 1) Size.lines) (used netlist (outputPlace 1) Size.lines)

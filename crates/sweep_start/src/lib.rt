@@ -5,15 +5,17 @@
 use cost::NEVER;
 use netlist_table::lines::unchecked;
 use netlist_table::some_range;
+use table::used;
 ghost use mathlib.Core.Bool.{not};
 ghost use mathlib.Core.Path.{_≡_};
 ghost use Prim.Native.Nat.{_+_, _*_, _≤_, _<_};
 ghost use lib.Dec.{eqb};
-ghost use lib.ListN.{length, getD};
+ghost use lib.ListN.{length, getD, replicate};
 ghost use lib.Seq.{sets};
 ghost use Rattle.sizes.specs.Sizes as Size;
 ghost use Rattle.sizes.specs.Places.{rangedPlace};
-ghost use Rattle.sweep_start.specs.Start.{startNumber, priceWord, linePrice, lineStart, linesStart};
+ghost use Rattle.cost.specs.Cost.{never};
+ghost use Rattle.sweep_start.specs.Start.{startNumber, priceWord, linePrice, lineStart, linesStart, lastMarked};
 
 // Which end of the ranges the inputs are priced at.
 pub const LOW: bool = false;
@@ -80,14 +82,37 @@ fn start_line(
     numbers[at + 5] = first(output, 0);
 }
 
+// Sets all numbers to never.
+fn lay_never(numbers: &mut [u32; sizes::NUMBERS])
+    requires { ⌜ length (now numbers) ≡ Size.numbers ⌝ }
+    ensures { λ _. ⌜ now (numbers .exit) ≡ replicate Size.numbers never ⌝ }
+{
+    let mut i = 0;
+    while i < sizes::NUMBERS {
+        numbers[i] = NEVER;
+        i += 1;
+    }
+}
+
+// The highest line that is driven, open or an output: no line past it starts at anything but never.
+fn last_marked(netlist: &[u32]) -> usize
+    ensures { λ r. ⌜ r ≡ lastMarked (now (netlist .entry)) ⌝ }
+{
+    let driven = used(netlist, 1, sizes::LINES);
+    let output = used(netlist, sizes::OUTPUTS_AT + 1, sizes::LINES);
+    if driven < output { output } else { driven }
+}
+
 // Lays the start of all numbers, inputs at the high end of their ranges or at the low one.
 pub fn start(netlist: &[u32], numbers: &mut [u32; sizes::NUMBERS], high: bool)
     requires { ⌜ (Size.netlist ≤ length (now netlist)) × (length (now numbers) ≡ Size.numbers) ⌝ }
     ensures { λ _. ⌜ now (numbers .exit) ≡ linesStart high (now (netlist .entry)) Size.lines 1 ⌝ }
 {
+    lay_never(numbers);
     let ranged = some_range(netlist);
+    let end = last_marked(netlist);
     let mut line = 0;
-    while line < sizes::LINES {
+    while line < end {
         start_line(netlist, numbers, line, high, ranged);
         line += 1;
     }

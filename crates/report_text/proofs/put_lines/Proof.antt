@@ -1,26 +1,37 @@
 -- `put_lines` stores the lines one by one, ascending: those passed stand in the buffer. Assumes nothing.
+use mathlib.Core.Bool.{false}
+use mathlib.Core.List.{List}
 use mathlib.Core.Path.{_≡_, _∙_, refl}
-use Prim.Native.Nat.{_≤_, _-_}
+use Prim.Native.Nat.{ℕ, _-_, _≤_, _<_}
 use native.Mathlib.Nat.{add-comm}
 use native.Mathlib.Numerals.{add-one}
 use native.Mathlib.Omega.{arith}
 use borrow.Author.Needs.{needs}
 use lib.ListN.{length}
 use Rattle.sizes.specs.Sizes as Size
+use Rattle.netlist_table.specs.Lines.{highestMentioned}
+use Rattle.netlist_table.proofs.HeldLines.{past-highest, highest-few}
 use Rattle.report_text.specs.Arguments.{marked}
 use Rattle.writer.specs.Put.{Put}
 use Rattle.report_text.specs.Report.{linesBytes}
 use Rattle.writer.proofs.Steps.{put-none, put-then}
-use Rattle.report_text.proofs.Steps.{lines-more}
+use Rattle.report_text.proofs.Steps.{lines-more, lines-all}
 use Rattle.report_text.proofs.put_lines.Statement.{statement}
 use Rattle.report_text.proofs.put_lines.Tie as tie
 
+unmarked : (netlist : List ℕ) (l : ℕ) → highestMentioned netlist < l → l ≤ Size.lines → marked netlist l ≡ false
+unfolding marked
+unmarked netlist l low high = past-highest netlist l low high
+
 abbrev Inv-loop : tie.InvT-loop
-Inv-loop report₀ at netlist numbers next₀ row₀ report next row =
-    (row ≤ Size.lines) × (length report ≡ length report₀) × Put at (linesBytes (marked netlist) numbers row 1) report₀ report next
+Inv-loop report₀ at netlist numbers end next₀ row₀ report next row =
+    (row ≤ end) × (length report ≡ length report₀) × Put at (linesBytes (marked netlist) numbers row 1) report₀ report next
 
 abbrev μ-loop : tie.MeasureT-loop
-μ-loop report₀ at netlist numbers next₀ row₀ report next row = Size.lines - row
+μ-loop report₀ at netlist numbers end next₀ row₀ report next row = end - row
+
+abbrev begun : tie.At-loop Inv-loop μ-loop → tie.Start Inv-loop μ-loop
+begun l = l .before .before .before .before .before
 
 loop-holds : tie.Need-loop-holds Inv-loop μ-loop
 unfolding linesBytes
@@ -31,7 +42,7 @@ loop-again c =
     let p = c .before .before in
     let at = p .before .before .before in
     let l = at .loop in
-    let a = at .before .before .before .before .args in (
+    let a = begun at .args in (
       omega arith,
       p .put-row .kept .0 ∙ l .inv .1,
       rw (add-one (l .row), lines-more (marked (a .netlist .now)) (a .numbers .now) (l .row) 1, add-comm 1 (l .row))
@@ -40,8 +51,11 @@ loop-again c =
 
 returns : tie.Need-returns Inv-loop μ-loop
 returns c =
-    let l = c .before .loop in
-    let all : l .row ≡ Size.lines = omega arith in
+    let at = c .before in
+    let a = begun at .args in
+    let l = at .loop in
+    let netlist = a .netlist .now in
+    let all = lines-all (marked netlist) (a .numbers .now) (l .row) (omega (arith, highest-few netlist)) (λ k low. unmarked netlist k (omega arith)) in
     rw all at (l .inv .2)
 
 pub put-lines-spec : {M : Type 1} → statement M
@@ -50,6 +64,7 @@ put-lines-spec =
     (tie.spec
     Inv-loop
     μ-loop
+    (λ c κs. search needs)
     loop-holds
     (λ c κs. search needs)
     (λ c. omega arith)
