@@ -1,18 +1,20 @@
 -- One turn of each of this crate's loops, as an equation over what remains of the list.
 -- Assumes nothing.
-use mathlib.Core.Bool.{true, false, not}
+use mathlib.Core.Bool.{Bool, true, false, not, _||_}
 use mathlib.Core.List.{List, [], _∷_}
 use mathlib.Core.Path.{_≡_, refl}
-use Prim.Native.Nat.{ℕ, suc, _+_, _*_, _-_, _^_, _≤_, _<_}
+use Prim.Native.Nat.{ℕ, zero, suc, _+_, _*_, _-_, _^_, _≤_, _<_}
+use native.Mathlib.Decide.{decLe}
 use native.Mathlib.Nat.{pow-le-pow-right}
 use native.Mathlib.Numerals.{add-one}
 use native.Mathlib.Omega.{arith}
 use lib.Dec.{eqb}
 use lib.ListN.{length, getD, take, drop, length-drop, drop-of-length-le}
 use lib.Seq.{drop-cons, take-nil, take-all}
-use borrow.Author.Tests.{le-leb, lt-leb, eq-eqb, ne-eqb}
+use borrow.Author.Tests.{le-leb, lt-leb, eq-eqb, ne-eqb, eqb-false}
 use Rattle.sizes.specs.Sizes as Size
-use Rattle.text.specs.Lines.{stop, span, part, sameBytes}
+use Rattle.reading.proofs.Laws.{or-left, or-right}
+use Rattle.text.specs.Lines.{stop, span, someEnds, part, sameBytes}
 use Rattle.text.proofs.Laws.{digit-step}
 use Rattle.text.specs.Numeral.{digitBelow, allDigits, value, noLeadingZero, wellFormed, nameByte, allName, nameForm}
 
@@ -30,6 +32,33 @@ module _ (mark : ℕ) (s : List ℕ) (i : ℕ) where
   span-end h = rw (drop-of-length-le s h)
 
 -- A first part whose end the loop found at `i`.
+-- So many bytes that are no mark are passed over at once.
+pub span-past : (mark : ℕ) (s : List ℕ) (i k : ℕ) → i + k ≤ length s → ((j : ℕ) → j < k → getD s (i + j) 0 ≡ mark → ⊥)
+    → span mark (drop i s) ≡ k + span mark (drop (i + k) s)
+span-past mark s i zero h other = let e : i + 0 ≡ i = omega arith in rw e (omega arith)
+span-past mark s i (suc k) h other =
+    let e : i + suc k ≡ i + k + 1 = omega arith in
+    let on = span-on mark s (i + k) (omega arith) (other k (omega arith)) in
+    rw e (omega (arith, on, span-past mark s i k (omega arith) (λ j l. other j (omega arith))))
+
+-- Whether a line ends in so many bytes.
+module _ (s : List ℕ) (at : ℕ) where
+  pub ends-more : (n : ℕ) (found here : Bool) → found ≡ someEnds s at n → here ≡ eqb (getD s (at + n) 0) 10
+      → (found || here) ≡ someEnds s at (n + 1)
+  unfolding someEnds
+  ends-more n found here f h = rw (add-one n, f, h)
+
+  pub none-ends : (n : ℕ) → someEnds s at n ≡ false → (j : ℕ) → j < n → getD s (at + j) 0 ≡ 10 → ⊥
+  unfolding someEnds
+  none-ends zero t j h = absurd (omega arith)
+  none-ends (suc n) t j h = go (decLe n j) (none-ends n (or-left (someEnds s at n) (eqb (getD s (at + n) 0) 10) t) j)
+    where
+      go : Dec (n ≤ j) → (j < n → getD s (at + j) 0 ≡ 10 → ⊥) → getD s (at + j) 0 ≡ 10 → ⊥
+      go (yes p) below =
+          let e : j ≡ n = omega arith in
+          rw e (eqb-false (getD s (at + n) 0) 10 (or-right (someEnds s at n) (eqb (getD s (at + n) 0) 10) t))
+      go (no p) below = below (omega arith)
+
 pub part-found : (mark : ℕ) (s : List ℕ) (i : ℕ) → i ≡ span mark s → take i s ≡ part mark s 0
 unfolding part
 part-found mark s i e = rw e

@@ -1,12 +1,12 @@
 -- The lines of a text and the fields of a line, as lists of bytes. Document 01, "Netlist", of both texts.
 -- The laws that readers cite stand in `proofs/Laws.antt`.
 -- Assumes nothing.
-use mathlib.Core.Bool.{Bool, true, false, _&&_}
+use mathlib.Core.Bool.{Bool, true, false, _&&_, _||_}
 use mathlib.Core.List.{List, [], _∷_}
 use mathlib.Core.Option.{Option, none, some}
-use Prim.Native.Nat.{ℕ, suc, _+_}
+use Prim.Native.Nat.{ℕ, zero, suc, _+_}
 use lib.Dec.{leb, eqb}
-use lib.ListN.{length, take, drop}
+use lib.ListN.{length, getD, take, drop}
 use Rattle.reading.specs.Choice.{pick, choice-open}
 
 -- A byte in front of the parts of what follows it: a mark starts a new part, any other byte stands in the first.
@@ -46,6 +46,11 @@ stop false n = suc n
 unfoldable pub span : ℕ → List ℕ → ℕ
 span mark [] = 0
 span mark (b ∷ s) = stop (eqb b mark) (span mark s)
+
+-- Whether one of so many bytes from a place on ends a line.
+unfoldable pub someEnds : List ℕ → ℕ → ℕ → Bool
+someEnds s at zero = false
+someEnds s at (suc n) = someEnds s at n || eqb (getD s (at + n) 0) 10
 
 -- The part that starts at a cursor; past the end it is empty.
 unfoldable pub part : ℕ → List ℕ → ℕ → List ℕ

@@ -7,9 +7,9 @@ ghost use mathlib.Core.Bool.{_&&_};
 ghost use mathlib.Core.Option.{some, none};
 ghost use Prim.Native.Nat.{_+_, _-_, _^_, _≤_, _<_, min};
 ghost use lib.Dec.{leb, ltb};
-ghost use lib.ListN.{length};
+ghost use lib.ListN.{length, drop};
 ghost use Rattle.text.specs.Class.{classOf, ends, endOf};
-ghost use Rattle.text.specs.Lines.{part, nextAfter, sameBytes};
+ghost use Rattle.text.specs.Lines.{span, part, nextAfter, sameBytes, someEnds};
 ghost use Rattle.reading.specs.Choice.{pick};
 ghost use Rattle.text.specs.Numeral.{digitBelow, allDigits, value, numeral, decimal, nameByte, nameForm};
 ghost use Rattle.text.specs.Numeral.{numeralRead};
@@ -54,12 +54,50 @@ fn ends(b: u8, line: bool) -> bool
     }
 }
 
+// Whether one of the eight bytes from a place on ends a line.
+fn line_ends(text: &[u8], at: usize) -> bool
+    requires { ⌜ at + 8 ≤ length (now text) ⌝ }
+    ensures { λ r. ⌜ r ≡ someEnds (now (text .entry)) at 8 ⌝ }
+{
+    let mut found = false;
+    let mut i = 0;
+    while i < 8 {
+        found = found | ends(text[at + i], true);
+        i += 1;
+    }
+    found
+}
+
+// Of the first line so many bytes, by eights, that it does not end in them: eight are looked at at once.
+fn eights(text: &[u8]) -> usize
+    ensures { λ r. ⌜ (r ≤ length (now (text .entry)))
+        × (r + span 10 (drop r (now (text .entry))) ≡ span 10 (now (text .entry))) ⌝ }
+{
+    let n = text.len();
+    let mut i = 0;
+    while 8 <= n - i {
+        if line_ends(text, i) {
+            return i;
+        }
+        i += 8;
+    }
+    i
+}
+
+// Where to look for the end of the first line, or of the first field: fields are short.
+fn look_from(text: &[u8], line: bool) -> usize
+    ensures { λ r. ⌜ (r ≤ length (now (text .entry)))
+        × (r + span (endOf line) (drop r (now (text .entry))) ≡ span (endOf line) (now (text .entry))) ⌝ }
+{
+    if line { eights(text) } else { 0 }
+}
+
 // The first line, or the first field, up to its end or to the text's.
 fn first(text: &[u8], line: bool) -> &[u8]
     ensures { λ r. ⌜ now r ≡ part (endOf line) (now (text .entry)) 0 ⌝ }
 {
     let n = text.len();
-    let mut i = 0;
+    let mut i = look_from(text, line);
     while i < n {
         if ends(text[i], line) {
             return &text[..i];
@@ -133,6 +171,9 @@ pub fn same(a: &[u8], b: &[u8]) -> bool
 fn name_byte(b: u8) -> bool
     ensures { λ r. ⌜ r ≡ nameByte b ⌝ }
 {
+    if b < ZERO {
+        return false;
+    }
     let class = class_of(b);
     match class {
         Class::Digit => true,
@@ -172,6 +213,9 @@ fn digit_below(b: u8, base: u8) -> bool
     requires { ⌜ base ≤ 10 ⌝ }
     ensures { λ r. ⌜ r ≡ digitBelow base b ⌝ }
 {
+    if b < ZERO {
+        return false;
+    }
     let class = class_of(b);
     match class {
         Class::Digit => b < ZERO + base,

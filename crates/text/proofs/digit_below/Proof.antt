@@ -8,6 +8,7 @@ use Prim.Native.Nat.{ℕ, _+_, _≤_}
 use native.Mathlib.Omega.{arith}
 use lib.Dec.{ltb}
 use borrow.Author.Needs.{needs}
+use borrow.Author.Tests.{lt-leb}
 use denote.Enum.Declared.{tagOf}
 use types.Run.{OneOf}
 use Rattle.text.specs.declared.Class.{Class}
@@ -23,15 +24,20 @@ use Rattle.text.proofs.digit_below.Tie as tie
 by-class : (k : Class) (t : Bool) (b base : ℕ) → k ≡ classOf b → t ≡ isDigit k → base ≤ 10 → (t && ltb b (48 + base)) ≡ digitBelow base b
 by-class k t b base e p small = rw (class-digit-below base b small, ← e, ← p)
 
+-- No digit stands below 0.
 returns : tie.Need-returns
+unfolding digitBelow
+returns c = rw (lt-leb 48 (c .before .args .b) (c .if1 .taken))
+
+abbrev begun : tie.After-class-of → tie.Start
+begun c = c .before .before
+
+returns-2 : tie.Need-returns-2
 unfolding isDigit
-returns c =
-    by-class (c .before .before .class-of .result) true
-    (c .before .before .before .args .b)
-    (c .before .before .before .args .base)
-    (c .before .before .class-of .ensures)
-    (sym (ap isDigit (c .enum-told .given .1)))
-    (c .before .before .before .pre)
+returns-2 c =
+    let k = c .before .before in
+    let s = begun k in
+    by-class (k .class-of .result) true (s .args .b) (s .args .base) (k .class-of .ensures) (sym (ap isDigit (c .enum-told .given .1))) (s .pre)
 
 from-one : (x : ℕ) → OneOf (1 ∷ 2 ∷ 3 ∷ 4 ∷ []) x → 1 ≤ x
 from-one x (inl e) = omega arith
@@ -48,14 +54,11 @@ others Comma h = refl
 others LineEnd h = refl
 others Other h = refl
 
-returns-2 : tie.Need-returns-2
-returns-2 c =
-    by-class (c .before .class-of .result) false
-    (c .before .before .args .b)
-    (c .before .before .args .base)
-    (c .before .class-of .ensures)
-    (others (c .before .class-of .result) (from-one _ (c .match .keys2)))
-    (c .before .before .pre)
+returns-3 : tie.Need-returns-3
+returns-3 c =
+    let k = c .before in
+    let s = begun k in
+    by-class (k .class-of .result) false (s .args .b) (s .args .base) (k .class-of .ensures) (others (k .class-of .result) (from-one _ (c .match .keys2))) (s .pre)
 
 pub digit-below-spec : {M : Type 1} → statement M
-digit-below-spec = tie.close (tie.spec (λ c κs. search needs) (λ c. search needs) (λ c. search needs) returns returns-2)
+digit-below-spec = tie.close (tie.spec returns (λ c κs. search needs) (λ c. search needs) (λ c. search needs) returns-2 returns-3)

@@ -21,10 +21,13 @@ Inv-loop text line n i₀ i = (i ≤ length text) × (i + span (endOf line) (dro
 abbrev μ-loop : tie.MeasureT-loop
 μ-loop text line n i₀ i = length text - i
 
+abbrev entry : tie.At-loop Inv-loop μ-loop → tie.Start Inv-loop μ-loop
+entry l = l .before .before .before
+
 -- The byte at the cursor ends the part or does not.
 module _ (c : tie.After-ends Inv-loop μ-loop) where
   abbrev begun : tie.Start Inv-loop μ-loop
-  begun = c .before .before .before .before .before
+  begun = entry (c .before .before .before)
 
   told : c .ends .result ≡ eqb (getD (begun .args .text .now) (c .before .before .before .loop .i) 0) (endOf (begun .args .line))
   told = c .ends .ensures ∙ class-ends (begun .args .line) (getD (begun .args .text .now) (c .before .before .before .loop .i) 0)
@@ -32,7 +35,7 @@ module _ (c : tie.After-ends Inv-loop μ-loop) where
 cut : tie.Need-slice-aggregate-result Inv-loop μ-loop
 cut c =
     let t = c .before .before .before .before .before in
-    omega (arith, length-take (t .loop .i) (t .before .before .args .text .now))
+    omega (arith, length-take (t .loop .i) (entry t .args .text .now))
 
 returns : tie.Need-returns Inv-loop μ-loop
 returns c =
@@ -58,7 +61,7 @@ loop-again c =
 
 returns-2 : tie.Need-returns-2 Inv-loop μ-loop
 returns-2 c =
-    let start = c .before .before .before .args in
+    let start = entry (c .before) .args in
     let s = start .text .now in
     let i = c .before .loop .i in
     let past : length s ≤ i = omega arith in
@@ -71,7 +74,8 @@ first-spec =
     (tie.spec
     Inv-loop
     μ-loop
-    (λ c. (omega arith, omega arith))
+    (λ c κs. search needs)
+    (λ c. c .look-from .ensures)
     (λ c. omega arith)
     (λ c κs. search needs)
     cut

@@ -7,29 +7,39 @@ use mathlib.Core.Path.{_≡_, refl, sym, ap, _∙_}
 use Prim.Native.Nat.{ℕ, _≤_}
 use native.Mathlib.Omega.{arith}
 use borrow.Author.Needs.{needs}
+use borrow.Author.Tests.{lt-leb}
 use denote.Enum.Declared.{tagOf}
 use types.Run.{OneOf}
 use Rattle.text.specs.declared.Class.{Class}
 use Rattle.text.specs.declared.Class.the-variants.{Digit, Letter, Comma, LineEnd, Other}
-use Rattle.text.specs.Class.{isLetterOrDigit}
+use Rattle.text.specs.Class.{between, isLetterOrDigit}
+use Rattle.text.specs.Numeral.{nameByte}
 use Rattle.text.proofs.Class.{the-type}
 use Rattle.text.proofs.Laws.{class-name}
 use Rattle.text.proofs.name_byte.Statement.{statement}
 use Rattle.text.proofs.name_byte.Tie as tie
 
+-- No letter and no digit stands below 0.
 returns : tie.Need-returns
-unfolding isLetterOrDigit
-returns c =
-    sym (ap isLetterOrDigit (c .enum-told .given .1))
-    ∙ ap isLetterOrDigit (c .before .before .class-of .ensures)
-    ∙ class-name (c .before .before .before .args .b)
+unfolding nameByte between
+returns c = rw (lt-leb 65 (c .before .args .b) (omega arith), lt-leb 48 (c .before .args .b) (c .if1 .taken))
+
+abbrev begun : tie.After-class-of → tie.Start
+begun c = c .before .before
 
 returns-2 : tie.Need-returns-2
 unfolding isLetterOrDigit
 returns-2 c =
+    sym (ap isLetterOrDigit (c .enum-told .given .1))
+    ∙ ap isLetterOrDigit (c .before .before .class-of .ensures)
+    ∙ class-name (begun (c .before .before) .args .b)
+
+returns-3 : tie.Need-returns-3
+unfolding isLetterOrDigit
+returns-3 c =
     sym (ap isLetterOrDigit (c .enum-told2 .given .1))
     ∙ ap isLetterOrDigit (c .before .before .class-of .ensures)
-    ∙ class-name (c .before .before .before .args .b)
+    ∙ class-name (begun (c .before .before) .args .b)
 
 from-two : (x : ℕ) → OneOf (2 ∷ 3 ∷ 4 ∷ []) x → 2 ≤ x
 from-two x (inl e) = omega arith
@@ -45,12 +55,12 @@ others Comma h = refl
 others LineEnd h = refl
 others Other h = refl
 
-returns-3 : tie.Need-returns-3
-returns-3 c =
+returns-4 : tie.Need-returns-4
+returns-4 c =
     others (c .before .class-of .result) (from-two _ (c .match .keys3))
     ∙ ap isLetterOrDigit (c .before .class-of .ensures)
-    ∙ class-name (c .before .before .args .b)
+    ∙ class-name (begun (c .before) .args .b)
 
 pub name-byte-spec : {M : Type 1} → statement M
 name-byte-spec =
-    tie.close (tie.spec (λ c κs. search needs) (λ c. search needs) (λ c. search needs) returns returns-2 returns-3)
+    tie.close (tie.spec returns (λ c κs. search needs) (λ c. search needs) (λ c. search needs) returns-2 returns-3 returns-4)
