@@ -82,6 +82,15 @@ module _ (netlist : List ℕ) (n : ℕ) (links : List ℕ) (highests : Highests 
           rw (getD-set-other links (Size.nextAt + (n + 1)) (Size.nextAt + p) (getD links (Size.readersAt + line) 0) 0 (λ q. e (omega arith)))
           (nexts p low (omega arith))
 
+-- Before the first gate there is no pin.
+pub none-chained : (netlist links : List ℕ) → NoPlaces Size.readersAt links → Chained netlist 0 links
+none-chained netlist links empty =
+    record {
+      count = omega arith;
+      firsts = none-highest (pinLine netlist) Size.readersAt links empty;
+      nexts = λ p low high. absurd (omega arith);
+    }
+
 -- ---- the last gate that drives a line
 
 pub driver-noted : {netlist : List ℕ} {gates : ℕ} {links : List ℕ} → Driven netlist gates links → (line g : ℕ) → line ≤ Size.lines → g < gates
@@ -127,6 +136,14 @@ kept-set {low} {high} {before} {after} k i x a b =
       size = length-set after i x ∙ k .size;
       below = λ p h. getD-set-other after i p x 0 (λ q. omega arith) ∙ k .below p h;
       above = λ p h. getD-set-other after i p x 0 (λ q. omega arith) ∙ k .above p h;
+    }
+
+pub kept-then : {low high : ℕ} {before mid after : List ℕ} → Kept low high before mid → Kept low high mid after → Kept low high before after
+kept-then k m =
+    record {
+      size = m .size ∙ k .size;
+      below = λ p h. m .below p h ∙ k .below p h;
+      above = λ p h. m .above p h ∙ k .above p h;
     }
 
 -- ---- what `link` comes to

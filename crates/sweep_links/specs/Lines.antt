@@ -80,6 +80,12 @@ pub record PartFits (part : ℕ) (netlist : List ℕ) (gates : ℕ) (links : Lis
   pub none : NoPlaces part links
   pub size : length links ≡ Size.links
 
+-- `chain_gate`: a gate whose lines stand, and the chains of the gates before it.
+pub record GateFits (netlist : List ℕ) (gate : ℕ) (links : List ℕ) : Type 0 where
+  pub linesStand : LinesStand netlist (gate + 1)
+  pub chained : Chained netlist gate links
+  pub size : length links ≡ Size.links
+
 pub record NoteFits (library netlist : List ℕ) (gates : ℕ) (links : List ℕ) : Type 0 where
   pub count : gates ≡ getD netlist 0 0
   pub few : gates ≤ Size.gates

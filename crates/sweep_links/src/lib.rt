@@ -17,7 +17,7 @@ ghost use Rattle.reading.specs.Choice.{pick};
 ghost use Rattle.netlist_table.specs.Gates.{gateLine, LinesStand};
 ghost use Rattle.sweep_groups.specs.Tables.{gateTied};
 ghost use Rattle.sweep_links.specs.Lines.{Chained, Driven, Tied};
-ghost use Rattle.sweep_links.specs.Lines.{LinkFits, Links, PartFits, NoteFits, Kept};
+ghost use Rattle.sweep_links.specs.Lines.{LinkFits, Links, PartFits, GateFits, NoteFits, Kept};
 
 // Line i of a gate, which has a place in the links.
 fn line_of(netlist: &[u32], gate: usize, i: usize) -> usize
@@ -27,21 +27,35 @@ fn line_of(netlist: &[u32], gate: usize, i: usize) -> usize
     unchecked::line_of(netlist, gate, i)
 }
 
-// Lays the chains of the pins that read the same line: each pin, from the first gate's on, is put in
-// front of those of its line.
+// Puts each pin of a gate in front of those before it that read the same line. A gate has eight places, and a place
+// without a pin has line 0; so the compiler needs no test between them.
+fn chain_gate(netlist: &[u32], gate: usize, links: &mut [u16; sizes::LINKS])
+    requires { ⌜ GateFits (now netlist) gate (now links) ⌝ }
+    ensures chained { λ _. ⌜ Chained (now (netlist .entry)) (gate + 1) (now (links .exit)) ⌝ }
+    ensures kept { λ _.
+        ⌜ Kept Size.readersAt Size.driversAt (now (links .entry)) (now (links .exit)) ⌝ }
+{
+    let before = gate * sizes::PINS;
+    let mut pin = before;
+    while pin < before + sizes::PINS {
+        let line = line_of(netlist, gate, pin - before + 1);
+        pin += 1;
+        links[sizes::NEXT_AT + pin] = links[sizes::READERS_AT + line];
+        links[sizes::READERS_AT + line] = pin as u16;
+    }
+}
+
+// Lays the chains of the pins that read the same line, one gate after the other.
 fn chain(netlist: &[u32], gates: usize, links: &mut [u16; sizes::LINKS])
     requires { ⌜ PartFits Size.readersAt (now netlist) gates (now links) ⌝ }
     ensures chained { λ _. ⌜ Chained (now (netlist .entry)) gates (now (links .exit)) ⌝ }
     ensures kept { λ _.
         ⌜ Kept Size.readersAt Size.driversAt (now (links .entry)) (now (links .exit)) ⌝ }
 {
-    let end = gates * sizes::PINS;
-    let mut pin = 0;
-    while pin < end {
-        let line = line_of(netlist, pin / sizes::PINS, pin % sizes::PINS + 1);
-        pin += 1;
-        links[sizes::NEXT_AT + pin] = links[sizes::READERS_AT + line];
-        links[sizes::READERS_AT + line] = pin as u16;
+    let mut gate = 0;
+    while gate < gates {
+        chain_gate(netlist, gate, links);
+        gate += 1;
     }
 }
 
