@@ -4,8 +4,10 @@
 // It has no condition on its input. What it promises is in crate `demands`: specs/Outcome.antt has its
 // answer and what it leaves in lent memory, specs/Demands.antt the three demands. The published sizes
 // of the tables are `sizes::LIBRARY`, `sizes::NETLIST` and `sizes::NUMBERS`. For the crates above:
-// `analyse_into`, which does not clear a table that is zero.
+// `analyse_into`, which does not clear a table that is zero, and `report_into`, which speaks of the report alone
+// (specs/Own.antt).
 use analysis_end::finish;
+use analysis_end::tell;
 use analysis_texts::read_texts;
 use demands::Answer;
 use netlist_table::Rules;
@@ -15,6 +17,7 @@ ghost use Rattle.table.specs.Blocks.{cleared};
 ghost use Rattle.demands.specs.Answer.{answerRead, lentOf};
 ghost use Rattle.demands.specs.Demands.{Promised};
 ghost use Rattle.demands.specs.Outcome.{givenTexts};
+ghost use Rattle.analysis_call.specs.Own.{ReportPromised};
 
 // As `analyse`, where the library table may have other numbers than 0 in its first `library_used` places, the netlist
 // table in its first `netlist_used`, and each past its published size.
@@ -46,6 +49,36 @@ pub fn analyse_into(
         netlist_used,
     );
     finish(library, netlist, numbers, report, progress)
+}
+
+// As `analyse_into` for a caller whose tables are its own: nobody sees them afterwards, so that a refusal clears the report alone.
+pub fn report_into(
+    lib: &[u8],
+    net: &[u8],
+    library: &mut [u32],
+    netlist: &mut [u32],
+    numbers: &mut [u32],
+    report: &mut [u8],
+    library_used: usize,
+    netlist_used: usize,
+) -> Answer
+    requires { ⌜ (cleared «library_used» (now library) ≡ cleared Size.library (now library))
+        × (cleared «netlist_used» (now netlist) ≡ cleared Size.netlist (now netlist)) ⌝ }
+    ensures { λ r. ⌜ ReportPromised (givenTexts (now (lib .entry)) (now (net .entry)))
+        (lentOf (now (library .entry)) (now (netlist .entry)) (now (numbers .entry)) (now (report .entry)))
+        (now (report .exit)) (answerRead r) ⌝ }
+{
+    let progress = read_texts(
+        Rules::New,
+        lib,
+        net,
+        library,
+        netlist,
+        numbers.len(),
+        library_used,
+        netlist_used,
+    );
+    tell(library, netlist, numbers, report, progress)
 }
 
 // Analyses a library and a netlist. Entry refusals leave all that was lent untouched, later ones

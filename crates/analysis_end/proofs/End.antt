@@ -20,7 +20,7 @@ use Rattle.analysis_texts.specs.declared.Progress.the-variants.{Unrefused, AtEn
 use Rattle.demands.specs.declared.Summary.{Summary}
 use Rattle.demands.specs.Answer.{answerRead, lentOf}
 use Rattle.demands.specs.Outcome.{Lent, Accepted, conclude, answer, reports, zeroed}
-use Rattle.analysis_end.specs.Finished.{Concluded, made, Made, Finished}
+use Rattle.analysis_end.specs.Finished.{Concluded, made, Made, Told, Finished}
 use Rattle.demands.proofs.Acceptance.{concludes}
 
 module _ (s : Progress) (m : Lent) where
@@ -64,3 +64,22 @@ module _ (s : Progress) (m : Lent) where
         rw e (λ cells ss h.
         cleared-from _ (x .number) (x .line) after (rw q at (ensures cells ss h .answers))
         (z ∙ (λ i. lentOf (replicate (length (m .library)) 0) (replicate (length (m .netlist)) 0) (replicate (en i) 0) (replicate (er i) 0))))
+
+-- ---- a call whose tables are its own
+
+module _ (s : Progress) (library netlist numbers report : List ℕ) where
+  pub told-entry : (r : Refusal) → s ≡ AtEntry r → (numbers′ : List ℕ)
+      → Told s library netlist numbers report numbers′ report (answerRead (Answers.Refused r))
+  unfolding Told answerRead
+  told-entry r e numbers′ = rw e (refl, refl)
+
+  pub told-later : (r : Refusal) → s ≡ Later r → (numbers′ report′ : List ℕ) → report′ ≡ replicate (length report) 0
+      → Told s library netlist numbers report numbers′ report′ (answerRead (Answers.Refused r))
+  unfolding Told answerRead
+  told-later r e numbers′ report′ z = rw e (refl, z)
+
+  pub told-made : s ≡ Unrefused → (numbers′ report′ : List ℕ) (said : Read Summary)
+      → ((cells : List Cell) (ss : List Statement) → Holds library netlist cells ss → Concluded cells ss numbers report numbers′ report′ said)
+      → Told s library netlist numbers report numbers′ report′ said
+  unfolding Told
+  told-made e numbers′ report′ said c = rw e c

@@ -3,7 +3,7 @@
 use mathlib.Core.List.{List, _++_}
 use mathlib.Core.Path.{_≡_}
 use Prim.Native.Nat.{ℕ}
-use lib.ListN.{length, drop}
+use lib.ListN.{length, drop, replicate}
 use Rattle.sizes.specs.Sizes as Size
 use Rattle.reading.specs.Numbers as No
 use Rattle.reading.specs.Refusal.{Read, refused, read}
@@ -57,3 +57,12 @@ Finished (Later r) before after said = (said ≡ refused (r .number) (r .line)) 
 Finished Unrefused before after said =
     (cells : List Cell) (ss : List Statement) → Holds (before .library) (before .netlist) cells ss
     → Made (O.conclude cells ss (length (before .report))) before after said
+
+-- The end of a call whose tables are its own, and are not spoken of after a refusal.
+unfoldable pub Told : Progress → (library netlist numbers report numbers′ report′ : List ℕ) → Read Summary → Type 0
+Told (AtEntry r) library netlist numbers report numbers′ report′ said = (said ≡ refused (r .number) (r .line)) × (report′ ≡ report)
+Told (Later r) library netlist numbers report numbers′ report′ said =
+    (said ≡ refused (r .number) (r .line)) × (report′ ≡ replicate (length report) 0)
+Told Unrefused library netlist numbers report numbers′ report′ said =
+    (cells : List Cell) (ss : List Statement) → Holds library netlist cells ss
+    → Concluded cells ss numbers report numbers′ report′ said

@@ -1,7 +1,8 @@
 // The end of a call that analyses: from where reading left it, its refusal, or the numbers and the report.
 // specs/Finished.antt says what it does.
 //
-// For the crates above: `finish`, which `analysis_call` and `analysis_records` call once the library and the netlist are read.
+// For the crates above, once the library and the netlist are read: `finish`, which `analysis_call` and `analysis_records` call,
+// and `tell`, the same for a caller whose tables nobody sees afterwards.
 use analysis_texts::Progress;
 use analysis_texts::clear_all;
 use calculation::Counts;
@@ -18,7 +19,7 @@ ghost use Rattle.calculation.specs.Stored.{Holds, Ready};
 ghost use Rattle.writer.specs.Put.{Put};
 ghost use Rattle.demands.specs.Answer.{answerRead, lentOf};
 ghost use Rattle.demands.specs.Outcome.{second};
-ghost use Rattle.analysis_end.specs.Finished.{Concluded, Holding, ReadyIfUnrefused, Finished};
+ghost use Rattle.analysis_end.specs.Finished.{Concluded, Holding, ReadyIfUnrefused, Told, Finished};
 
 // The second report of a netlist with ranges, at HIGH, behind the first; nothing where there is no range.
 // Its numbers are its own: the lent table keeps those at LOW.
@@ -55,6 +56,29 @@ fn conclude(library: &[u32], netlist: &[u32], numbers: &mut [u32], report: &mut 
             length: n,
             counts: counts,
         }),
+    }
+}
+
+// The end of a call whose tables are its own: its refusal, or the numbers and the report. After a refusal nobody sees the tables,
+// and the report alone is cleared.
+pub fn tell(
+    library: &[u32],
+    netlist: &[u32],
+    numbers: &mut [u32],
+    report: &mut [u8],
+    progress: Progress,
+) -> Answer
+    requires { ⌜ ReadyIfUnrefused progress (now library) (now netlist) (now numbers) ⌝ }
+    ensures { λ r. ⌜ Told progress (now (library .entry)) (now (netlist .entry)) (now (numbers .entry)) (now (report .entry))
+        (now (numbers .exit)) (now (report .exit)) (answerRead r) ⌝ }
+{
+    match progress {
+        Progress::AtEntry(r) => Answer::Refused(r),
+        Progress::Later(r) => {
+            table::clear_bytes(report);
+            Answer::Refused(r)
+        }
+        Progress::Unrefused => conclude(library, netlist, numbers, report),
     }
 }
 

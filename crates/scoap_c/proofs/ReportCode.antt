@@ -18,9 +18,11 @@ use Rattle.demands.specs.Outcome.{Lent, givenTexts}
 use Rattle.demands.specs.Outcome as O
 use Rattle.demands.proofs.Bounds.{refusal-told}
 use Rattle.demands.proofs.Given.{texts-checked}
+use Rattle.demands.proofs.Promise.{keeps}
 use Rattle.demands.proofs.EntryChecks.{own-fit}
 use Rattle.demands.proofs.Room.{longest-most, short-refused}
 use Rattle.demands.specs.Own.{ownTables}
+use Rattle.analysis_call.specs.Own.{ReportPromised}
 use Rattle.scoap_c.specs.Number.{lastLine, Tells}
 use Rattle.scoap_c.specs.Coded.{reportLength, Seen, Coded}
 use Rattle.scoap_c.proofs.Number.{within-told, told-within, tells-by, by-accepted, by-refused, line-below, told-read, told-refused, told-entry, told-number}
@@ -90,10 +92,16 @@ module _ (lib net before : List ℕ) (after : Lent) (came : Read Summary) (p : P
           reportLong = long-told;
         }
 
--- From the answer of the code.
-module _ (lib net before : List ℕ) (after : Lent) (r : Answer) (p : Promised (givenTexts lib net) (ownTables before) after (answerRead r)) where
-  pub report-line : LineBelow (reportLength (answerRead r))
-  report-line = line-below _ (told-within (λ (s : Summary). s .length) (answerRead r) (within lib net before after (answerRead r) p))
+-- From the answer of the code. Its tables are its own; the promise speaks of those that an analysis leaves.
+module _ (lib net before report : List ℕ) (r : Answer) (h : ReportPromised (givenTexts lib net) (ownTables before) report (answerRead r)) where
+  abbrev tables : Lent
+  tables = O.left (givenTexts lib net) (ownTables before)
 
-  pub report-coded : (said : ℕ) → said ≡ codeOf (reportLength (answerRead r)) → Coded lib net before (after .report) said
-  report-coded said is = coded lib net before after (answerRead r) p said is (p .answers)
+  p : Promised (givenTexts lib net) (ownTables before) tables (answerRead r)
+  p = keeps (givenTexts lib net) (texts-checked lib net) (ownTables before) tables (answerRead r) (h .answers) refl
+
+  pub report-line : LineBelow (reportLength (answerRead r))
+  report-line = line-below _ (told-within (λ (s : Summary). s .length) (answerRead r) (within lib net before tables (answerRead r) p))
+
+  pub report-coded : (said : ℕ) → said ≡ codeOf (reportLength (answerRead r)) → Coded lib net before report said
+  report-coded said is = rw (h .leaves) (coded lib net before tables (answerRead r) p said is (p .answers))

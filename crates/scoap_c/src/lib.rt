@@ -58,7 +58,7 @@ pub extern "C" fn scoap_report(lib: &[u8], net: &[u8], report: &mut [u8]) -> u64
     let mut library = [0u32; sizes::LIBRARY];
     let mut netlist = [0u32; sizes::NETLIST];
     let mut numbers = [0u32; sizes::NUMBERS];
-    let answer = analysis_call::analyse_into(
+    let answer = analysis_call::report_into(
         lib,
         net,
         &mut library,

@@ -1,6 +1,7 @@
 -- `start` lays the numbers of one line more with each turn, over numbers that are all never: those of the lines past the last that is
 -- marked stay so. Assumes nothing.
 use mathlib.Core.List.{List}
+use mathlib.Core.Path.{_≡_, refl, _∙_}
 use Prim.Native.Nat.{ℕ, _+_, _*_, _-_, _≤_, _<_}
 use native.Mathlib.Omega.{arith}
 use borrow.Author.Needs.{needs}
@@ -31,11 +32,11 @@ begun c = c .before .before .before
 loop-holds : tie.Need-loop-holds Inv-loop μ-loop
 loop-holds c =
     let a = begun (filled c) .args in
-    (omega arith, rw (filled c .lay-never .ensures) (laid-none (a .high) (a .netlist .now) nevers))
+    (omega arith, filled c .lay-never .ensures ∙ laid-none (a .high) (a .netlist .now) nevers)
 
 -- A line up to the last that is marked has its place.
-inside : (i end : ℕ) → i < end → end ≤ Size.lines → i * Size.costs + Size.costs ≤ length nevers
-inside i end h few = omega (arith, length-replicate Size.numbers never)
+inside : (i end n : ℕ) → i < end → end ≤ Size.lines → n ≡ Size.numbers → i * Size.costs + Size.costs ≤ length (replicate n never)
+inside i end n h few e = omega (arith, length-replicate n never)
 
 few : (l : tie.At-loop Inv-loop μ-loop) → l .before .last-marked .result ≤ Size.lines
 few l = omega (arith, l .before .last-marked .ensures, marked-few (begun (filled (l .before)) .args .high) (begun (filled (l .before)) .args .netlist .now))
@@ -50,7 +51,7 @@ loop-again c =
     let at = c .before .before .before in
     let s = begun (filled (at .before)) in
     let l = at .loop in
-    (omega arith, laid-next (s .args .high) (s .args .netlist .now) nevers (l .numbers) (c .start-line .last .1 .0) (l .line) (inside (l .line) _ (omega arith) (few at)) (l .inv .1) (c .start-line .ensures))
+    (omega arith, laid-next (s .args .high) (s .args .netlist .now) nevers (l .numbers) (c .start-line .last .1 .0) (l .line) (inside (l .line) _ Size.numbers (omega arith) (few at) refl) (l .inv .1) (c .start-line .ensures))
 
 returns : tie.Need-returns Inv-loop μ-loop
 returns c =
