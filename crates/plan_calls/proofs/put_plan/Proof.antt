@@ -1,5 +1,7 @@
 -- `put_plan` leaves the text where it stands, or puts the refusal there. Assumes nothing.
+use mathlib.Core.Path.{_≡_}
 use denote.Ref.{now}
+use lib.ListN.{length}
 use borrow.Author.Needs.{needs}
 use Rattle.sizes.specs.Sizes as Size
 use Rattle.demands.specs.Own.{ownTables}
@@ -13,13 +15,16 @@ use Rattle.plan_calls.proofs.put_plan.Tie as tie
 abbrev begins : tie.After-write-plan-into → tie.Start
 begins c = c .before .before .before .before .before .before .before
 
+room : (c : tie.After-show-arg) → Size.reportBytes ≡ length (c .before .before .before .before .write-plan-into .last .1 .1 .1 .1 .1 .0)
+room c = search needs
+
 returns : tie.Need-returns
 unfolding ownTables
 returns c =
     let k = c .before .before .before .before .before in
     let a = begins k .args in
     plan-printed (now (a .lib)) (now (a .net)) (now (a .text)) (a .line) (a .value) (a .kind) _ (k .write-plan-into .result)
-    (k .write-plan-into .ensures) (search needs) _ (c .show .result) (c .show .ensures)
+    (k .write-plan-into .ensures) (room (c .before)) _ (c .show .result) (c .show .ensures)
 
 pub put-plan-spec : {M : Type 1} → statement M
 put-plan-spec =
