@@ -10,7 +10,8 @@ use Rattle.reading.proofs.Laws.{each-at, each-member}
 use Rattle.cost.specs.Cost.{most}
 use Rattle.library_table.specs.Cells.{Row, Group, Cell}
 use Rattle.library_table.specs.Cells as C
-use Rattle.library_table.specs.Library.{Word, groupCount, excepted, wordGroups}
+use Rattle.library_table.specs.declared.Word.{Word}
+use Rattle.library_table.specs.Library.{groupCount, excepted, wordGroups}
 use Rattle.library_table.specs.Sound.{SoundRow, SoundGroup, SoundGroups, SoundCell}
 use Rattle.library_table.proofs.Laws.{cell-known, CO-observes, SO-observes}
 use Rattle.netlist_table.specs.Netlist.{Gate, Statement, gatesOf}

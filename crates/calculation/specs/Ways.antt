@@ -10,7 +10,9 @@ use Rattle.reading.specs.Choice.{pick}
 use Rattle.plans.specs.System.{Way, Visit}
 unfoldable pub use Rattle.library_table.specs.Cells.{noCell}
 use Rattle.library_table.specs.Cells.{Row, Group, Cell, Column, pin, output, observe, bitOf, settingColumns, observingColumns, bit, named, cells-open}
-use Rattle.library_table.specs.Library.{Word, CC, CO, SC, SO, wordGroups, anyOf}
+use Rattle.library_table.specs.declared.Word.{Word}
+use Rattle.library_table.specs.declared.Word.the-variants.{CC, CO, SC, SO}
+use Rattle.library_table.specs.Library.{wordGroups, anyOf}
 use Rattle.netlist_table.specs.Netlist.{Gate}
 use Rattle.calculation.specs.Nodes.{Kind, combinational, sequential, Purpose, node, nodes-open}
 use Rattle.calculation.specs.Nodes as N

@@ -23,8 +23,10 @@ use Rattle.reading.proofs.Laws.{by-test, clash, and-left, and-right, or-left, o
 use Rattle.text.proofs.Laws.{numeral-good, numeral-bad, fieldsFrom-step, fieldsFrom-end}
 use Rattle.library_table.specs.Cells.{Heading, plain, deep, Row, rowOf, Group, bit}
 use Rattle.library_table.proofs.Any.{any-append}
-use Rattle.library_table.specs.Library.{Fields, holds, rowDigits, isRow, isJoin, isZ, Before, word, row, join, mayJoin, mayEnd, rowsForm, joinFirst, withRow, groupsOf, anyOf, aboveRows, above, namesNone, observesNot, Word, CC, CO, SC, SO, wordBytes, groupCount, columnCount, idle, emptyGroup, excepted, rowIdle, rowsAfter}
-use Rattle.library_rows.specs.Passes.{orZero, fieldValue, fieldRow, numberHeading, headed, leastColumns, askedOf, noColumns, nonePassed, marked, opened, groupFor, rowAdded, rowlessAdded, fieldPassed, passed, fieldStored, stored, numberOf, Small, RowsRead, wordAt, setting, rowNumber}
+use Rattle.library_table.specs.declared.Word.{Word}
+use Rattle.library_table.specs.declared.Word.the-variants.{CC, CO, SC, SO}
+use Rattle.library_table.specs.Library.{Fields, holds, rowDigits, isRow, isJoin, isZ, Before, word, row, join, mayJoin, mayEnd, rowsForm, joinFirst, withRow, groupsOf, anyOf, aboveRows, above, namesNone, observesNot, wordBytes, groupCount, columnCount, idle, emptyGroup, excepted, rowIdle, rowsAfter}
+use Rattle.library_rows.specs.Passes.{orZero, fieldValue, fieldRow, numberHeading, headed, leastColumns, askedOf, noColumns, nonePassed, marked, opened, groupFor, rowAdded, rowlessAdded, fieldPassed, passed, fieldStored, stored, numberOf, Small, RowsRead, setting, rowNumber}
 use Rattle.library_rows.specs.declared.Asked.{Asked}
 use Rattle.library_rows.specs.declared.Passed.{Passed}
 use Rattle.library_table.proofs.Places.{first-most}
@@ -660,34 +662,12 @@ field-small a p f m k s h = go (isJoin f) (isZ f) (isRow (headed a) f) (eqb (p .
     go false false true false = record { groups = omega arith; rows = omega arith; place = omega arith }
     go false false false t = record { groups = omega arith; rows = omega arith; place = omega arith }
 
--- ---- places and their words, and the other heading
+-- ---- words, and the other heading
 
 pub other-deep : (k : ℕ) → (k ≡ 0 → ⊥) → numberHeading k ≡ deep
 unfolding numberHeading
 other-deep zero h = absurd (h refl)
 other-deep (suc k) h = refl
-
-pub at-CC : (p : ℕ) → p < 2 → wordAt p ≡ CC
-unfolding wordAt
-at-CC zero h = refl
-at-CC (suc zero) h = refl
-at-CC (suc (suc p)) h = absurd (omega arith)
-
-pub at-SO : (p : ℕ) → 2 ≤ p → (p ≡ 2 → ⊥) → (p ≡ 3 → ⊥) → wordAt p ≡ SO
-unfolding wordAt
-at-SO zero h m n = absurd (omega arith)
-at-SO (suc zero) h m n = absurd (omega arith)
-at-SO (suc (suc zero)) h m n = absurd (m refl)
-at-SO (suc (suc (suc zero))) h m n = absurd (n refl)
-at-SO (suc (suc (suc (suc p)))) h m n = refl
-
-pub at-other : (p : ℕ) → 2 ≤ p → (p ≡ 3 → ⊥) → setting (wordAt p) ≡ false
-unfolding wordAt setting
-at-other zero h n = absurd (omega arith)
-at-other (suc zero) h n = absurd (omega arith)
-at-other (suc (suc zero)) h n = refl
-at-other (suc (suc (suc zero))) h n = absurd (n refl)
-at-other (suc (suc (suc (suc p)))) h n = refl
 
 pub groupCount-by : (w : Word) (n : ℕ) → groupCount w n ≡ pick (setting w) 2 n
 unfolding groupCount setting pick

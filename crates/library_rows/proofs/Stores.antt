@@ -17,7 +17,9 @@ use Rattle.reading.specs.Choice.{pick}
 use Rattle.reading.proofs.Laws.{by-test, clash, or-left, or-right}
 use Rattle.library_table.specs.Cells.{Heading, Row, Group, Cell}
 use Rattle.library_table.proofs.Any.{any-append}
-use Rattle.library_table.specs.Library.{Fields, isRow, isJoin, isZ, Before, word, row, join, mayJoin, rowsForm, groupsOf, emptyGroup, Word, CC, CO, SC, SO, anyOf, aboveRows, wordGroups, withGroups}
+use Rattle.library_table.specs.declared.Word.{Word}
+use Rattle.library_table.specs.declared.Word.the-variants.{CC, CO, SC, SO}
+use Rattle.library_table.specs.Library.{Fields, isRow, isJoin, isZ, Before, word, row, join, mayJoin, rowsForm, groupsOf, emptyGroup, anyOf, aboveRows, wordGroups, withGroups}
 use Rattle.library_table.specs.Layout.{rowWords, groupWords, cellGroups, headingNumber, cellWords, firstGroup}
 use Rattle.library_rows.specs.Passes.{fieldRow, headed, askedOf, rowPut, rowlessPut, nonePassed, opened, groupFor, rowlessAdded, fieldPassed, fieldStored, stored}
 use Rattle.library_rows.specs.Passes.{countedWords}

@@ -16,7 +16,9 @@ use Rattle.reading.specs.Numbers as No
 use Rattle.reading.specs.Choice.{pick}
 use Rattle.text.specs.Numeral.{numeral}
 use Rattle.library_table.specs.Cells.{Heading, plain, deep, Row, rowOf, Cell}
-use Rattle.library_table.specs.Library.{Fields, holds, rowDigits, isRow, isJoin, isZ, above, Word, CC, CO, SC, SO, groupCount, columnCount, rowIdle, rowsAfter, groupsOf, anyOf, aboveRows}
+use Rattle.library_table.specs.declared.Word.{Word}
+use Rattle.library_table.specs.declared.Word.the-variants.{CC, CO, SC, SO}
+use Rattle.library_table.specs.Library.{Fields, holds, rowDigits, isRow, isJoin, isZ, above, groupCount, columnCount, rowIdle, rowsAfter, groupsOf, anyOf, aboveRows}
 use Rattle.library_table.specs.Layout.{firstGroup, cellWords}
 use Rattle.library_rows.specs.declared.Asked.{Asked}
 use Rattle.library_rows.specs.declared.Passed.{Passed}
@@ -201,14 +203,7 @@ pub record Small (a : Asked) (p : Passed) (m : ℕ) : Type 0 where
   pub rows : p .rows ≤ m
   pub place : p .place ≤ a .place + Size.groupWords * m
 
--- ---- the lines, by the numbers that the code gives to places: 1 wants CC, 2 CO, 3 SC, 4 SO
-
-unfoldable pub wordAt : ℕ → Word
-wordAt zero = CC
-wordAt (suc zero) = CC
-wordAt (suc (suc zero)) = CO
-wordAt (suc (suc (suc zero))) = SC
-wordAt (suc (suc (suc (suc n)))) = SO
+-- ---- the lines
 
 -- The refusal number of a line, 0 where it has none.
 unfoldable pub rowNumber : Heading → Word → ℕ → Fields → ℕ

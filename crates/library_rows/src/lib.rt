@@ -9,7 +9,7 @@ ghost use Rattle.sizes.specs.Sizes as Size;
 ghost use Rattle.text.specs.Lines.{fields, fieldsFrom, sameBytes};
 ghost use Rattle.library_table.specs.Cells.{rowOf};
 ghost use Rattle.library_table.specs.Library.{isJoin, isZ, rowDigits, wordBytes};
-ghost use Rattle.library_rows.specs.Passes.{numberHeading, wordAt, setting, askedOf, nonePassed, marked, opened, groupFor};
+ghost use Rattle.library_rows.specs.Passes.{numberHeading, setting, askedOf, nonePassed, marked, opened, groupFor};
 ghost use Rattle.library_rows.specs.Passes.{rowAdded, rowlessAdded, fieldPassed, fieldStored, passed, stored, numberOf};
 ghost use Rattle.library_rows.specs.Passes.{Small, RowsRead};
 
@@ -18,6 +18,7 @@ mod store;
 use crate::store::put_row;
 use crate::store::put_rowless;
 use crate::store::word_place;
+use library_table::Word;
 use text::Numeral;
 use text::after;
 use text::field;
@@ -65,33 +66,28 @@ struct Passed {
     least: u32,
 }
 
-// Whether a field is the word that a place of an entry wants.
-fn is_word(f: &[u8], place: u32) -> bool
-    ensures { λ r. ⌜ r ≡ sameBytes (now (f .entry)) (wordBytes (wordAt place)) ⌝ }
+// Whether a field is a word of an entry.
+fn is_word(f: &[u8], word: Word) -> bool
+    ensures { λ r. ⌜ r ≡ sameBytes (now (f .entry)) (wordBytes word) ⌝ }
 {
-    if place < 2 {
-        return same(f, b"CC");
+    match word {
+        Word::CC => same(f, b"CC"),
+        Word::CO => same(f, b"CO"),
+        Word::SC => same(f, b"SC"),
+        Word::SO => same(f, b"SO"),
     }
-    if place == 2 {
-        return same(f, b"CO");
-    }
-    if place == 3 {
-        return same(f, b"SC");
-    }
-    same(f, b"SO")
 }
 
-// Whether a place wants CC or SC, whose rows set the output.
-fn sets_output(place: u32) -> bool
-    ensures { λ r. ⌜ r ≡ setting (wordAt place) ⌝ }
+// Whether the rows of a word set the output: those of CC and SC.
+fn sets_output(word: Word) -> bool
+    ensures { λ r. ⌜ r ≡ setting word ⌝ }
 {
-    if place < 2 {
-        return true;
+    match word {
+        Word::CC => true,
+        Word::CO => false,
+        Word::SC => true,
+        Word::SO => false,
     }
-    if place == 3 {
-        return true;
-    }
-    false
 }
 
 // 2 to a power.
@@ -108,13 +104,13 @@ fn power(k: u32) -> u32
     p
 }
 
-// What a place of an entry asks of its line, for a cell of this heading and so many pins.
-fn asked_for(cell: u32, heading: u32, place: u32, pins: u32) -> Asked
+// What a word asks of its line, for a cell of this heading and so many pins.
+fn asked_for(cell: u32, heading: u32, word: Word, pins: u32) -> Asked
     requires { ⌜ pins ≤ Size.pins ⌝ }
-    ensures { λ r. ⌜ r ≡ askedOf cell heading (wordAt place) pins ⌝ }
+    ensures { λ r. ⌜ r ≡ askedOf cell heading word pins ⌝ }
 {
-    let at = word_place(cell, place);
-    if sets_output(place) {
+    let at = word_place(cell, word);
+    if sets_output(word) {
         return Asked {
             place: at,
             groups: 2,
@@ -330,20 +326,20 @@ pub fn read_rows(
     table: &mut [u32],
     line: &[u8],
     cell: u32,
-    place: u32,
+    word: Word,
     pins: u32,
     heading: u32,
 ) -> u32
     requires { ⌜ (cell ≤ Size.cells) × (pins ≤ Size.pins) × (length (now line) ≤ Size.textBytes) ⌝ }
-    ensures { λ r. ⌜ RowsRead cell heading (wordAt place) pins (fields (now (line .entry)))
+    ensures { λ r. ⌜ RowsRead cell heading word pins (fields (now (line .entry)))
         (now (table .entry)) (now (table .exit)) r ⌝ }
 {
-    let word = field(line, 0);
-    if !is_word(word, place) {
+    let first = field(line, 0);
+    if !is_word(first, word) {
         return reading::LIBRARY_FORM;
     }
-    let from = after(line, 0, word);
-    let a = asked_for(cell, heading, place, pins);
+    let from = after(line, 0, first);
+    let a = asked_for(cell, heading, word, pins);
     let p = pass_fields(table, line, from, a);
     number_of(a, p)
 }

@@ -4,31 +4,28 @@ ghost use Prim.Native.Nat.{_+_, _≤_};
 ghost use Rattle.sizes.specs.Places.{groupPlace};
 ghost use Rattle.sizes.specs.Sizes as Size;
 ghost use Rattle.library_table.specs.Layout.{firstGroup};
-ghost use Rattle.library_rows.specs.Passes.{wordAt, farthest, rowPut, rowlessPut};
+ghost use Rattle.library_rows.specs.Passes.{farthest, rowPut, rowlessPut};
+use library_table::Word;
 use library_table::cells::cell_place;
 use table::put;
 
 // The first group of a word among the groups of a cell.
-fn first_group(place: u32) -> usize
-    ensures { λ r. ⌜ r ≡ firstGroup (wordAt place) ⌝ }
+fn first_group(word: Word) -> usize
+    ensures { λ r. ⌜ r ≡ firstGroup word ⌝ }
 {
-    if place < 2 {
-        return sizes::CC_GROUP;
+    match word {
+        Word::CC => sizes::CC_GROUP,
+        Word::CO => sizes::CO_GROUP,
+        Word::SC => sizes::SC_GROUP,
+        Word::SO => sizes::SO_GROUP,
     }
-    if place == 2 {
-        return sizes::CO_GROUP;
-    }
-    if place == 3 {
-        return sizes::SC_GROUP;
-    }
-    sizes::SO_GROUP
 }
 
 // Where the groups of a word start in the table.
-pub fn word_place(cell: u32, place: u32) -> usize
-    ensures { λ r. ⌜ r ≡ groupPlace cell (firstGroup (wordAt place)) ⌝ }
+pub fn word_place(cell: u32, word: Word) -> usize
+    ensures { λ r. ⌜ r ≡ groupPlace cell (firstGroup word) ⌝ }
 {
-    cell_place(cell) + sizes::GROUPS_AT + first_group(place) * sizes::GROUP_WORDS
+    cell_place(cell) + sizes::GROUPS_AT + first_group(word) * sizes::GROUP_WORDS
 }
 
 // A group of no row.

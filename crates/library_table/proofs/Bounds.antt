@@ -12,7 +12,8 @@ use Rattle.reading.proofs.Bounds.{Within, textNumber, within-bind, within-then,
 use Rattle.text.specs.Lines.{lines}
 use Rattle.text.proofs.Laws.{length-lines}
 use Rattle.library_table.specs.Cells.{Heading, Cell}
-use Rattle.library_table.specs.Library.{Fields, Word, Wanted, wordLine, endLine, Place, outside, inside, Reading, rowsAfter, rowLine, nameAfter, nameLine, endAfter, libraryLine, libraryEnd, libraryFrom, library}
+use Rattle.library_table.specs.declared.Word.{Word}
+use Rattle.library_table.specs.Library.{Fields, Wanted, wordLine, endLine, Place, outside, inside, Reading, rowsAfter, rowLine, nameAfter, nameLine, endAfter, libraryLine, libraryEnd, libraryFrom, library}
 
 module _ (n : ℕ) where
   module _ (line : ℕ) (k : line ≤ n) where

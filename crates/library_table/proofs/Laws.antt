@@ -20,7 +20,9 @@ use Rattle.text.specs.Lines.{sameBytes, lines}
 use Rattle.text.specs.Numeral.{value, decimal, nameForm}
 use Rattle.text.proofs.Laws.{nameForm-length}
 use Rattle.library_table.specs.Cells.{Heading, plain, deep, depthBits, deepest, Row, rowOf, Group, Cell, bit}
-use Rattle.library_table.specs.Library.{Fields, isJoin, isZ, word, rowsForm, joinFirst, withRow, groupsOf, anyOf, aboveRows, above, observesNot, Word, CC, CO, SC, SO, wordBytes, groupCount, columnCount, idle, excepted, rowIdle, rowsAfter, rowLine, Header, headingOf, headerOf, nameAfter, endAfter, nameUsed, pinsBad, nameLine, wordLine, endLine, lineAfter, Place, outside, inside, Reading, begun, wordGroups, withGroups, libraryLine, libraryEnd, libraryFrom, library}
+use Rattle.library_table.specs.declared.Word.{Word}
+use Rattle.library_table.specs.declared.Word.the-variants.{CC, CO, SC, SO}
+use Rattle.library_table.specs.Library.{Fields, isJoin, isZ, word, rowsForm, joinFirst, withRow, groupsOf, anyOf, aboveRows, above, observesNot, wordBytes, groupCount, columnCount, idle, excepted, rowIdle, rowsAfter, rowLine, Header, headingOf, headerOf, nameAfter, endAfter, nameUsed, pinsBad, nameLine, wordLine, endLine, lineAfter, Place, outside, inside, Reading, begun, wordGroups, withGroups, libraryLine, libraryEnd, libraryFrom, library}
 use Rattle.library_table.specs.Layout.{ShortName, FewPins, Fits}
 use Rattle.library_table.specs.Sound.{SoundRow, SoundGroup, SoundGroups, SoundHeader, SoundCell, Sound, SoundEntry, SoundPlace, SoundReading}
 

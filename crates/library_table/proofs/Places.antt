@@ -14,7 +14,9 @@ use Rattle.sizes.specs.Sizes as Size
 use Rattle.table.specs.Blocks.{fitted, blocks}
 use Rattle.table.proofs.Places.{length-fitted, getD-fitted, length-blocks, getD-blocks}
 use Rattle.library_table.specs.Cells.{Heading, depthBits, Row, rowOf, rowValue, Group, Cell}
-use Rattle.library_table.specs.Library.{Word, CC, CO, SC, SO, groupCount, wordGroups}
+use Rattle.library_table.specs.declared.Word.{Word}
+use Rattle.library_table.specs.declared.Word.the-variants.{CC, CO, SC, SO}
+use Rattle.library_table.specs.Library.{groupCount, wordGroups}
 use Rattle.library_table.specs.Layout.{rowWords, groupWords, cellGroups, headingNumber, cellWords, firstGroup, libraryWords}
 
 -- What a row was read from is what its entry writes for it.

@@ -14,7 +14,9 @@ use Rattle.reading.specs.Choice.{pick}
 use Rattle.reading.specs.Each.{Each}
 use Rattle.reading.specs.Refusal.{Read, refused, read}
 use Rattle.library_table.specs.Cells.{Heading, plain, deep, Row, Group, Cell}
-use Rattle.library_table.specs.Library.{Word, CC, CO, SC, SO, cellNamed}
+use Rattle.library_table.specs.declared.Word.{Word}
+use Rattle.library_table.specs.declared.Word.the-variants.{CC, CO, SC, SO}
+use Rattle.library_table.specs.Library.{cellNamed}
 
 -- Two numbers a row, the depth apart from the columns; a group has its count of rows first, then its rows.
 unfoldable pub rowWords : Row → List ℕ

@@ -14,6 +14,8 @@ use Rattle.text.specs.Lines.{lines, sameBytes, lines-open}
 use Rattle.text.specs.Numeral.{numeral, value, decimal, nameForm, numeral-open}
 use Rattle.reading.specs.Refusal.{Read, refused, read, weigh, form, refusal-open, _>>=_, _>>_}
 use Rattle.library_table.specs.Cells.{Heading, plain, deep, Row, rowOf, Group, Cell, bit, cells-open}
+use Rattle.library_table.specs.declared.Word.{Word}
+use Rattle.library_table.specs.declared.Word.the-variants.{CC, CO, SC, SO}
 
 -- A line by its fields.
 abbrev pub Fields : Type 0
@@ -104,9 +106,6 @@ unfoldable pub observesNot : ℕ → Row → Bool
 observesNot n r = not (bit (r .columns) (2 * n + 2))
 
 -- ---- the six lines of an entry
-
-pub data Word : Type 0 where
-  CC CO SC SO : Word
 
 unfoldable pub wordBytes : Word → List ℕ
 wordBytes CC = bytes "CC"

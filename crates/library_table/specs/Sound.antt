@@ -10,7 +10,9 @@ use lib.ListN.{length}
 use Rattle.sizes.specs.Sizes as Size
 use Rattle.text.specs.Numeral.{nameForm}
 use Rattle.library_table.specs.Cells.{deepest, Row, Group, Cell}
-use Rattle.library_table.specs.Library.{Word, CC, CO, SC, SO, groupCount, columnCount, idle, excepted, wordGroups, Wanted, wordLine, endLine, Place, outside, inside, Reading}
+use Rattle.library_table.specs.declared.Word.{Word}
+use Rattle.library_table.specs.declared.Word.the-variants.{CC, CO, SC, SO}
+use Rattle.library_table.specs.Library.{groupCount, columnCount, idle, excepted, wordGroups, Wanted, wordLine, endLine, Place, outside, inside, Reading}
 use Rattle.reading.specs.Each.{Each}
 
 -- A row of a line that has the groups `all`. "depth 0 to 7" (02, K2); no "bit above its columns"; not "a CC or SC row

@@ -3,5 +3,13 @@
 //
 // Open to others, each for every input: `cells::count`, `cells::find`, `cells::pins_of` and `cells::told`. What they say of a
 // table that holds cells: `holds-count`, `holds-find` and `holds-pins` of proofs/Names.antt.
-// For the crates above: `cells::cell_place`.
+// For the crates above: `cells::cell_place`, and the words of an entry, `Word`.
 pub mod cells;
+
+// The words of an entry that have rows.
+pub enum Word {
+    CC,
+    CO,
+    SC,
+    SO,
+}

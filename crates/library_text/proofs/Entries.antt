@@ -4,7 +4,7 @@ use mathlib.Core.Bool.{true, false}
 use mathlib.Core.List.{List, [], _∷_, _++_}
 use mathlib.Core.Option.{none, some}
 use mathlib.Core.Path.{_≡_, refl, sym, ap, _∙_}
-use Prim.Native.Nat.{ℕ, _+_, _≤_, _<_}
+use Prim.Native.Nat.{ℕ, zero, suc, _+_, _≤_, _<_}
 use native.Mathlib.Omega.{arith}
 use lib.ListN.{length, getD, set, drop, length-append}
 use borrow.Author.Tests.{eq-eqb, ne-eqb, le-ltb}
@@ -17,12 +17,14 @@ use Rattle.reading.proofs.Laws.{by-test, and-right}
 use Rattle.text.specs.Lines.{sameBytes}
 use Rattle.text.proofs.Laws.{nameForm-length}
 use Rattle.library_table.specs.Cells.{Heading, Group, Cell}
-use Rattle.library_table.specs.Library.{Fields, holds, rowsAfter, nameLine, word, rowsForm, anyOf, aboveRows, groupsOf, Word, CC, CO, SC, SO, wordBytes, wordLine, endLine, lineAfter, Place, outside, inside, Reading, begun, wordGroups, withGroups, rowLine, libraryLine}
+use Rattle.library_table.specs.declared.Word.{Word}
+use Rattle.library_table.specs.declared.Word.the-variants.{CC, CO, SC, SO}
+use Rattle.library_table.specs.Library.{Fields, holds, rowsAfter, nameLine, word, rowsForm, anyOf, aboveRows, groupsOf, wordBytes, wordLine, endLine, lineAfter, Place, outside, inside, Reading, begun, wordGroups, withGroups, rowLine, libraryLine}
 use Rattle.library_table.specs.Layout.{headingNumber, libraryWords, LibraryHolds}
-use Rattle.library_rows.specs.Passes.{countedWords, numberHeading, askedOf, nonePassed, stored, wordAt, rowNumber, RowsRead}
+use Rattle.library_rows.specs.Passes.{countedWords, numberHeading, askedOf, nonePassed, stored, rowNumber, RowsRead}
 use Rattle.library_text.specs.Headers.{headerPut, headerNumber, endFormed}
 use Rattle.library_table.specs.Sound.{SoundGroup, wordNumber, endNumber, wantedNumber, SoundEntry, SoundPlace, SoundReading}
-use Rattle.library_text.specs.Walk.{placeCells, readingWords, placeNumber, placePins, placeHeading, StateFits, Shows, Leaves}
+use Rattle.library_text.specs.Walk.{wordAt, placeCells, readingWords, placeNumber, placePins, placeHeading, StateFits, Shows, Leaves}
 use Rattle.library_text.specs.declared.lines.State.{State}
 use Rattle.library_table.proofs.Laws.{rowLine-sound, libraryLine-sound, sound-fits}
 use Rattle.library_text.proofs.Headers.{rowLine-number, headingNo, pinsOf, headerIn, pins-form, heading-number, number-heading, nameAfter-none, nameLine-number, endAfter-formed}
@@ -65,6 +67,14 @@ word-range CC = (omega arith, omega arith)
 word-range CO = (omega arith, omega arith)
 word-range SC = (omega arith, omega arith)
 word-range SO = (omega arith, omega arith)
+
+pub at-SO : (p : ℕ) → (p ≡ 1 → ⊥) → (p ≡ 2 → ⊥) → (p ≡ 3 → ⊥) → wordAt p ≡ SO
+unfolding wordAt
+at-SO zero h m n = refl
+at-SO (suc zero) h m n = absurd (h refl)
+at-SO (suc (suc zero)) h m n = absurd (m refl)
+at-SO (suc (suc (suc zero))) h m n = absurd (n refl)
+at-SO (suc (suc (suc (suc p)))) h m n = refl
 
 word-at : (w : Word) → wordAt (wordNumber w) ≡ w
 unfolding wordAt

@@ -21,7 +21,8 @@ use Rattle.reading.proofs.Laws.{by-test, and-left, and-right}
 use Rattle.text.proofs.Cursors.{field-nth, field-last}
 use Rattle.text.proofs.Laws.{fieldsFrom-start}
 use Rattle.library_table.specs.Cells.{Heading, plain, deep, Cell}
-use Rattle.library_table.specs.Library.{Fields, holds, word, rowsForm, groupsOf, anyOf, aboveRows, above, Word, wordBytes, groupCount, columnCount, rowIdle, rowsAfter, rowLine, Header, headingOf, headerOf, nameAfter, endAfter, cellNamed, nameUsed, pinsBad, nameLine}
+use Rattle.library_table.specs.declared.Word.{Word}
+use Rattle.library_table.specs.Library.{Fields, holds, word, rowsForm, groupsOf, anyOf, aboveRows, above, wordBytes, groupCount, columnCount, rowIdle, rowsAfter, rowLine, Header, headingOf, headerOf, nameAfter, endAfter, cellNamed, nameUsed, pinsBad, nameLine}
 use Rattle.library_table.specs.Layout.{headingNumber, LibraryHolds}
 use Rattle.library_rows.specs.Passes.{numberHeading, rowNumber}
 use Rattle.library_text.specs.Headers.{headings, headingIn, pinsIn, headerNumber, endFormed}

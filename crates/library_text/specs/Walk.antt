@@ -2,12 +2,14 @@
 -- Assumes nothing.
 use mathlib.Core.List.{List, [], _∷_, _++_}
 use mathlib.Core.Path.{_≡_}
-use Prim.Native.Nat.{ℕ, _≤_}
+use Prim.Native.Nat.{ℕ, zero, suc, _≤_}
 use lib.ListN.{length}
 use Rattle.sizes.specs.Sizes as Size
 use Rattle.reading.specs.Refusal.{Read, refused, read}
 use Rattle.text.specs.Lines.{fields}
 use Rattle.library_table.specs.Cells.{Cell}
+use Rattle.library_table.specs.declared.Word.{Word}
+use Rattle.library_table.specs.declared.Word.the-variants.{CC, CO, SC, SO}
 use Rattle.library_table.specs.Library.{Place, outside, inside, Reading, libraryLine}
 use Rattle.library_table.specs.Layout.{headingNumber}
 use Rattle.library_table.specs.Sound.{wantedNumber, SoundReading}
@@ -39,6 +41,14 @@ placePins (inside wanted c) = c .pins
 unfoldable pub placeHeading : Place → ℕ
 placeHeading outside = 0
 placeHeading (inside wanted c) = headingNumber (c .heading)
+
+-- The word that the line at a place within an entry begins with: back from `wordNumber`.
+unfoldable pub wordAt : ℕ → Word
+wordAt zero = SO
+wordAt (suc zero) = CC
+wordAt (suc (suc zero)) = CO
+wordAt (suc (suc (suc zero))) = SC
+wordAt (suc (suc (suc (suc n)))) = SO
 
 -- Numbers that the tables have space for.
 pub record StateFits (s : State) : Type 0 where

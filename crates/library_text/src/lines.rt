@@ -12,9 +12,10 @@ ghost use Rattle.library_table.specs.Library.{library};
 ghost use Rattle.library_table.specs.Layout.{libraryWords};
 ghost use Rattle.library_text.specs.Headers.{headingIn, pinsIn, headerNumber};
 ghost use Rattle.library_table.specs.Sound.{endNumber};
-ghost use Rattle.library_text.specs.Walk.{StateFits, LineReads};
+ghost use Rattle.library_text.specs.Walk.{wordAt, StateFits, LineReads};
 use crate::store::put_header;
 use library_rows::read_rows;
+use library_table::Word;
 use library_table::cells::count;
 use library_table::cells::find;
 use reading::Refusal;
@@ -37,10 +38,14 @@ const PLAIN: u32 = 0;
 const DEEP: u32 = 1;
 
 const HEADINGS: u32 = 2;
-// Places of an entry: outside it, before its CC line, and before its End line.
+// Places of an entry: outside it, and before its CC, its CO, its SC, its SO (4) and its End line.
 const OUTSIDE: u32 = 0;
 
 const CC_LINE: u32 = 1;
+
+const CO_LINE: u32 = 2;
+
+const SC_LINE: u32 = 3;
 
 const END_LINE: u32 = 5;
 
@@ -135,6 +140,22 @@ fn name_line(line: &[u8], table: &mut [u32], s: State) -> State
     }
 }
 
+// The word that a place within an entry wants.
+fn word_at(place: u32) -> Word
+    ensures { λ r. ⌜ r ≡ wordAt place ⌝ }
+{
+    if place == CC_LINE {
+        return Word::CC;
+    }
+    if place == CO_LINE {
+        return Word::CO;
+    }
+    if place == SC_LINE {
+        return Word::SC;
+    }
+    Word::SO
+}
+
 fn row_line(line: &[u8], table: &mut [u32], s: State) -> State
     requires { ⌜ (0 < s .place) × (s .place < endNumber) × StateFits s × (length (now line) ≤ Size.textBytes) ⌝ }
     ensures { λ t. ⌜ LineReads s t (now (line .entry)) (now (table .entry)) (now (table .exit)) ⌝ }
@@ -143,7 +164,8 @@ fn row_line(line: &[u8], table: &mut [u32], s: State) -> State
     let cells = s.cells;
     let pins = s.pins;
     let heading = s.heading;
-    let number = read_rows(table, line, cells, place, pins, heading);
+    let word = word_at(place);
+    let number = read_rows(table, line, cells, word, pins, heading);
     if number != 0 {
         return stopped(s, number);
     }

@@ -14,7 +14,9 @@ use Rattle.reading.proofs.Laws.{or-left, or-right, each-at, each-append, each-m
 use Rattle.table.specs.Blocks.{fitted}
 use Rattle.library_table.proofs.Any.{any-append}
 use Rattle.library_table.specs.Cells.{Row, Group, Cell, noRow}
-use Rattle.library_table.specs.Library.{Word, CC, CO, SC, SO, groupCount, wordGroups, anyOf}
+use Rattle.library_table.specs.declared.Word.{Word}
+use Rattle.library_table.specs.declared.Word.the-variants.{CC, CO, SC, SO}
+use Rattle.library_table.specs.Library.{groupCount, wordGroups, anyOf}
 use Rattle.library_table.specs.Layout.{libraryWords, cellGroups}
 use Rattle.library_table.specs.Sound.{SoundGroup, SoundGroups, SoundCell}
 use Rattle.library_table.proofs.Places.{length-cellGroups, group-count, row-columns}

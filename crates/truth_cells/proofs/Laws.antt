@@ -15,7 +15,9 @@ use Rattle.reading.specs.Each.{Each}
 use Rattle.reading.proofs.Laws.{and-left, and-right, each-at}
 use Rattle.library_table.specs.Cells.{Row, Group, Cell, noRow}
 use Rattle.library_table.specs.Layout.{cellGroups, firstGroup, libraryWords}
-use Rattle.library_table.specs.Library.{Word, CC, CO, SC, SO, groupCount, wordGroups}
+use Rattle.library_table.specs.declared.Word.{Word}
+use Rattle.library_table.specs.declared.Word.the-variants.{CC, CO, SC, SO}
+use Rattle.library_table.specs.Library.{groupCount, wordGroups}
 use Rattle.library_table.specs.Sound.{SoundGroup, SoundCell, Sound}
 use Rattle.library_table.proofs.Laws.{cell-known}
 use Rattle.library_table.proofs.Places.{within-space, first-most, cell-group, library-count, cell-pins}

@@ -17,7 +17,9 @@ use Rattle.reading.specs.Refusal.{read}
 use Rattle.reading.proofs.Laws.{by-test, clash, and-left, each-member}
 use Rattle.text.specs.Numeral.{nameForm}
 use Rattle.library_table.specs.Cells.{Row, Group, bit}
-use Rattle.library_table.specs.Library.{anyOf, aboveRows, above, namesNone, observesNot, Word, CC, CO, SC, SO, groupCount, columnCount, idle, emptyGroup, excepted, rowIdle, library}
+use Rattle.library_table.specs.declared.Word.{Word}
+use Rattle.library_table.specs.declared.Word.the-variants.{CC, CO, SC, SO}
+use Rattle.library_table.specs.Library.{anyOf, aboveRows, above, namesNone, observesNot, groupCount, columnCount, idle, emptyGroup, excepted, rowIdle, library}
 use Rattle.truth_tables.specs.Entries.{literalColumns, termColumns, observeColumn, settingRow, observingRow, settingGroup, observingGroup, settingGroups, groupsFrom, observingGroups, cellOf, rowNumber, entryBytes}
 use Rattle.truth_tables.specs.Tables.{Setting, Term, output, same, fits, meets, terms, allOf, prime, implicant, dropped, primes, gives, putIn, changes, observing}
 use Rattle.truth_tables.proofs.Lists.{kept, each-kept}

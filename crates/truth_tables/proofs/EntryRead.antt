@@ -24,7 +24,9 @@ use Rattle.writer.specs.Decimal.{decimalBytes, decimal-open}
 use Rattle.writer.specs.Octal.{octalBytes}
 use Rattle.writer.proofs.Octal.{octal-digits, octal-value, octal-read}
 use Rattle.library_table.specs.Cells.{plain, Row, rowOf, depthBits, Group, Cell}
-use Rattle.library_table.specs.Library.{Fields, holds, rowDigits, isRow, isJoin, isZ, Before, word, row, join, mayJoin, mayEnd, rowsForm, joinFirst, withRow, groupsOf, anyOf, aboveRows, above, Word, CC, CO, SC, SO, wordBytes, groupCount, columnCount, rowIdle, rowsAfter, rowLine, headingOf, headerOf, nameAfter, endAfter, cellNamed, nameUsed, pinsBad, nameLine, lineAfter, begun, withGroups, libraryLine, libraryEnd, libraryFrom, library}
+use Rattle.library_table.specs.declared.Word.{Word}
+use Rattle.library_table.specs.declared.Word.the-variants.{CC, CO, SC, SO}
+use Rattle.library_table.specs.Library.{Fields, holds, rowDigits, isRow, isJoin, isZ, Before, word, row, join, mayJoin, mayEnd, rowsForm, joinFirst, withRow, groupsOf, anyOf, aboveRows, above, wordBytes, groupCount, columnCount, rowIdle, rowsAfter, rowLine, headingOf, headerOf, nameAfter, endAfter, cellNamed, nameUsed, pinsBad, nameLine, lineAfter, begun, withGroups, libraryLine, libraryEnd, libraryFrom, library}
 use Rattle.truth_tables.specs.Entries.{rowNumber, rowBytes, groupBytes, groupsBytes, lineBytes, nameBytes, entryBytes}
 
 -- ---- a row's field

@@ -7,7 +7,6 @@ use Rattle.reading.specs.Choice.{pick}
 use Rattle.text.specs.Lines.{fields, sameBytes}
 use Rattle.text.proofs.Laws.{fieldsFrom-start}
 use Rattle.library_table.specs.Library.{wordBytes}
-use Rattle.library_rows.specs.Passes.{wordAt}
 use Rattle.text.proofs.Cursors.{field-nth, field-next, fields-some}
 use Rattle.library_rows.proofs.Passes.{asked-place, rowNumber-walk, walk-read}
 use native.Mathlib.Omega.{arith}
@@ -32,7 +31,7 @@ asking c = c .before .before
 -- What the first field told.
 word-told : (c : tie.After-is-word)
     → let a = begun c .args in
-    c .is-word .result ≡ sameBytes (getD (fields (a .line .now)) 0 []) (wordBytes (wordAt (a .place)))
+    c .is-word .result ≡ sameBytes (getD (fields (a .line .now)) 0 []) (wordBytes (a .word))
 word-told c =
     let s = begun c .args .line .now in
     rw (field-nth s _ 0 0 0 (fieldsFrom-start s) (c .before .field .ensures)) at (c .is-word .ensures)
@@ -43,7 +42,7 @@ returns c =
     let s = begun (c .before) in
     let line = s .args .line .now in
     record {
-      number = rw (rowNumber-walk (s .args .cell) (s .args .heading) (wordAt (s .args .place)) (s .args .pins) (s .pre .1) (fields line) (fields-some line), sym (word-told (c .before)) ∙ not-true _ (c .if1 .taken));
+      number = rw (rowNumber-walk (s .args .cell) (s .args .heading) (s .args .word) (s .args .pins) (s .pre .1) (fields line) (fields-some line), sym (word-told (c .before)) ∙ not-true _ (c .if1 .taken));
       table = λ z. absurd (omega arith);
     }
 
@@ -53,7 +52,7 @@ asked-for-requires c κs = begun (c .before .before) .pre .1
 pass-fields-requires : tie.Need-pass-fields-requires
 pass-fields-requires c κs =
     let s = begun (worded (c .before) .before) in
-    (rw (c .before .asked-for .ensures) (asked-place (s .args .cell) (s .args .heading) (wordAt (s .args .place)) (s .args .pins) (s .pre .0)), s .pre .2)
+    (rw (c .before .asked-for .ensures) (asked-place (s .args .cell) (s .args .heading) (s .args .word) (s .args .pins) (s .pre .0)), s .pre .2)
 
 returns-2 : tie.Need-returns-2
 returns-2 c =
@@ -63,7 +62,7 @@ returns-2 c =
     let s = begun (w .before) in
     let line = s .args .line .now in
     let from = field-next line _ 0 _ 0 (fieldsFrom-start line) (w .before .before .field .ensures) (asks .before .after .ensures) in
-    walk-read (s .args .cell) (s .args .heading) (wordAt (s .args .place)) (s .args .pins) (s .pre .1) (fields line) (fields-some line) (sym (word-told (w .before)) ∙ not-false _ (w .if1 .left))
+    walk-read (s .args .cell) (s .args .heading) (s .args .word) (s .args .pins) (s .pre .1) (fields line) (fields-some line) (sym (word-told (w .before)) ∙ not-false _ (w .if1 .left))
     _ _ _ _ _ _ (asks .asked-for .ensures) from (walk .pass-fields .ensures .0) (walk .pass-fields .ensures .1) (c .number-of .ensures)
 
 pub read-rows-spec : {M : Type 1} → statement M

@@ -1,20 +1,26 @@
 -- `sets_output` meets its contract. Assumes nothing.
-use mathlib.Core.Path.{sym}
-use Rattle.library_rows.specs.Passes.{wordAt, setting}
-use Rattle.library_rows.proofs.Passes.{at-CC, at-other}
+use Rattle.library_rows.specs.Passes.{setting}
+use borrow.Author.Needs.{needs}
 use Rattle.library_rows.proofs.sets_output.Statement.{statement}
 use Rattle.library_rows.proofs.sets_output.Tie as tie
 
 returns : tie.Need-returns
 unfolding setting
-returns c = rw (at-CC (c .before .args .place) (c .if1 .taken))
+returns c = search needs
 
 returns-2 : tie.Need-returns-2
-unfolding setting wordAt
-returns-2 c = rw (c .if2 .taken)
+unfolding setting
+returns-2 c = search needs
 
 returns-3 : tie.Need-returns-3
-returns-3 c = sym (at-other (c .before .before .args .place) (c .before .if1 .left) (c .if2 .left))
+unfolding setting
+returns-3 c = search needs
+
+returns-4 : tie.Need-returns-4
+unfolding setting
+returns-4 c = search needs
 
 pub sets-output-spec : {M : Type 1} → statement M
-sets-output-spec = tie.close (tie.spec returns returns-2 returns-3)
+sets-output-spec =
+    tie.close
+    (tie.spec (λ c. search needs) (λ c. search needs) (λ c. search needs) (λ c. search needs) returns returns-2 returns-3 returns-4)

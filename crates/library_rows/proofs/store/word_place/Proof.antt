@@ -1,5 +1,4 @@
 -- `word_place` meets its contract. Assumes nothing.
-use Rattle.library_rows.specs.Passes.{wordAt}
 use native.Mathlib.Omega.{arith}
 use borrow.Author.Needs.{needs}
 use Rattle.library_table.proofs.Places.{first-most}
@@ -10,10 +9,10 @@ add-result : tie.Need-add-result
 add-result c = omega (arith, c .cell-place .ensures)
 
 mul-result : tie.Need-mul-result
-mul-result c = omega (arith, c .first-group .ensures, first-most (wordAt (c .before .before .args .place)))
+mul-result c = omega (arith, c .first-group .ensures, first-most (c .before .before .args .word))
 
 add-result-2 : tie.Need-add-result-2
-add-result-2 c = omega (arith, c .before .cell-place .ensures, c .first-group .ensures, first-most (wordAt (c .before .before .args .place)))
+add-result-2 c = omega (arith, c .before .cell-place .ensures, c .first-group .ensures, first-most (c .before .before .args .word))
 
 returns : tie.Need-returns
 returns c = rw (c .before .cell-place .ensures, c .first-group .ensures)
