@@ -1,9 +1,10 @@
 // The pad adviser for the home recorder: document 02, K13. A second library above the first: it takes a netlist and a
 // list of lines that privacy forbids to pad, and names one allowed line; beyond the request, it ranks the allowed lines.
 //
-// Of the first library it uses `analysis_texts::read_texts`, which reads the texts and refuses them; `sweep_runs::calculate`, one
-// analysis; `sweep_links::link` and `sweep_reruns::try_pad`, a pad on trial from the numbers of that analysis, which
-// `sweep_runs::hand_over` lays anew for each; the readers of the netlist table, `netlist_table::lines`; and the costs of crate `cost`.
+// Of the first library it uses `analysis_texts::read_texts`, which reads the texts and refuses them; `sweep_runs::calculate`,
+// one analysis; `sweep_links::link` and `sweep_reruns::try_pad`, a pad on trial from the numbers of that analysis, which
+// `sweep_runs::hand_over` lays anew for each; the readers of the netlist table, `netlist_table::lines`; and the costs of crate
+// `cost`.
 //
 // Open to others: `advise` and `rank`, over two texts and a list, with an answer that the caller lends; the types `Advised`
 // and `Ranked`. They have tables of their own, and no condition on their input; specs/Calls.antt says what they answer

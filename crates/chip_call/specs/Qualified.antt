@@ -30,8 +30,8 @@ unfoldable pub qualifying : List ℕ → List ℕ → ℕ
 qualifying library netlist =
     pick (withoutLoops netlist && allGenerated library (gatesHeld netlist)) (pick (readOnce netlist) 2 1) 0
 
--- What the answer says of the cells and statements that the tables hold, and of the numbers of their analysis: `b` has the truth
--- tables of the cells.
+-- What the answer says of the cells and statements that the tables hold, and of the numbers of their analysis: `b` has the
+-- truth tables of the cells.
 pub record Says (cells : List Cell) (ss : List Statement) (said : ℕ) : Type 0 where
   pub most : said ≤ 2
   -- "a netlist without loops or open lines, built only of cells that K6 generates, constants among them"

@@ -1,4 +1,5 @@
--- A figure is no promise that a setting exists once a line is read twice: the second theorem does not hold without its condition.
+-- A figure is no promise that a setting exists once a line is read twice: the second theorem does not hold without its
+-- condition.
 -- Assumes nothing.
 use mathlib.Core.Bool.{Bool, true, false, _||_}
 use mathlib.Core.List.{List, [], _∷_, map, List·Memᴰ, List·Memᴰ·head, List·Memᴰ·tail, List·Memᴰ·not-nil, flatMap}

@@ -1,5 +1,5 @@
--- A value that a setting gives a line has a plan: where the values of a gate's pins meet a row, that row is a way, and each line
--- that it asks for has the value asked for.
+-- A value that a setting gives a line has a plan: where the values of a gate's pins meet a row, that row is a way, and each
+-- line that it asks for has the value asked for.
 -- Assumes nothing.
 use mathlib.Core.Bool.{Bool, true, false, not, _&&_}
 use mathlib.Core.List.{List, [], _∷_, map, List·Memᴰ, List·Memᴰ·head, List·Memᴰ·tail, List·Memᴰ·not-nil}

@@ -1,5 +1,5 @@
--- Where each line is read by at most one pin, a value that has a plan is given by a setting: the lines that a row asks for are set
--- one after the other, each by inputs that reach none of the others.
+-- Where each line is read by at most one pin, a value that has a plan is given by a setting: the lines that a row asks for are
+-- set one after the other, each by inputs that reach none of the others.
 -- Assumes nothing.
 use mathlib.Core.Bool.{Bool, true, false, _||_}
 use mathlib.Core.List.{List, [], _∷_, map, List·Memᴰ, List·Memᴰ·head, List·Memᴰ·tail, List·Memᴰ·not-nil}

@@ -1,6 +1,6 @@
 -- How much of a buffer reading a file has filled, and what one read's answer means. The library's contracts tell of a read how
--- many bytes it answers and of the bytes nothing, and every answer may come of some file; so no more can be said of a whole file
--- than that its bytes are within the buffer, and that a file that fills it is too long; tests do the rest (tests/files).
+-- many bytes it answers and of the bytes nothing, and every answer may come of some file; so no more can be said of a whole
+-- file than that its bytes are within the buffer, and that a file that fills it is too long; tests do the rest (tests/files).
 -- Assumes nothing.
 use mathlib.Core.Bool.{_||_}
 use mathlib.Core.List.{List}
@@ -36,8 +36,8 @@ pub record Seen (l : Loaded) (buffer : List ℕ) : Type 0 where
   pub long : LongIfFilled l buffer
 
 -- What a read's answer means, into a buffer of so many bytes from a place on. A negative one is an error: "when a file can't be
--- read it prints `unreadable`". No byte is the file's end. Else so many bytes more are there; a full buffer is a file that is as
--- long, or longer, and a longer one is not unreadable.
+-- read it prints `unreadable`". No byte is the file's end. Else so many bytes more are there; a full buffer is a file that is
+-- as long, or longer, and a longer one is not unreadable.
 unfoldable pub nextOf : ℕ → ℕ → ℤ → Filling
 nextOf size at (negsuc k) = Done Unreadable
 nextOf size at (pos k) =

@@ -43,8 +43,8 @@ OneLongRefused print = (text : List ℕ) → Size.textBytes < length text → pr
 abbrev pub LongRefused : (List ℕ → List ℕ → List ℕ) → Type 0
 LongRefused print = (lib net : List ℕ) → (Size.textBytes < length lib) ⊎ (Size.textBytes < length net) → print lib net ≡ longRefused
 
--- What a program puts ready to be printed of one file, and of two: the bytes, by equation; and that a file of which bytes may be
--- left unread is refused by 2, unless the other is unreadable.
+-- What a program puts ready to be printed of one file, and of two: the bytes, by equation; and that a file of which bytes may
+-- be left unread is refused by 2, unless the other is unreadable.
 pub record PrintsFile (space : ℕ) (print : List ℕ → List ℕ) (l : Loaded) (text after : List ℕ) (said : ℕ) : Type 0 where
   pub outputs : Outputs space (ofFile print l text) after said
   pub cut : Filled l text → ofFile print l text ≡ longRefused

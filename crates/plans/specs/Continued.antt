@@ -32,7 +32,8 @@ abbrev pub StandingStart : Type 0
 StandingStart = (S T : System) → WaysAdded S T → (xs : List ℕ) → AllExact S xs → Start T xs
 
 -- `standing-above`: exact numbers are at least the least sums of visits that have all ways of their nodes, and perhaps others,
--- where no such node has a price. So the numbers that stand may be renewed with rows added, and `renewing-works` gives the bound.
+-- where no such node has a price. So the numbers that stand may be renewed with rows added, and `renewing-works` gives the
+-- bound.
 abbrev pub StandingAbove : Type 0
 StandingAbove =
     (S : System) (vs : List Visit) (xs : List ℕ) →

@@ -16,8 +16,8 @@ textLong = 2
 abbrev pub ofEntry : ℕ → Bool
 ofEntry number = eqb number tableShort || eqb number textLong
 
--- "library line": "3 form; 4 name used before; 5 pins not 1 to 8; 6 wrong count of groups or a group above 16 rows; 7 a row with
--- a bit above its columns; 8 a CC or SC row naming no pin, or a CO or SO row without "observe the output"; 9 a 33rd entry"
+-- "library line": "3 form; 4 name used before; 5 pins not 1 to 8; 6 wrong count of groups or a group above 16 rows; 7 a row
+-- with a bit above its columns; 8 a CC or SC row naming no pin, or a CO or SO row without "observe the output"; 9 a 33rd entry"
 abbrev pub libraryForm : ℕ
 libraryForm = 3
 

@@ -1,8 +1,8 @@
 // The standing table: the numbers run again over those that stand in it, and its stores. Document 02, K11.
 //
 // For the crates above, each with what it asks and leaves: `observe`, CO and SO run again over the values that stand;
-// `hand_observed`, which lays them into an answer; `put_standing`, which lays an analysis into a standing table; `put_pad`, which
-// makes one pad more stand.
+// `hand_observed`, which lays them into an answer; `put_standing`, which lays an analysis into a standing table; `put_pad`,
+// which makes one pad more stand.
 use calculation::Counts;
 use sweep_reruns::observe_anew;
 use sweep_runs::Sweeps;

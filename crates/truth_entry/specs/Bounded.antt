@@ -11,8 +11,8 @@ use Rattle.reading.specs.Refusal.{Read, refused, read}
 abbrev pub entryRoom : ℕ
 entryRoom = 8192
 
--- What every text comes to in a buffer of so many bytes: a refusal by a small number at line 0 or 1, by 17 only where the buffer is
--- shorter than the program's; or an entry that is not long.
+-- What every text comes to in a buffer of so many bytes: a refusal by a small number at line 0 or 1, by 17 only where the
+-- buffer is shorter than the program's; or an entry that is not long.
 unfoldable pub Bounded : (room : ℕ) → Read (List ℕ) → Type 0
 Bounded room (refused number line) = (1 ≤ number) × (number ≤ 17) × (line ≤ 1) × (number ≡ No.reportLong → room < entryRoom)
 Bounded room (read entry) = length entry ≤ entryRoom

@@ -82,8 +82,8 @@ fn generate(entry: &mut [u8], formed: bool, name: &[u8], digits: &[u8], bits: &[
     writer::close(entry, end, reading::REPORT_LONG)
 }
 
-// The entry of a truth table, in the front of a lent buffer. Refusal 2 leaves the buffer as it was, every other one all zero; 17
-// needs a buffer of less than ENTRY_BYTES bytes.
+// The entry of a truth table, in the front of a lent buffer. Refusal 2 leaves the buffer as it was, every other one all zero;
+// 17 needs a buffer of less than ENTRY_BYTES bytes.
 pub fn put_entry(text: &[u8], entry: &mut [u8]) -> Written
     ensures writes { λ r. ⌜ Writes (generatedInto (now (text .entry)) (length (now (entry .entry)))) (now (entry .entry)) (now (entry .exit)) r ⌝ }
     ensures long { λ r. ⌜ LongBelow (length (now (entry .entry))) (writtenRead r) ⌝ }

@@ -39,8 +39,8 @@ pub record Bits (n : ℕ) (bits : List ℕ) : Type 0 where
   pub long : length bits ≡ 2 ^ n
   pub digits : allOf isBit bits ≡ true
 
--- What is asked of the setting at a place, by the bytes of BITS: with no weight, whether the output is a value, "0" or "1"; else
--- whether it changes when the pin of that weight does, the place being that of the other pins.
+-- What is asked of the setting at a place, by the bytes of BITS: with no weight, whether the output is a value, "0" or "1";
+-- else whether it changes when the pin of that weight does, the place being that of the other pins.
 unfoldable pub askAt : List ℕ → (weight value j : ℕ) → Bool
 askAt bits weight value j =
     pick (eqb weight 0) (eqb (getD bits j 0) value)

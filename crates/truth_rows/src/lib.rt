@@ -17,8 +17,8 @@ ghost use Rattle.truth_rows.specs.Asked.{AsksFor};
 
 const ZERO: u8 = 48;
 
-// What is asked of a group's rows: the settings wanted, of so many pins; what every row has besides the columns of its term, and
-// the weight of the two columns above which a pin is left out that is not named.
+// What is asked of a group's rows: the settings wanted, of so many pins; what every row has besides the columns of its term,
+// and the weight of the two columns above which a pin is left out that is not named.
 pub struct Asked {
     pub wanted: u32,
     pub pins: usize,

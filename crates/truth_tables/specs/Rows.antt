@@ -1,5 +1,5 @@
--- When a setting of the pins meets a row, and what the rows of a cell tell of a truth table. Document 02, K6: "One fact covers all
--- truth tables: a setting of the pins gives e exactly when it meets a row of group e."
+-- When a setting of the pins meets a row, and what the rows of a cell tell of a truth table. Document 02, K6: "One fact covers
+-- all truth tables: a setting of the pins gives e exactly when it meets a row of group e."
 -- Assumes nothing.
 use mathlib.Core.Bool.{Bool, true, false}
 use mathlib.Core.List.{List, []}
@@ -37,8 +37,8 @@ Observes n bits gs =
     → (Table.output bits (Table.putIn k false s) ≡ Table.output bits (Table.putIn k true s) → ⊥)
     ↔ (anyOf (meetsRow n (observingColumns n) bits (Table.putIn k v s)) (getD gs k []) ≡ true)
 
--- The rows of a cell tell a truth table, its CC and its SC rows, and its CO and its SO rows. (`rows-tell` of proofs/Rows.antt: so
--- do those of every cell that is generated.)
+-- The rows of a cell tell a truth table, its CC and its SC rows, and its CO and its SO rows. (`rows-tell` of proofs/Rows.antt:
+-- so do those of every cell that is generated.)
 pub record RowsTell (c : Cell) (bits : List Bool) : Type 0 where
   pub cc : Sets (c .pins) bits (c .cc)
   pub sc : Sets (c .pins) bits (c .sc)

@@ -1,5 +1,5 @@
--- The laws of a text in a buffer, or a refusal: from the cursor behind the text to the answer, from the answer to what is printed,
--- and from a refusal to its one number and back.
+-- The laws of a text in a buffer, or a refusal: from the cursor behind the text to the answer, from the answer to what is
+-- printed, and from a refusal to its one number and back.
 -- Assumes nothing.
 use mathlib.Core.Bool.{Bool, false}
 use mathlib.Core.List.{List, _++_}

@@ -1,6 +1,6 @@
--- A text in the front of a lent buffer, or a refusal: what a call answers that writes one, what it leaves in the buffer, the one
--- number for a caller in C, and what a program prints. Document 01, "Report", "Where a text stops" and "Callers". What is to be
--- written is a `Read (List ℕ)`: the bytes of the text, or the refusal.
+-- A text in the front of a lent buffer, or a refusal: what a call answers that writes one, what it leaves in the buffer, the
+-- one number for a caller in C, and what a program prints. Document 01, "Report", "Where a text stops" and "Callers". What is
+-- to be written is a `Read (List ℕ)`: the bytes of the text, or the refusal.
 -- Assumes nothing.
 use mathlib.Core.List.{List, [], _∷_, _++_}
 use mathlib.Core.Path.{_≡_}
@@ -18,8 +18,8 @@ use Rattle.writer.specs.declared.Written.the-variants.{Length, Refused}
 
 -- ---- the answer, and the buffer afterwards
 
--- A text for a buffer of so many bytes: where it is longer it is refused, at line 0, by the number of its kind. "17 report longer
--- than its buffer"; "19 when the text exceeds its buffer".
+-- A text for a buffer of so many bytes: where it is longer it is refused, at line 0, by the number of its kind. "17 report
+-- longer than its buffer"; "19 when the text exceeds its buffer".
 unfoldable pub textWithin : (number space : ℕ) → List ℕ → Read (List ℕ)
 textWithin number space text = weigh 0 ((number, ltb space (length text)) ∷ []) >> read text
 
@@ -49,8 +49,8 @@ pub record Refuses (number line : ℕ) (before after : List ℕ) (said : Written
   pub answers : writtenRead said ≡ refused number line
   pub leaves : after ≡ replicate (length before) 0
 
--- The end of a text that was put into a buffer's front, up to a cursor: it is longer than the buffer where the cursor stands past
--- the buffer's end. (`put-closed` of proofs/Buffer.antt: this is `Writes` of `textWithin`.)
+-- The end of a text that was put into a buffer's front, up to a cursor: it is longer than the buffer where the cursor stands
+-- past the buffer's end. (`put-closed` of proofs/Buffer.antt: this is `Writes` of `textWithin`.)
 pub record Closes (number end : ℕ) (before after : List ℕ) (said : Written) : Type 0 where
   pub answers : writtenRead said ≡ pick (leb end (length before)) (read end) (refused number 0)
   pub leaves : after ≡ pick (leb end (length before)) before (replicate (length before) 0)

@@ -1,5 +1,5 @@
--- `fit` walks over the pins of the cells that the table counts. The loop's invariant: no cell passed has too many, so that the rest
--- decides. Assumes nothing.
+-- `fit` walks over the pins of the cells that the table counts. The loop's invariant: no cell passed has too many, so that the
+-- rest decides. Assumes nothing.
 use mathlib.Core.Path.{_≡_, sym, _∙_}
 use Prim.Native.Nat.{_-_, _≤_}
 use native.Mathlib.Omega.{arith}
