@@ -1,5 +1,8 @@
 -- `put_analysis` leaves the report where it stands, or puts the refusal there. Assumes nothing.
+use mathlib.Core.Path.{_≡_}
 use denote.Ref.{now}
+use lib.ListN.{length}
+use Rattle.sizes.specs.Sizes as Size
 use Rattle.demands.specs.Own.{ownTables}
 use Rattle.analysis_printed.proofs.Printed.{analysis-printed, accepted-shown, refused-shown}
 use borrow.Author.Needs.{needs}
@@ -14,12 +17,15 @@ begins c = c .before .before .before .before .before .before .before
 abbrev analysed : tie.After-numbers2 → tie.After-analyse
 analysed c = c .before .before .before
 
+room : (c : tie.After-analyse-arg) → Size.reportBytes ≡ length (now (c .before .before .before .before .before .before .args .report))
+room c = search needs
+
 returns : tie.Need-returns
 unfolding ownTables
 returns c =
     let k = analysed (c .before .before .before) in
     let a = begins k .args in
-    analysis-printed (now (a .lib)) (now (a .net)) (now (a .report)) (search needs) _ (search needs) _ (k .analyse .ensures) _ _
+    analysis-printed (now (a .lib)) (now (a .net)) (now (a .report)) (room (k .before)) _ (search needs) _ (k .analyse .ensures) _ _
     (accepted-shown (k .analyse .result) (c .before .answer .given .0 .0) _ (search needs))
 
 returns-2 : tie.Need-returns-2
@@ -27,7 +33,7 @@ unfolding ownTables
 returns-2 c =
     let k = analysed (c .before .before .before .before .before) in
     let a = begins k .args in
-    analysis-printed (now (a .lib)) (now (a .net)) (now (a .report)) (search needs) _ (search needs) _ (k .analyse .ensures) _ _
+    analysis-printed (now (a .lib)) (now (a .net)) (now (a .report)) (room (k .before)) _ (search needs) _ (k .analyse .ensures) _ _
     (refused-shown (k .analyse .result) (c .before .before .before .answer2 .given .0 .0) _ _ _ (search needs) (c .put-refusal .ensures))
 
 pub put-analysis-spec : {M : Type 1} → statement M

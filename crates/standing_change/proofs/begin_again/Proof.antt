@@ -1,7 +1,8 @@
 -- `begin_again` calculates from the start, and lays what that comes to. Assumes nothing.
 use mathlib.Core.Path.{_≡_, subst}
-use Prim.Native.Nat.{_≤_}
-use lib.ListN.{length}
+use Prim.Native.Nat.{ℕ, _≤_}
+use native.Mathlib.Omega.{arith}
+use lib.ListN.{length, length-replicate}
 use denote.Ref.{now}
 use borrow.Author.Needs.{needs}
 use Rattle.sizes.specs.Sizes as Size
@@ -20,6 +21,11 @@ calculates c = c .before .before .before
 
 long : (s : tie.Start) → Size.standing ≤ length (now (s .args .standing))
 long s = ready-size (now (s .args .standing)) (s .pre .0)
+
+calculate-requires : tie.Need-calculate-requires
+calculate-requires c κs =
+    let h = begins c .pre .0 in
+    record { cells = h .cells; statements = h .statements; holds = h .holds; room = omega (arith, length-replicate {A = ℕ} Size.numbers 0) }
 
 put-kept-requires : tie.Need-put-kept-requires
 put-kept-requires c κs =
@@ -45,7 +51,7 @@ begin-again-spec =
     tie.close
     (tie.spec
     (λ c. search needs)
-    (λ c κs. search needs)
+    calculate-requires
     put-kept-requires
     (λ c. search needs)
     returns)
