@@ -57,7 +57,7 @@ pub fn report_into(
     net: &[u8],
     library: &mut [u32],
     netlist: &mut [u32],
-    numbers: &mut [u32],
+    found: &mut [u32],
     report: &mut [u8],
     library_used: usize,
     netlist_used: usize,
@@ -65,7 +65,7 @@ pub fn report_into(
     requires { ⌜ (cleared «library_used» (now library) ≡ cleared Size.library (now library))
         × (cleared «netlist_used» (now netlist) ≡ cleared Size.netlist (now netlist)) ⌝ }
     ensures { λ r. ⌜ ReportPromised (givenTexts (now (lib .entry)) (now (net .entry)))
-        (lentOf (now (library .entry)) (now (netlist .entry)) (now (numbers .entry)) (now (report .entry)))
+        (lentOf (now (library .entry)) (now (netlist .entry)) (now (found .entry)) (now (report .entry)))
         (now (report .exit)) (answerRead r) ⌝ }
 {
     let progress = read_texts(
@@ -74,11 +74,11 @@ pub fn report_into(
         net,
         library,
         netlist,
-        numbers.len(),
+        found.len(),
         library_used,
         netlist_used,
     );
-    tell(library, netlist, numbers, report, progress)
+    tell(library, netlist, found, report, progress)
 }
 
 // Analyses a library and a netlist. Entry refusals leave all that was lent untouched, later ones

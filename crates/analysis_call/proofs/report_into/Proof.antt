@@ -25,7 +25,7 @@ module _ (s : tie.Start) where
   given = givenTexts (now (s .args .lib)) (now (s .args .net))
 
   abbrev lent : Lent
-  lent = lentOf (now (s .args .library)) (now (s .args .netlist)) (now (s .args .numbers)) (now (s .args .report))
+  lent = lentOf (now (s .args .library)) (now (s .args .netlist)) (now (s .args .found)) (now (s .args .report))
 
 tell-requires : tie.Need-tell-requires
 tell-requires c κs =
