@@ -1,6 +1,6 @@
 //! Calls other than `scoap_report` that the benchmark times, each on a shape and with what its label says of it.
 
-use super::{c17, forward, random, Case};
+use super::{c17, forward, inverters_backwards, random, random_any_order, Case};
 use crate::advice::{advise_into, ADVICE};
 use crate::budget::{best_into, BEST};
 use crate::plan_into;
@@ -117,6 +117,18 @@ pub fn called() -> Vec<Called> {
             "a small plan, random",
             random(950),
             Call::Plan(120, 0, 0),
+            small.clone(),
+        ),
+        Called::of(
+            "the same, any order",
+            random_any_order(950),
+            Call::Plan(120, 0, 0),
+            small.clone(),
+        ),
+        Called::of(
+            "a small plan, backwards",
+            inverters_backwards(999),
+            Call::Plan(8, 0, 0),
             small,
         ),
         Called::of("advice, C17", c17(), Call::Advise, line.clone()),
