@@ -13,7 +13,8 @@ use cost::Spatial;
 use netlist_table::gates::unchecked;
 use sweep_groups::cell_place;
 use sweep_groups::gather::column_costs;
-use sweep_groups::least_of;
+use sweep_groups::least_sum;
+use sweep_groups::least_wired;
 use sweep_groups::turns::SETTING;
 use sweep_groups::turns::visit_group;
 use sweep_links::is_tied;
@@ -71,7 +72,10 @@ fn offer_of(
     let group = cell
         + sizes::GROUPS_AT
         + visit_group(SETTING, COMBINATIONAL, value) * sizes::GROUP_WORDS;
-    spatial_of(least_of(wired, COMBINATIONAL, library, group, &lines, pins, &costs))
+    if wired {
+        return spatial_of(least_wired(COMBINATIONAL, library, group, &lines, pins, &costs));
+    }
+    spatial_of(least_sum(COMBINATIONAL, library, group, &costs))
 }
 
 // The leaf of a gate's output at a value.

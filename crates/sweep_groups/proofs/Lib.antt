@@ -5,3 +5,4 @@ pub mod Named
 pub mod RowWays
 pub mod Bridge
 pub mod Gone
+pub mod Dominated

@@ -2,8 +2,8 @@
 // the least row sum of a group. Its cell and its lines are read by module `gates` of crate `netlist_table`.
 //
 // For the crates above, each with what it asks of the tables (specs/Fits.antt), since the loop of the
-// sweeps tests no bounds: `least_of`, `is_way`, `read_sum`, `cell_place`, and modules `gather` and
-// `turns`.
+// sweeps tests no bounds: `least_sum`, `least_wired`, `least_of`, `is_way`, `read_sum`, `cell_place`, and
+// modules `gather` and `turns`.
 //
 // Rows are added up in crate `sweep_sums`. Here all goes by the kind's number, 0 combinational and 1
 // sequential.
@@ -11,6 +11,7 @@ pub mod gather;
 mod places;
 pub mod turns;
 
+use cost::NEVER;
 use library_table::cells;
 use netlist_table::gates::unchecked::cell_of;
 use netlist_table::gates::unchecked::lines_of;
@@ -21,6 +22,7 @@ use sweep_sums::no_sum;
 use sweep_wires::needs_both;
 use sweep_wires::once;
 ghost use mathlib.Core.Bool.{true};
+ghost use mathlib.Core.Option.{some};
 ghost use mathlib.Core.Path.{_≡_};
 ghost use Prim.Native.Nat.{_≤_, _<_};
 ghost use lib.ListN.{length};
@@ -33,8 +35,8 @@ ghost use Rattle.sweep_sums.specs.Sums.{sumNumber, sumKind, Summed};
 ghost use Rattle.netlist_table.specs.Gates.{gateCell};
 ghost use Rattle.sweep_wires.specs.Wires.{SettingRow};
 ghost use Rattle.sweep_groups.specs.Tables.{readRow, hasWay, groupColumns};
-ghost use Rattle.sweep_groups.specs.Sums.{lesserRow};
-ghost use Rattle.sweep_groups.specs.Fits.{ReadFits, LeastFits};
+ghost use Rattle.sweep_groups.specs.Sums.{lesserRow, dominated};
+ghost use Rattle.sweep_groups.specs.Fits.{ReadFits, SumFits, LeastFits};
 
 // The lesser of a row's sum and of the best so far, the row read as one of one wire.
 fn lesser_wired(
@@ -56,27 +58,6 @@ fn lesser_wired(
     lesser_row(costs, depth, once(lines, pins, columns), best)
 }
 
-// The same, the row read as its gate's rows are.
-fn lesser_read(
-    wired: bool,
-    lines: &[u32; sizes::GATE_LINES],
-    pins: usize,
-    costs: &[u32; sizes::COLUMNS],
-    depth: u32,
-    columns: u32,
-    best: Sum,
-) -> Sum
-    requires { ⌜ ReadFits wired pins columns × ColumnsFit columns (now costs) ⌝ }
-    ensures { λ r.
-        ⌜ Summed (sumKind best) (lesserRow (now (costs .entry)) depth
-        (readRow wired (now (lines .entry)) pins columns) (sumNumber best)) r ⌝ }
-{
-    if wired {
-        return lesser_wired(lines, pins, costs, depth, columns, best);
-    }
-    lesser_row(costs, depth, columns, best)
-}
-
 // Whether a row is a way at its gate.
 pub fn is_way(wired: bool, lines: &[u32; sizes::GATE_LINES], pins: usize, columns: u32) -> bool
     requires { ⌜ ReadFits wired pins columns ⌝ }
@@ -88,8 +69,7 @@ pub fn is_way(wired: bool, lines: &[u32; sizes::GATE_LINES], pins: usize, column
     true
 }
 
-// A row's sum, of a kind, the row read as its gate's rows are; never where it is no way. It does not go by `lesser_read`, so
-// that the compiler has the loop of `least_of` alone to put that into.
+// A row's sum, of a kind, the row read as its gate's rows are; never where it is no way.
 pub fn read_sum(
     wired: bool,
     kind: usize,
@@ -111,8 +91,70 @@ pub fn read_sum(
     lesser_row(costs, depth, columns, none)
 }
 
-// "the least row sum of its group", over the costs of the columns, of a kind. How the rows are read was
-// decided for the gate, not here.
+// Whether a row's sum is at least another row's, whatever the costs.
+fn is_dominated(depth: u32, columns: u32, other: u32, others: u32) -> bool
+    ensures { λ r. ⌜ r ≡ dominated depth columns other others ⌝ }
+{
+    if columns & others == others {
+        return other <= depth;
+    }
+    false
+}
+
+// "the least row sum of its group", over the costs of the columns, of a kind. A row that the one summed last
+// dominates is not summed.
+pub fn least_sum(kind: usize, library: &[u32], group: usize, costs: &[u32; sizes::COLUMNS]) -> Sum
+    requires { ⌜ SumFits kind (now library) group (now costs) ⌝ }
+    ensures { λ r.
+        ⌜ Summed kind (least (now (costs .entry)) (groupColumns some (now (library .entry)) group)) r ⌝ }
+{
+    let mut best = no_sum(kind);
+    let mut depth = NEVER;
+    let mut columns = 0;
+    let mut row = wide(library[group]);
+    while 0 < row {
+        row -= 1;
+        let at = group + 1 + sizes::ROW_WORDS * row;
+        let next_depth = library[at];
+        let next_columns = library[at + 1];
+        if !is_dominated(next_depth, next_columns, depth, columns) {
+            best = lesser_row(costs, next_depth, next_columns, best);
+            depth = next_depth;
+            columns = next_columns;
+        }
+    }
+    best
+}
+
+// The same of a group whose rows are read as those of one wire.
+pub fn least_wired(
+    kind: usize,
+    library: &[u32],
+    group: usize,
+    lines: &[u32; sizes::GATE_LINES],
+    pins: usize,
+    costs: &[u32; sizes::COLUMNS],
+) -> Sum
+    requires { ⌜ LeastFits true kind (now library) group pins (now costs) ⌝ }
+    ensures { λ r.
+        ⌜ Summed kind (least (now (costs .entry)) (groupColumns
+        (readRow true (now (lines .entry)) pins) (now (library .entry)) group)) r ⌝ }
+{
+    let mut lowest = no_sum(kind);
+    let mut row = wide(library[group]);
+    while 0 < row {
+        row -= 1;
+        let at = group + 1 + sizes::ROW_WORDS * row;
+        let columns = library[at + 1];
+        if !needs_both(lines, pins, columns) {
+            lowest = lesser_row(costs, library[at], once(lines, pins, columns), lowest);
+        }
+    }
+    lowest
+}
+
+// The same of a group of a gate. How its rows are read was decided for the gate, not here. Only the sweeps
+// call it, so that the compiler puts it into their loop.
 pub fn least_of(
     wired: bool,
     kind: usize,
@@ -127,22 +169,10 @@ pub fn least_of(
         ⌜ Summed kind (least (now (costs .entry)) (groupColumns
         (readRow wired (now (lines .entry)) pins) (now (library .entry)) group)) r ⌝ }
 {
-    let mut best = no_sum(kind);
-    let mut row = wide(library[group]);
-    while 0 < row {
-        row -= 1;
-        let at = group + 1 + sizes::ROW_WORDS * row;
-        best = lesser_read(
-            wired,
-            lines,
-            pins,
-            costs,
-            library[at],
-            library[at + 1],
-            best,
-        );
+    if wired {
+        return least_wired(kind, library, group, lines, pins, costs);
     }
-    best
+    least_sum(kind, library, group, costs)
 }
 
 // Where a gate's cell starts in the library table.

@@ -1,14 +1,19 @@
 -- `offer_of` gathers the costs of the gate's columns, and takes the least row sum over them. Assumes nothing.
-use mathlib.Core.Path.{_≡_, refl, ap₂, _∙_}
+use mathlib.Core.Bool.{Bool, true, false}
+use mathlib.Core.List.{List}
+use mathlib.Core.Path.{_≡_, refl, sym, ap₂, _∙_}
 use Prim.Native.Nat.{ℕ, _+_, _*_, _≤_}
 use native.Mathlib.Omega.{arith}
 use borrow.Author.Needs.{needs}
+use lib.ListN.{length}
 use Rattle.sizes.specs.Sizes as Size
 use Rattle.sizes.specs.Places.{groupPlace}
 use Rattle.reading.specs.Choice.{pick}
 use Rattle.netlist_table.specs.Gates.{gateCell}
-use Rattle.sweep_groups.specs.Tables.{gatePins, byRole, visitGroup, gateTied}
-use Rattle.sweep_groups.specs.Fits.{GateFits}
+use Rattle.plans.specs.Sweep.{least}
+use Rattle.sweep_groups.specs.Tables.{readRow, groupColumns, gatePins, byRole, roleColumns, visitGroup, gateTied}
+use Rattle.sweep_groups.specs.Fits.{Gathered, GateFits, LeastFits}
+use Rattle.budget_run.specs.Steps.{gateOffer}
 use Rattle.budget_run.proofs.Offers.{least-fits, gather-fits, offer-is}
 use Rattle.budget_run.proofs.offer_of.Statement.{statement}
 use Rattle.budget_run.proofs.offer_of.Tie as tie
@@ -51,27 +56,43 @@ group-stands : (c : tie.After-visit-group)
 group-stands c =
     ap₂ (λ (x y : ℕ). x + Size.groupsAt + y * Size.groupWords) (celled (lined (c .before)) .cell-place .ensures) (c .visit-group .ensures)
 
-least-of-requires : tie.Need-least-of-requires
-least-of-requires c κs =
-    let g = c .before .before in
-    let x = lined (g .before) in
-    let s = began x in
-    let a = s .args in
-    least-fits (a .library .now) (a .netlist .now) (a .links .now) (a .numbers .now) (a .gate) (a .value) (s .pre .0) (s .pre .1) (x .lines-of .result) (x .before .wide .result) (groupAt g)
-    (x .lines-of .ensures) (pins-are x) (group-stands g) _ _ (g .before .column-costs .ensures .size)
+-- ---- the least row sum, however the rows are read
+
+module _ (g : tie.After-visit-group) (wired : Bool) (costs : List ℕ) where
+  least-asked : let x = lined (g .before) in length costs ≡ Size.columns → LeastFits wired 0 (began x .args .library .now) (groupAt g) (x .before .wide .result) costs
+  least-asked =
+      let x = lined (g .before) in
+      let s = began x in
+      let a = s .args in
+      least-fits (a .library .now) (a .netlist .now) (a .links .now) (a .numbers .now) (a .gate) (a .value) (s .pre .0) (s .pre .1) (x .lines-of .result) (x .before .wide .result) (groupAt g)
+      (x .lines-of .ensures) (pins-are x) (group-stands g) wired costs
+
+  least-offer : let x = lined (g .before) in
+      let a = began x .args in
+      told (g .before) .is-tied .result ≡ wired → Gathered (roleColumns 0 (x .before .wide .result)) 0 (x .lines-of .result) (x .before .wide .result) (a .numbers .now) costs
+      → least costs (groupColumns (readRow wired (x .lines-of .result) (x .before .wide .result)) (a .library .now) (groupAt g)) ≡ gateOffer (a .library .now) (a .netlist .now) (a .numbers .now) (a .gate) (a .value)
+  least-offer e =
+      let t = told (g .before) in
+      let x = t .before in
+      let s = began x in
+      let a = s .args in
+      offer-is (a .library .now) (a .netlist .now) (a .links .now) (a .numbers .now) (a .gate) (a .value) (s .pre .0) (s .pre .1) (x .lines-of .result) (x .before .wide .result) (groupAt g)
+      (x .lines-of .ensures) (pins-are x) (group-stands g) wired (sym e ∙ tied-is t) costs
 
 returns : tie.Need-returns
 returns c =
     let l = c .before in
-    let g = l .before .before .before in
-    let t = told (g .before) in
-    let x = t .before in
-    let s = began x in
-    let a = s .args in
-    c .spatial-of .ensures
-    ∙ l .least-of .ensures .comesTo
-    ∙ offer-is (a .library .now) (a .netlist .now) (a .links .now) (a .numbers .now) (a .gate) (a .value) (s .pre .0) (s .pre .1) (x .lines-of .result) (x .before .wide .result) (groupAt g)
-    (x .lines-of .ensures) (pins-are x) (group-stands g) (t .is-tied .result) (tied-is t) _ (g .before .column-costs .ensures)
+    let t = l .before .before .before in
+    let g = t .before in
+    c .spatial-of .ensures ∙ l .least-wired .ensures .comesTo ∙ least-offer g true _ (t .if1 .taken) (g .before .column-costs .ensures)
+
+returns-2 : tie.Need-returns-2
+unfolding readRow
+returns-2 c =
+    let l = c .before in
+    let e = l .before .before in
+    let g = e .before in
+    c .spatial-of2 .ensures ∙ l .least-sum .ensures .comesTo ∙ least-offer g false _ (e .if1 .left) (g .before .column-costs .ensures)
 
 pub offer-of-spec : {M : Type 1} → statement M
 offer-of-spec =
@@ -94,6 +115,9 @@ offer-of-spec =
     (λ c κs. search needs)
     (λ c. omega (arith, group-few c))
     (λ c. let f = gate-fits (began (lined (c .before))) in omega (arith, group-few c))
-    least-of-requires
-    (λ c κs. c .least-of .ensures .ofKind)
-    returns)
+    (λ c κs. let g = c .before .before .before in least-asked g true _ (g .before .column-costs .ensures .size))
+    (λ c κs. c .least-wired .ensures .ofKind)
+    returns
+    (λ c κs. let g = c .before .before in least-asked g false _ (g .before .column-costs .ensures .size) .sumFits)
+    (λ c κs. c .least-sum .ensures .ofKind)
+    returns-2)
