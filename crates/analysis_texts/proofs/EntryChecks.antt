@@ -4,18 +4,17 @@ use mathlib.Core.List.{List}
 use mathlib.Core.Path.{_≡_, sym}
 use Prim.Native.Nat.{ℕ}
 use lib.ListN.{length}
-use Rattle.reading.specs.Refusal.{refused, read, _>>_}
+use Rattle.reading.specs.Refusal.{refused, read}
 use Rattle.reading.specs.Verdict.{verdictRead, doneRead}
 use Rattle.reading.specs.declared.Refusal.{Refusal}
 use Rattle.reading.specs.declared.Verdict.{Verdict}
 use Rattle.reading.specs.declared.Verdict.the-variants.{Accepted, Refused}
 use Rattle.reading.proofs.Laws.{done-read, done-refused}
-use Rattle.library_text.specs.Entry.{libraryEntry, readLibrary, leftBehind, libraryLeft}
+use Rattle.library_text.specs.Entry.{leftBehind}
 use Rattle.library_table.specs.Library.{library}
 use Rattle.library_table.specs.Layout.{libraryAfter}
-use Rattle.library_text.proofs.Laws.{entry-passed}
 use Rattle.demands.specs.Outcome.{entryBy}
-use Rattle.demands.proofs.EntryChecks.{entered}
+use Rattle.demands.proofs.EntryChecks.{Entered, entered}
 use Rattle.analysis_texts.specs.declared.Progress.the-variants.{Unrefused, AtEntry, Later}
 use Rattle.analysis_texts.specs.Progress.{progressOf, progressFrom, Begun}
 
@@ -28,31 +27,23 @@ module _ (text : List ℕ) (net : ℕ) (before : List ℕ) (netlist numbers : �
       record { answers = rw (← e); leaves = rw (← e) }
 
   module _ (accepted : v ≡ Accepted) where
-    pub passes : entryBy (length text) net (length before) netlist numbers ≡ read tt
+    passes : entryBy (length text) net (length before) netlist numbers ≡ read tt
     unfolding verdictRead
     passes = sym (rw accepted at enters)
 
-    -- Behind the entry the library's own entry refuses nothing.
-    own-passes : libraryEntry (length text) (length before) ≡ read tt
-    own-passes = let e = entered _ _ _ _ _ passes in entry-passed _ _ (e .library-long) (e .lib-short)
+    pub fits : Entered (length text) net (length before) netlist numbers
+    fits = entered _ _ _ _ _ passes
 
-    module _ (w : Verdict) (after : List ℕ) (reads : verdictRead w ≡ doneRead (readLibrary text (length before))) (leaves : after ≡ libraryLeft text before) where
-      behind-reads : verdictRead w ≡ doneRead (library text)
-      unfolding readLibrary _>>_
-      behind-reads = rw own-passes at reads
-
-      behind-leaves : after ≡ libraryAfter (library text) before
-      unfolding libraryLeft leftBehind
-      behind-leaves = rw own-passes at leaves
-
+    module _ (w : Verdict) (after : List ℕ) (reads : verdictRead w ≡ doneRead (library text))
+        (leaves : after ≡ libraryAfter (library text) before) where
       pub begun-later : (r : Refusal) → w ≡ Refused r → Begun text net before netlist numbers (Later r) after
       unfolding verdictRead progressFrom progressOf leftBehind
       begun-later r q =
-          let e : library text ≡ refused (r .number) (r .line) = done-refused (library text) (r .number) (r .line) (rw q at behind-reads) in
-          record { answers = rw (passes, e); leaves = rw passes behind-leaves }
+          let e : library text ≡ refused (r .number) (r .line) = done-refused (library text) (r .number) (r .line) (rw q at reads) in
+          record { answers = rw (passes, e); leaves = rw passes leaves }
 
       pub begun-unrefused : w ≡ Accepted → Begun text net before netlist numbers Unrefused after
       unfolding verdictRead progressFrom progressOf leftBehind
       begun-unrefused q =
-          done-read (library text) (rw q at behind-reads)
-          (λ cells e. record { answers = rw (passes, e); leaves = rw passes behind-leaves })
+          done-read (library text) (rw q at reads)
+          (λ cells e. record { answers = rw (passes, e); leaves = rw passes leaves })

@@ -2,25 +2,22 @@
 -- Assumes nothing.
 use mathlib.Core.List.{List}
 use mathlib.Core.Path.{_≡_, refl, _∙_}
-use Prim.Native.Nat.{ℕ, _≤_}
-use native.Mathlib.Omega.{arith}
-use lib.ListN.{length, length-append, drop}
+use Prim.Native.Nat.{ℕ}
+use lib.ListN.{drop}
 use Rattle.sizes.specs.Sizes as Size
-use Rattle.reading.specs.Refusal.{read}
 use Rattle.reading.specs.Verdict.{verdictRead}
 use Rattle.reading.specs.declared.Refusal.{Refusal}
 use Rattle.reading.specs.declared.Verdict.{Verdict}
 use Rattle.reading.specs.declared.Verdict.the-variants.{Accepted, Refused}
 use Rattle.reading.proofs.Laws.{done-read, done-refused}
 use Rattle.library_table.specs.Cells.{Cell}
-use Rattle.library_table.specs.Layout.{libraryWords, LibraryHolds}
+use Rattle.library_table.specs.Layout.{CellsTold}
 use Rattle.library_table.proofs.Laws.{sound-fits}
-use Rattle.library_table.proofs.Places.{length-libraryWords}
+use Rattle.library_table.proofs.Names.{holds-told}
 use Rattle.netlist_table.specs.declared.Rules.{Rules}
 use Rattle.netlist_table.specs.Layout.{netlistAfter}
 use Rattle.netlist_table.specs.Netlist.{netlist}
-use Rattle.netlist_text.specs.Reader.{netlistEntry, ReadsAs, ReadsFrom, ReadsNetlist}
-use Rattle.netlist_text.proofs.EntryChecks.{passes}
+use Rattle.netlist_text.specs.Reader.{ReadsAs}
 use Rattle.analysis_texts.specs.declared.Progress.{Progress}
 use Rattle.analysis_texts.specs.declared.Progress.the-variants.{Unrefused, Later}
 use Rattle.demands.specs.Outcome.{givenBy}
@@ -32,21 +29,15 @@ module _ (rules : Rules) (text lib before : List ℕ) (begun : Progress) where
   text-stays h = record { stays = λ _. (refl, refl); reads = λ o. absurd (h o) }
 
   module _ (o : begun ≡ Unrefused) (v : Verdict) (after : List ℕ)
-      (ensures : ReadsNetlist rules text lib before v after) where
-    -- Behind the reader's entry.
-    lines-read : netlistEntry (length text) (length lib) (length before) ≡ read tt
-        → (cells : List Cell) → LibraryHolds lib cells → ReadsAs (netlist rules cells text) before v after
-    unfolding ReadsNetlist ReadsFrom
-    lines-read passed = (rw passed at ensures) .holds
-
+      (ensures : (cells : List Cell) → CellsTold lib cells → ReadsAs (netlist rules cells text) before v after) where
     pub text-refused : (r : Refusal) → v ≡ Refused r → TextRead rules text lib before begun after (Later r)
     unfolding verdictRead progressOf
     text-refused r q =
         record {
           stays = λ h. absurd (h o);
           reads =
-              λ _ passed cells stands.
-              let e = lines-read passed cells stands in
+              λ _ cells stands.
+              let e = ensures cells (holds-told lib cells stands) in
               let n = done-refused (netlist rules cells text) (r .number) (r .line) (rw q at (e .answers)) in
               (rw n, e .leaves);
         }
@@ -57,27 +48,20 @@ module _ (rules : Rules) (text lib before : List ℕ) (begun : Progress) where
         record {
           stays = λ h. absurd (h o);
           reads =
-              λ _ passed cells stands.
-              let e = lines-read passed cells stands in
+              λ _ cells stands.
+              let e = ensures cells (holds-told lib cells stands) in
               (done-read (netlist rules cells text) (rw q at (e .answers)) (λ ss n. rw n), e .leaves);
         }
 
--- It is the netlist of the two texts that is read. The entry of the call has seen to the length of the text and of its table,
--- and a library table that holds cells has its published size.
+-- It is the netlist of the two texts that is read.
 pub netlist-read : (rules : Rules) (lib net library netlist library′ : List ℕ) (begun : Progress) (netlist′ : List ℕ) (said : Progress)
-    → (begun ≡ Unrefused → (length net ≤ Size.textBytes) × (Size.netlist ≤ length netlist))
     → TextRead rules net library′ netlist begun netlist′ said → NetlistRead (givenBy rules lib net) library netlist library′ begun netlist′ said
 unfolding givenBy netlistAfter
-netlist-read rules lib net library netlist library′ begun netlist′ said fitting t =
+netlist-read rules lib net library netlist library′ begun netlist′ said t =
     record {
       stays = t .stays;
       reads =
           λ o cells sound stands.
-          let past = drop Size.library library in
-          let long : Size.library ≤ length library′ =
-          rw stands (omega (arith, length-append (libraryWords cells) past, length-libraryWords cells))
-          in
-          let passed = passes (length net) (length library′) (length netlist) (fitting o .0) long (fitting o .1) in
-          let e = t .reads o passed cells (record { past = past; words = stands; fits = sound-fits cells sound }) in
+          let e = t .reads o cells (record { past = drop Size.library library; words = stands; fits = sound-fits cells sound }) in
           (e .0, λ ss q. e .1 ∙ rw q);
     }

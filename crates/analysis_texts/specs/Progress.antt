@@ -2,7 +2,7 @@
 -- Assumes nothing.
 use mathlib.Core.List.{List, _++_}
 use mathlib.Core.Path.{_≡_}
-use Prim.Native.Nat.{ℕ}
+use Prim.Native.Nat.{ℕ, _≤_}
 use lib.ListN.{length, drop}
 use Rattle.sizes.specs.Sizes as Size
 use Rattle.reading.specs.Refusal.{Read, refused, read}
@@ -13,7 +13,6 @@ use Rattle.library_text.specs.Entry.{leftBehind}
 use Rattle.netlist_table.specs.declared.Rules.{Rules}
 use Rattle.netlist_table.specs.Layout.{netlistWords, netlistAfter}
 use Rattle.netlist_table.specs.Netlist.{netlist}
-use Rattle.netlist_text.specs.Reader.{netlistEntry}
 use Rattle.demands.specs.Outcome.{Given, Pair, entryBy, readPair}
 use Rattle.analysis_texts.specs.declared.Progress.{Progress}
 use Rattle.analysis_texts.specs.declared.Progress.the-variants.{Unrefused, AtEntry, Later}
@@ -37,12 +36,14 @@ pub record Begun (text : List ℕ) (net : ℕ) (before : List ℕ) (netlist numb
 
 -- ---- the netlist text
 
--- Nothing happens once a refusal stands; else the text is read against the cells that the library table holds. Behind the entry
--- of the call the reader's own entry refuses nothing.
+-- What the entry has checked of the netlist text and its table, where nothing is refused so far.
+unfoldable pub NetlistFits : Progress → List ℕ → List ℕ → Type 0
+NetlistFits begun text table = begun ≡ Unrefused → (length text ≤ Size.textBytes) × (Size.netlist ≤ length table)
+
+-- Nothing happens once a refusal stands; else the text is read against the cells that the library table holds.
 pub record TextRead (rules : Rules) (text lib before : List ℕ) (begun : Progress) (after : List ℕ) (said : Progress) : Type 0 where
   pub stays : (begun ≡ Unrefused → ⊥) → (said ≡ begun) × (after ≡ before)
-  pub reads : begun ≡ Unrefused → netlistEntry (length text) (length lib) (length before) ≡ read tt
-      → (cells : List Cell) → LibraryHolds lib cells
+  pub reads : begun ≡ Unrefused → (cells : List Cell) → LibraryHolds lib cells
       → (said ≡ progressOf (netlist rules cells text)) × (after ≡ netlistAfter (netlist rules cells text) before)
 
 -- ---- both

@@ -4,9 +4,9 @@
 //
 // For the crates above: `Progress`; `read_texts`, over two texts; `begin`, the entry and the library text alone, behind
 // which a caller reads its netlist itself; `clear_all`, which a later refusal asks for.
-use library_text::read_library_into;
+use library_text::fill;
 use netlist_table::Rules;
-use netlist_text::read_netlist_into;
+use netlist_text::read_all;
 use reading::Refusal;
 use reading::TABLE_SHORT;
 use reading::TEXT_LONG;
@@ -18,7 +18,7 @@ ghost use Rattle.table.specs.Blocks.{cleared};
 ghost use Rattle.reading.specs.Verdict.{verdictRead};
 ghost use Rattle.demands.specs.Answer.{lentOf};
 ghost use Rattle.demands.specs.Outcome.{entryBy, givenBy, zeroed};
-ghost use Rattle.analysis_texts.specs.Progress.{Begun, TextRead, Reached};
+ghost use Rattle.analysis_texts.specs.Progress.{Begun, NetlistFits, TextRead, Reached};
 
 // How far a call has come: nothing is refused so far; refused at entry, with all that was lent as it
 // was; or refused later.
@@ -67,7 +67,7 @@ pub fn begin(
     match entered {
         Verdict::Refused(r) => Progress::AtEntry(r),
         Verdict::Accepted => {
-            let cells = read_library_into(lib, library, used);
+            let cells = fill(lib, library, used);
             match cells {
                 Verdict::Refused(r) => Progress::Later(r),
                 Verdict::Accepted => Progress::Unrefused,
@@ -86,7 +86,8 @@ fn read_netlist(
     begun: Progress,
     used: usize,
 ) -> Progress
-    requires { ⌜ cleared used (now netlist) ≡ cleared Size.netlist (now netlist) ⌝ }
+    requires { ⌜ NetlistFits begun (now net) (now netlist)
+        × (cleared used (now netlist) ≡ cleared Size.netlist (now netlist)) ⌝ }
     ensures { λ r. ⌜ TextRead rules (now (net .entry)) (now (library .entry)) (now (netlist .entry)) begun
         (now (netlist .exit)) r ⌝ }
 {
@@ -94,7 +95,7 @@ fn read_netlist(
         Progress::AtEntry(_) => begun,
         Progress::Later(_) => begun,
         Progress::Unrefused => {
-            let statements = read_netlist_into(rules, net, library, netlist, used);
+            let statements = read_all(rules, net, library, netlist, used);
             match statements {
                 Verdict::Refused(bad) => Progress::Later(bad),
                 Verdict::Accepted => Progress::Unrefused,

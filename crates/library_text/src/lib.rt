@@ -1,6 +1,7 @@
 // The library text read into the library table.
 //
-// Open to others, for every input: `read_library`. For the crates above: `read_library_into`.
+// Open to others, for every input: `read_library`. For the crates above: `read_library_into`; `fill`, behind an entry that the
+// caller has checked.
 ghost use mathlib.Core.Path.{_≡_};
 ghost use Prim.Native.Nat.{_≤_};
 ghost use lib.ListN.{length};
@@ -19,8 +20,9 @@ use reading::Refusal;
 use reading::Verdict;
 use table::clear;
 
-// Reads a library text into a table of the published size. Where the text is refused, the whole table is 0.
-fn fill(text: &[u8], table: &mut [u32], used: usize) -> Verdict
+// Reads a library text into a table of the published size, which may have other numbers than 0 in its first `used` places, and
+// past that size. Where the text is refused, the whole table is 0.
+pub fn fill(text: &[u8], table: &mut [u32], used: usize) -> Verdict
     requires { ⌜ (length (now text) ≤ Size.textBytes) × (Size.library ≤ length (now table))
         × (cleared used (now table) ≡ cleared Size.library (now table)) ⌝ }
     ensures answered { λ r. ⌜ verdictRead r ≡ doneRead (library (now (text .entry))) ⌝ }

@@ -2,7 +2,7 @@
 // and stores, and behind them refusal 20.
 //
 // Open to others: `read_netlist`, which has no condition on its input: the library table may be any. For the crates above:
-// `read_netlist_into`.
+// `read_netlist_into`; `read_all`, behind an entry that the caller has checked.
 ghost use mathlib.Core.Path.{_≡_};
 ghost use mathlib.Core.Bool.{true, false};
 ghost use mathlib.Core.List.{List};
@@ -279,8 +279,15 @@ fn declare(rules: Rules, table: &mut [u32]) -> Verdict
     Verdict::Accepted
 }
 
-// The lines of a text, and what comes behind them.
-fn read_all(rules: Rules, text: &[u8], library: &[u32], table: &mut [u32], used: usize) -> Verdict
+// The lines of a text, and what comes behind them, into a table that may have other numbers than 0 in its first `used` places,
+// and past its published size.
+pub fn read_all(
+    rules: Rules,
+    text: &[u8],
+    library: &[u32],
+    table: &mut [u32],
+    used: usize,
+) -> Verdict
     requires { ⌜ (length (now text) ≤ Size.textBytes) × (Size.netlist ≤ length (now table))
         × (cleared used (now table) ≡ cleared Size.netlist (now table)) ⌝ }
     ensures { λ r. ⌜ ((cells : List Cell) → CellsTold (now (library .entry)) cells
