@@ -51,7 +51,8 @@ pub fn analyse_into(
     finish(library, netlist, numbers, report, progress)
 }
 
-// As `analyse_into` for a caller whose tables are its own: nobody sees them afterwards, so that a refusal clears the report alone.
+// As `analyse_into` for a caller whose tables are its own: nobody sees them afterwards, so that a refusal clears the report
+// alone.
 pub fn report_into(
     lib: &[u8],
     net: &[u8],

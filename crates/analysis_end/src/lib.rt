@@ -59,8 +59,8 @@ fn conclude(library: &[u32], netlist: &[u32], numbers: &mut [u32], report: &mut 
     }
 }
 
-// The end of a call whose tables are its own: its refusal, or the numbers and the report. After a refusal nobody sees the tables,
-// and the report alone is cleared.
+// The end of a call whose tables are its own: its refusal, or the numbers and the report. After a refusal nobody sees the
+// tables, and the report alone is cleared.
 pub fn tell(
     library: &[u32],
     netlist: &[u32],

@@ -1,5 +1,5 @@
--- `start` lays the numbers of one line more with each turn, over numbers that are all never: those of the lines past the last that is
--- marked stay so. Assumes nothing.
+-- `start` lays the numbers of one line more with each turn, over numbers that are all never: those of the lines past the last
+-- that is marked stay so. Assumes nothing.
 use mathlib.Core.List.{List}
 use mathlib.Core.Path.{_≡_, refl, _∙_}
 use Prim.Native.Nat.{ℕ, _+_, _*_, _-_, _≤_, _<_}
