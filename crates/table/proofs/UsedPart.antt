@@ -75,8 +75,8 @@ module _ (xs : List ℕ) where
         ∙ used-zeros (n - 8) 8 (λ i l. let p : from + (n - 8 + i) ≡ from + (n - 8) + i = omega arith in rw p (each-zero (from + (n - 8)) 8 t i l))
 
     -- Nor is what does not stand in the table.
-    pub used-standing : (n : ℕ) → used xs from n ≡ used xs from (min n (length xs - from))
-    used-standing n = go (decLe n (length xs - from))
+    pub used-within : (n : ℕ) → used xs from n ≡ used xs from (min n (length xs - from))
+    used-within n = go (decLe n (length xs - from))
       where
         go : Dec (n ≤ length xs - from) → used xs from n ≡ used xs from (min n (length xs - from))
         go (yes p) = let e : min n (length xs - from) ≡ n = omega arith in rw e

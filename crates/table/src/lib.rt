@@ -67,7 +67,7 @@ fn zeros(table: &[u32], at: usize) -> bool
 }
 
 // So many of the n numbers from a place on as stand in the table.
-fn standing(table: &[u32], from: usize, n: usize) -> usize
+fn within(table: &[u32], from: usize, n: usize) -> usize
     ensures { λ r. ⌜ r ≡ min n (length (now (table .entry)) - from) ⌝ }
 {
     let len = table.len();
@@ -96,7 +96,7 @@ fn used_by_eights(table: &[u32], from: usize, n: usize) -> usize
 pub fn used(table: &[u32], from: usize, n: usize) -> usize
     ensures { λ r. ⌜ r ≡ used (now (table .entry)) from n ⌝ }
 {
-    let mut end = used_by_eights(table, from, standing(table, from, n));
+    let mut end = used_by_eights(table, from, within(table, from, n));
     while 0 < end {
         if table[from + (end - 1)] != 0 {
             return end;

@@ -5,7 +5,7 @@ use native.Mathlib.Omega.{arith}
 use lib.ListN.{length}
 use borrow.Author.Needs.{needs}
 use Rattle.table.specs.Blocks.{used}
-use Rattle.table.proofs.UsedPart.{used-none, last-zero, last-used, used-standing}
+use Rattle.table.proofs.UsedPart.{used-none, last-zero, last-used, used-within}
 use Rattle.table.proofs.used.Statement.{statement}
 use Rattle.table.proofs.used.Tie as tie
 
@@ -19,8 +19,8 @@ loop-holds : tie.Need-loop-holds Inv-loop μ-loop
 loop-holds c =
     let e = c .used-by-eights .ensures in
     let a = c .before .before .before .args in (
-      omega (arith, c .before .standing .ensures),
-      used-standing (a .table .now) (a .from) (a .n) ∙ ap (used (a .table .now) (a .from)) (sym (c .before .standing .ensures)) ∙ e .1,
+      omega (arith, c .before .within .ensures),
+      used-within (a .table .now) (a .from) (a .n) ∙ ap (used (a .table .now) (a .from)) (sym (c .before .within .ensures)) ∙ e .1,
     )
 
 returns : tie.Need-returns Inv-loop μ-loop
