@@ -40,7 +40,23 @@ extern "C" {
 /* Twice that and the line 'high': number 17 never comes of a buffer of this length or more. */
 #define SCOAP_MOST_REPORTS 127899u
 
-/* Stack that a thread should have left for the call. */
+/*
+ * Stack that a thread should have left for the call. Most that was measured, in bytes, by how many lines the analyser
+ * takes (this one, or one of make large):
+ *   lines                1000     2000     4000     8000
+ *   scoap_report       244072   394280   694568  1295016
+ *   scoap_plan         504648   918760  1746760  3402760
+ *   scoap_cell           5008     5056     5056     5056
+ *   scoap_built_in       6464     6496     6496     6496
+ *   scoap_qualifies    150876   210940   330940   570940
+ *   scoap_stand        241696   391888   692144  1292640
+ *   scoap_ask          193584   295776   500032   908528
+ *   scoap_commit       193504   295712   499968   908464
+ *   scoap_change       325616   473936   770432  1363440
+ *   scoap_best         256944   423024   755024  1419024
+ *   scoap_advise       264576   437952   784448  1477456
+ *   scoap_rank         264576   437920   784416  1477424
+ */
 #define SCOAP_STACK 524288u
 
 /*
