@@ -7,7 +7,7 @@ use second::generate::{
 };
 use second::random::Random;
 use second::MOST_BYTES;
-use second::MOST_LINES;
+use second::{MOST_LINES, REFUSED};
 
 pub fn figures(all: &mut Comparison) {
     all.figure("C1130", C1130, C1130_NET, C1130_REPORT);
@@ -149,7 +149,7 @@ pub fn one_byte(all: &mut Comparison) {
 /// The largest sizes that pass, and the next ones.
 pub fn largest(all: &mut Comparison, rng: &mut Random) {
     for bytes in [MOST_BYTES - 1, MOST_BYTES, MOST_BYTES + 1] {
-        let refused = (bytes > MOST_BYTES).then_some(2_000_000);
+        let refused = |bytes: usize| (bytes > MOST_BYTES).then_some(2 * REFUSED);
         for _ in 0..3 {
             let mut long = library_of(rng, bytes);
             let shape = Shape {
@@ -167,7 +167,7 @@ pub fn largest(all: &mut Comparison, rng: &mut Random) {
                 &long.lib.bytes(),
                 &long.net.bytes(),
                 2 * ROOM,
-                refused,
+                refused(long.lib.bytes().len()),
             );
             let long = netlist_of(rng, bytes);
             all.check(
@@ -175,15 +175,15 @@ pub fn largest(all: &mut Comparison, rng: &mut Random) {
                 &long.lib.bytes(),
                 &long.net.bytes(),
                 2 * ROOM,
-                refused,
+                refused(bytes),
             );
         }
         // Long texts without a line end, and of line ends alone.
         for byte in [b'\n', b',', b'0', b'A', 0] {
             let text = vec![byte; bytes];
-            all.check("long run", &text, b"", ROOM, refused);
-            all.check("long run", b"", &text, ROOM, refused);
-            all.check("long runs", &text, &text, ROOM, refused);
+            all.check("long run", &text, b"", ROOM, refused(bytes));
+            all.check("long run", b"", &text, ROOM, refused(bytes));
+            all.check("long runs", &text, &text, ROOM, refused(bytes));
         }
         // One line of one gate with very many pins, and one row line with very many rows.
         let mut net = b"gate,NAND2,1".to_vec();

@@ -5,8 +5,8 @@ use crate::extent::PAIRS;
 use second::damage::{any_damage, babble, one_line, overlong, scramble};
 use second::generate::{add_ranges, ladder, pair};
 use second::random::Random;
-use second::MOST_LINES;
 use second::{analyse, Answer, Refusal, MOST_BYTES};
+use second::{MOST_LINES, REFUSED};
 
 /// Random ladders, besides those of chosen sizes.
 const LADDERS: usize = 2_400;
@@ -91,7 +91,7 @@ pub fn random(all: &mut Comparison, rng: &mut Random) {
     }
     let mut known = known.map(Refusal::code);
     if lib.len() > MOST_BYTES || net.len() > MOST_BYTES {
-        known = Some(2_000_000);
+        known = Some(2 * REFUSED);
     }
     let mut room = if rng.once_in(3) {
         rng.below(ROOM)
@@ -110,7 +110,7 @@ pub fn random(all: &mut Comparison, rng: &mut Random) {
                 _ => rng.below(3),
             };
             known = Some(if room < length {
-                17_000_000
+                17 * REFUSED
             } else {
                 length as u64
             });
