@@ -42,7 +42,7 @@ extern "C" {
 
 /*
  * Stack that a thread should have left for the call. Most that was measured, in bytes, by how many lines the analyser
- * takes (this one, or one of make large):
+ * takes: of 1000 the published archive, of more a trial build of the same code, not the archive of make large:
  *   lines                1000     2000     4000     8000
  *   scoap_report       244072   394280   694568  1295016
  *   scoap_plan         504648   918760  1746760  3402760
