@@ -1,7 +1,6 @@
 // The library text read into the library table.
 //
-// Open to others, for every input: `read_library`. For the crates above: `read_library_into`; `fill`, behind an entry that the
-// caller has checked.
+// Open to others, for every input: `read_library`. For the crates above: `fill`, behind an entry that the caller has checked.
 ghost use mathlib.Core.Path.{_≡_};
 ghost use Prim.Native.Nat.{_≤_};
 ghost use lib.ListN.{length};
@@ -40,9 +39,8 @@ pub fn fill(text: &[u8], table: &mut [u32], used: usize) -> Verdict
     }
 }
 
-// As `read_library`, into a table that may have other numbers than 0 in its first `used` places, and past its published size.
-pub fn read_library_into(text: &[u8], table: &mut [u32], used: usize) -> Verdict
-    requires { ⌜ cleared used (now table) ≡ cleared Size.library (now table) ⌝ }
+// Reads a library text into a table. Refusals 1 and 2, at line 0, leave the table as it was; any other leaves it all 0.
+pub fn read_library(text: &[u8], table: &mut [u32]) -> Verdict
     ensures answered { λ r.
         ⌜ verdictRead r ≡ doneRead (readLibrary (now (text .entry)) (length (now (table .entry)))) ⌝ }
     ensures leaves { λ _. ⌜ now (table .exit) ≡ libraryLeft (now (text .entry)) (now (table .entry)) ⌝ }
@@ -59,14 +57,5 @@ pub fn read_library_into(text: &[u8], table: &mut [u32], used: usize) -> Verdict
             line: 0,
         });
     }
-    fill(text, table, used)
-}
-
-// Reads a library text into a table. Refusals 1 and 2, at line 0, leave the table as it was; any other leaves it all 0.
-pub fn read_library(text: &[u8], table: &mut [u32]) -> Verdict
-    ensures answered { λ r.
-        ⌜ verdictRead r ≡ doneRead (readLibrary (now (text .entry)) (length (now (table .entry)))) ⌝ }
-    ensures leaves { λ _. ⌜ now (table .exit) ≡ libraryLeft (now (text .entry)) (now (table .entry)) ⌝ }
-{
-    read_library_into(text, table, sizes::LIBRARY)
+    fill(text, table, sizes::LIBRARY)
 }

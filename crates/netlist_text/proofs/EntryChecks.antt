@@ -3,13 +3,12 @@
 use mathlib.Core.List.{List, []}
 use mathlib.Core.Path.{_≡_, refl, sym, _∙_}
 use Prim.Native.Nat.{ℕ, _≤_}
-use borrow.Author.Tests.{le-ltb, ltb-false}
+use borrow.Author.Tests.{ltb-false}
 use lib.Dec.{ltb}
 use lib.ListN.{length}
 use Rattle.sizes.specs.Sizes as Size
-use Rattle.reading.specs.Choice.{pick}
 use Rattle.reading.specs.Numbers as No
-use Rattle.reading.specs.Refusal.{read, weigh}
+use Rattle.reading.specs.Refusal.{read}
 use Rattle.reading.specs.Verdict.{verdictRead}
 use Rattle.reading.specs.declared.Refusal.{Refusal}
 use Rattle.reading.specs.declared.Verdict.{Verdict}
@@ -29,11 +28,6 @@ module _ (text library table : ℕ) where
       let w = weigh-one No.tableShort 0 _ _ tt e in
       let v = weigh-one No.textLong 0 _ [] tt (w .1) in
       (ltb-false Size.textBytes text (v .0), ltb-false table Size.netlist (or-right (ltb library Size.library) _ (w .0)))
-
-  -- A text that is not too long, and tables of the published sizes, pass it.
-  pub passes : text ≤ Size.textBytes → Size.library ≤ library → Size.netlist ≤ table → netlistEntry text library table ≡ read tt
-  unfolding netlistEntry weigh pick
-  passes t l n = rw (le-ltb library Size.library l, le-ltb table Size.netlist n, le-ltb Size.textBytes text t)
 
 -- ---- what the reader answers and leaves
 

@@ -2,7 +2,7 @@
 // and stores, and behind them refusal 20.
 //
 // Open to others: `read_netlist`, which has no condition on its input: the library table may be any. For the crates above:
-// `read_netlist_into`; `read_all`, behind an entry that the caller has checked.
+// `read_all`, behind an entry that the caller has checked.
 ghost use mathlib.Core.Path.{_≡_};
 ghost use mathlib.Core.Bool.{true, false};
 ghost use mathlib.Core.List.{List};
@@ -321,25 +321,6 @@ fn entry(text: usize, library: usize, table: usize) -> Verdict
     Verdict::Accepted
 }
 
-// As `read_netlist`, into a table that may have other numbers than 0 in its first `used` places, and past its published size.
-pub fn read_netlist_into(
-    rules: Rules,
-    text: &[u8],
-    library: &[u32],
-    table: &mut [u32],
-    used: usize,
-) -> Verdict
-    requires { ⌜ cleared used (now table) ≡ cleared Size.netlist (now table) ⌝ }
-    ensures { λ r. ⌜ ReadsNetlist rules (now (text .entry)) (now (library .entry)) (now (table .entry)) r
-        (now (table .exit)) ⌝ }
-{
-    let entered = entry(text.len(), library.len(), table.len());
-    match entered {
-        Verdict::Refused(_) => entered,
-        Verdict::Accepted => read_all(rules, text, told(library), table, used),
-    }
-}
-
 // Reads a netlist text against the cells of a library table, into a table. A table that no library is read into is read as it
 // stands, and one that counts more cells or pins than a library has, as none. A refusal at entry leaves the netlist table as it
 // was, a later one leaves it zero.
@@ -347,5 +328,9 @@ pub fn read_netlist(rules: Rules, text: &[u8], library: &[u32], table: &mut [u32
     ensures { λ r. ⌜ ReadsNetlist rules (now (text .entry)) (now (library .entry)) (now (table .entry)) r
         (now (table .exit)) ⌝ }
 {
-    read_netlist_into(rules, text, library, table, sizes::NETLIST)
+    let entered = entry(text.len(), library.len(), table.len());
+    match entered {
+        Verdict::Refused(_) => entered,
+        Verdict::Accepted => read_all(rules, text, told(library), table, sizes::NETLIST),
+    }
 }

@@ -4,11 +4,10 @@ use mathlib.Core.Bool.{Bool, true, false, not, _||_, or-true}
 use mathlib.Core.List.{List, []}
 use mathlib.Core.Path.{_≡_, refl, sym, ap, subst, _∙_}
 use Prim.Native.Nat.{ℕ, _≤_, _<_}
-use native.Mathlib.Nat.{le-of-eq}
 use native.Mathlib.Omega.{arith}
 use borrow.Author.Tests.{not-false, ltb-false, le-ltb, lt-ltb}
 use lib.Dec.{ltb}
-use lib.ListN.{length, getD, drop, replicate, length-append, length-drop, length-replicate}
+use lib.ListN.{length, getD, drop, length-append, length-drop}
 use Rattle.sizes.specs.Sizes as Size
 use Rattle.reading.specs.Choice.{pick}
 use Rattle.reading.specs.Numbers as No
@@ -20,22 +19,20 @@ use Rattle.reading.specs.declared.Verdict.the-variants.{Accepted, Refused}
 use Rattle.reading.proofs.Laws.{or-left, or-right, weigh-one, refused-read, bind-read, then-read, done-read, done-refused}
 use Rattle.library_table.specs.Cells.{Cell}
 use Rattle.library_table.specs.Library.{library}
-use Rattle.library_table.specs.Layout.{libraryWords, libraryAfter, LibraryHolds}
+use Rattle.library_table.specs.Layout.{libraryAfter, CellsTold}
 use Rattle.library_table.proofs.Laws.{library-sound, sound-fits}
-use Rattle.library_table.proofs.Places.{length-libraryWords}
-use Rattle.library_text.specs.Entry.{libraryEntry, readLibrary, leftBehind, libraryLeft}
+use Rattle.library_table.proofs.Names.{holds-told}
 use Rattle.netlist_table.specs.declared.Rules.the-variants.{New}
 use Rattle.netlist_table.specs.Netlist.{Statement, netlist}
 use Rattle.netlist_table.specs.Layout.{netlistWords, netlistAfter}
 use Rattle.netlist_table.proofs.Laws.{netlist-sound}
 use Rattle.netlist_table.proofs.Places.{length-netlistWords}
 use Rattle.netlist_table.proofs.Reread.{text-rereadable}
-use Rattle.netlist_text.specs.Reader.{ReadsAs, ReadsFrom, ReadsNetlist}
-use Rattle.netlist_text.proofs.EntryChecks.{passes}
+use Rattle.netlist_text.specs.Reader.{ReadsAs}
 use Rattle.calculation.specs.Growth.{grown}
 use Rattle.calculation.specs.Pads.{padded, State, statementsOf, placeable}
 use Rattle.calculation.specs.Stored.{Holds, Ready}
-use Rattle.library_growth.specs.Held.{HoldsCells, SomeCells}
+use Rattle.library_growth.specs.Held.{HoldsCells}
 use Rattle.demands.specs.Outcome.{Given, Pair, readPair, givenBy, givenTexts, textLong}
 use Rattle.demands.proofs.Acceptance.{read-as}
 use Rattle.standing_table.specs.StandingTable.{padsHeld, stateHeld}
@@ -51,12 +48,6 @@ use Rattle.standing_change.proofs.NewNetlist.{stop, changes-refused, on
 use Rattle.standing_change.proofs.Runs.{count-few}
 
 -- ---- the netlist again
-
-cells-hold : (table : List ℕ) (cells : List Cell) → HoldsCells table cells → LibraryHolds table cells
-cells-hold table cells h = record { past = h .past; words = h .stand; fits = sound-fits cells (h .sound) }
-
-library-long : (table : List ℕ) (cells : List Cell) → HoldsCells table cells → Size.library ≤ length table
-library-long table cells h = omega (arith, ap length (h .stand), length-append (libraryWords cells) (h .past), length-libraryWords cells)
 
 -- The old cells in their table.
 pub some-cells : (net library netlist table : List ℕ) (s : State) → StateHeld net library netlist table s → HoldsCells library (s .cells)
@@ -83,21 +74,19 @@ module _ (net library netlist table : List ℕ) (s : State) (h : StateHeld net l
       again-read net library netlist table s h more cells k netlist′ r
       (λ ss e holds. (record { cells = cells; statements = padded ss (padsHeld table); holds = holds; room = room long }, few-counted long))
 
-pub again-fits : (net library netlist table : List ℕ) → SomeState net library netlist table → (more : List ℕ) → SomeCells more → AgainFits net more netlist table
-again-fits net library netlist table s more k =
+pub again-fits : (net library netlist table : List ℕ) → SomeState net library netlist table → AgainFits net netlist table
+again-fits net library netlist table s =
     let h = s .is .holds in
     record {
       brief = s .brief;
-      cells = k;
       wide = omega (arith, ap length (h .statementsStand), length-append (netlistWords (statementsOf (s .state))) (h .past), length-netlistWords (statementsOf (s .state)));
       long = s .long;
     }
 
-module _ (net library before table : List ℕ) (fits : AgainFits net library before table) (v : Verdict) (after : List ℕ) (ensures : ReadsNetlist New net library before v after) where
+module _ (net library before table : List ℕ) (v : Verdict) (after : List ℕ)
+    (ensures : (cells : List Cell) → CellsTold library cells → ReadsAs (netlist New cells net) before v after) where
   lines-read : (cells : List Cell) → HoldsCells library cells → ReadsAs (netlist New cells net) before v after
-  unfolding ReadsNetlist ReadsFrom
-  lines-read cells h =
-      (rw (passes (length net) (length library) (length before) (fits .brief) (library-long library cells h) (fits .wide)) at ensures) .holds cells (cells-hold library cells h)
+  lines-read cells h = ensures cells (holds-told library cells (record { past = h .past; words = h .stand; fits = sound-fits cells (h .sound) }))
 
   pub again-stopped : (r : Refusal) → v ≡ Refused r → (cells : List Cell) → HoldsCells library cells → ReadAgain net library cells table after (verdictRead v)
   unfolding verdictRead
@@ -124,28 +113,17 @@ module _ (net library before table : List ℕ) (fits : AgainFits net library bef
 
 -- ---- the new library
 
-module _ (new net : List ℕ) (brief : length new ≤ Size.textBytes) (zeros more′ : List ℕ) (none : zeros ≡ replicate Size.library 0) (v : Verdict)
-    (answered : verdictRead v ≡ doneRead (readLibrary new (length zeros))) (leaves : more′ ≡ libraryLeft new zeros) where
-  enters : libraryEntry (length new) (length zeros) ≡ read tt
-  unfolding libraryEntry weigh pick
-  enters =
-      rw (
-        le-ltb (length zeros) Size.library (le-of-eq (sym (ap length none ∙ length-replicate {A = ℕ} Size.library 0))),
-        le-ltb Size.textBytes (length new) brief,
-      )
-
-  told-so : verdictRead v ≡ doneRead (library new)
-  told-so = answered ∙ unfold readLibrary _>>_ in rw enters
-
+module _ (new net zeros more′ : List ℕ) (v : Verdict) (answered : verdictRead v ≡ doneRead (library new))
+    (leaves : more′ ≡ libraryAfter (library new) zeros) where
   pub new-refused : (s : State) (table : List ℕ) (r : Refusal) → v ≡ Refused r → Changes (changedBy (givenTexts new net) s) table table (refused (r .number) (r .line))
   new-refused s table r e =
-      let n = done-refused (library new) (r .number) (r .line) (unfold verdictRead in rw e at told-so) in
+      let n = done-refused (library new) (r .number) (r .line) (unfold verdictRead in rw e at answered) in
       changes-refused _ table (r .number) (r .line) (unfold changedBy givenBy _>>=_ in rw n)
 
   pub new-read : {B : Type 0} → v ≡ Accepted → ((cells : List Cell) → library new ≡ read cells → HoldsCells more′ cells → B) → B
   new-read e on =
-      done-read (library new) (unfold verdictRead in rw e at told-so)
-      (λ cells n. on cells n (record { past = drop Size.library zeros; stand = leaves ∙ unfold libraryLeft leftBehind libraryAfter in rw (enters, n); sound = library-sound new cells n }))
+      done-read (library new) (unfold verdictRead in rw e at answered)
+      (λ cells n. on cells n (record { past = drop Size.library zeros; stand = leaves ∙ unfold libraryAfter in rw n; sound = library-sound new cells n }))
 
   pub new-changed : (s : State) (table after : List ℕ) (said : Read Bool) (cells : List Cell) → library new ≡ read cells
       → Changes (changed s cells (readUnder cells net)) table after said → Changes (changedBy (givenTexts new net) s) table after said

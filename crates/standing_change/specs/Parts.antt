@@ -13,7 +13,6 @@ use Rattle.calculation.specs.Calculation.{Analysed}
 use Rattle.calculation.specs.Runs.{lesserRuns}
 use Rattle.calculation.specs.Pads.{State, statementsOf, placeable}
 use Rattle.calculation.specs.Stored.{Holds}
-use Rattle.library_growth.specs.Held.{SomeCells}
 use Rattle.standing_table.specs.StandingTable.{standingWords, padsHeld, analysisHeld}
 use Rattle.standing_texts.specs.Parts.{PadsJudged}
 use Rattle.standing_change.specs.Calls.{Change, readUnder, answerOf, tableAfter}
@@ -30,9 +29,8 @@ lesserHeld cells ss table = lesserRuns cells (gatesOf ss) (analysisHeld table .n
 
 -- ---- the netlist under a new library
 
-pub record AgainFits (net library netlist table : List ℕ) : Type 0 where
+pub record AgainFits (net netlist table : List ℕ) : Type 0 where
   pub brief : length net ≤ Size.textBytes
-  pub cells : SomeCells library
   pub wide : Size.netlist ≤ length netlist
   pub long : Size.standing ≤ length table
 

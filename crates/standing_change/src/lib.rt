@@ -4,9 +4,9 @@
 // leaves, specs/Promise.antt what that means of a standing analysis.
 use calculation::Counts;
 use library_growth::grown_at;
-use library_text::read_library_into;
+use library_text::fill;
 use netlist_table::Rules;
-use netlist_text::read_netlist_into;
+use netlist_text::read_all;
 use reading::Refusal;
 use reading::TABLE_SHORT;
 use reading::TEXT_LONG;
@@ -107,12 +107,12 @@ fn begin_again(library: &[u32], netlist: &[u32], standing: &mut [u32])
 
 // Reads the netlist again, and marks the pads that stand.
 fn read_again(net: &[u8], library: &[u32], netlist: &mut [u32], standing: &[u32]) -> Verdict
-    requires { ⌜ AgainFits (now net) (now library) (now netlist) (now standing) ⌝ }
+    requires { ⌜ AgainFits (now net) (now netlist) (now standing) ⌝ }
     ensures { λ r. ⌜ ((cells : List Cell) → HoldsCells (now (library .entry)) cells
         → ReadAgain (now (net .entry)) (now (library .entry)) cells (now (standing .entry)) (now (netlist .exit))
         (verdictRead r)) ⌝ }
 {
-    let read = read_netlist_into(Rules::New, net, library, netlist, sizes::NETLIST);
+    let read = read_all(Rules::New, net, library, netlist, sizes::NETLIST);
     match read {
         Verdict::Refused(_) => read,
         Verdict::Accepted => mark_pads(library, netlist, standing),
@@ -165,7 +165,7 @@ fn change_held(
         (now (standing .exit)) (changedRead r)) ⌝ }
 {
     let mut more = [0u32; sizes::LIBRARY];
-    let cells = read_library_into(new_lib, &mut more, 0);
+    let cells = fill(new_lib, &mut more, 0);
     match cells {
         Verdict::Refused(r) => Changed::Refused(r),
         Verdict::Accepted => change_to(net, library, &more, netlist, standing),

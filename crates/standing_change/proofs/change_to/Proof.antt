@@ -77,7 +77,7 @@ returns c x cs h k =
 read-again-requires : tie.Need-read-again-requires
 read-again-requires c κs =
     let s = begins (differs c) in
-    again-fits _ _ _ _ (s .pre .0) _ (s .pre .1)
+    again-fits _ _ _ _ (s .pre .0)
 
 -- The netlist was read again.
 again : (c : tie.After-enum-told) → let r = reads (c .before .before) in

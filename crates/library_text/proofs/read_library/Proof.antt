@@ -1,12 +1,12 @@
--- `read_library_into` meets its contract: the entry by its two tests, then `fill`. Assumes nothing.
+-- `read_library` meets its contract: the entry by its two tests, then `fill`. Assumes nothing.
 use mathlib.Core.Path.{refl}
 use Rattle.reading.specs.Refusal.{_>>_}
 use Rattle.reading.specs.Verdict.{verdictRead, doneRead}
 use Rattle.library_text.specs.Entry.{readLibrary, leftBehind, libraryLeft}
 use Rattle.library_text.proofs.Laws.{entry-short, entry-long, entry-passed}
 use borrow.Author.Needs.{needs}
-use Rattle.library_text.proofs.read_library_into.Statement.{statement}
-use Rattle.library_text.proofs.read_library_into.Tie as tie
+use Rattle.library_text.proofs.read_library.Statement.{statement}
+use Rattle.library_text.proofs.read_library.Tie as tie
 
 returns : tie.Need-returns
 unfolding verdictRead doneRead readLibrary libraryLeft leftBehind _>>_
@@ -23,5 +23,5 @@ returns-3 c =
     let e = f .before .before in
     rw (entry-passed _ _ (e .before .if1 .left) (e .if2 .left)) (f .fill .ensures)
 
-pub read-library-into-spec : {M : Type 1} → statement M
-read-library-into-spec = tie.close (tie.spec returns returns-2 (λ c κs. search needs) (λ c. search needs) returns-3)
+pub read-library-spec : {M : Type 1} → statement M
+read-library-spec = tie.close (tie.spec returns returns-2 (λ c κs. search needs) (λ c. search needs) returns-3)

@@ -1,9 +1,10 @@
--- `read_netlist_into` reads the lines behind the entry. Assumes nothing.
+-- `read_netlist` reads the lines behind the entry. Assumes nothing.
+use mathlib.Core.Path.{refl}
 use denote.Ref.{now}
 use Rattle.netlist_text.proofs.EntryChecks.{entered, shut, unshut, behind}
 use borrow.Author.Needs.{needs}
-use Rattle.netlist_text.proofs.read_netlist_into.Statement.{statement}
-use Rattle.netlist_text.proofs.read_netlist_into.Tie as tie
+use Rattle.netlist_text.proofs.read_netlist.Statement.{statement}
+use Rattle.netlist_text.proofs.read_netlist.Tie as tie
 
 -- ---- the places of the code that the answers speak of
 
@@ -18,7 +19,7 @@ read-all-requires c κs =
     let e = accepted c in
     let a = begins e .args in
     let fits = entered _ _ _ (unshut (a .rules) (now (a .text)) (now (a .library)) (now (a .table)) (e .entry .result) (e .entry .ensures) (search needs)) in
-    (fits .0, fits .1, begins e .pre)
+    (fits .0, fits .1, refl)
 
 returns : tie.Need-returns
 returns c =
@@ -34,8 +35,8 @@ returns-2 c =
     behind (a .rules) (now (a .text)) (now (a .library)) (now (a .table)) (e .entry .result) (e .entry .ensures) (search needs)
     (r .read-all .result) _ _ (r .before .before .told .ensures) (r .read-all .ensures)
 
-pub read-netlist-into-spec : {M : Type 1} → statement M
-read-netlist-into-spec =
+pub read-netlist-spec : {M : Type 1} → statement M
+read-netlist-spec =
     tie.close
     (tie.spec
     (λ c κs. search needs)
