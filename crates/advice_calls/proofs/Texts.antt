@@ -14,22 +14,16 @@ use Rattle.reading.specs.Refusal.{refused, read, _>>_, weigh}
 use Rattle.reading.specs.Verdict.{doneRead}
 use Rattle.reading.specs.declared.Refusal.{Refusal}
 use Rattle.reading.proofs.Laws.{refused-read}
-use Rattle.table.specs.Blocks.{cleared}
 use Rattle.calculation.specs.Stored.{Holds}
 use Rattle.demands.specs.Outcome.{Given, Pair, givenTexts, givenBy, entryBy, textLong}
 use Rattle.demands.proofs.Given.{texts-checked}
 use Rattle.analysis_texts.specs.declared.Progress.{Progress}
 use Rattle.analysis_texts.specs.declared.Progress.the-variants.{Unrefused, AtEntry, Later}
 use Rattle.analysis_texts.specs.Progress.{Reached}
-use Rattle.analysis_texts.proofs.Own.{zeros-cleared}
+use Rattle.analysis_texts.specs.Tables.{Zero}
 use Rattle.analysis_texts.proofs.Reached.{stands-hold}
 use Rattle.advice_calls.specs.Calls.{entered, comes, leftLater, leftFrom}
-use Rattle.advice_calls.specs.Parts.{Zero, TextsRead}
-
--- What `read_texts` asks of tables that are all 0.
-pub zero-cleared : {library netlist : List ℕ} → Zero library netlist
-    → (cleared 0 library ≡ cleared Size.library library) × (cleared 0 netlist ≡ cleared Size.netlist netlist)
-zero-cleared z = (rw (z .cells) (zeros-cleared Size.library), rw (z .statements) (zeros-cleared Size.netlist))
+use Rattle.advice_calls.specs.Parts.{TextsRead}
 
 module _ (size : ℕ) (lib net before : List ℕ) where
   abbrev g : Given

@@ -5,7 +5,7 @@ use mathlib.Core.List.{List, _++_}
 use mathlib.Core.Path.{_≡_}
 use Prim.Native.Nat.{ℕ, suc, _*_, _-_, _≤_, max}
 use lib.Dec.{leb, eqb}
-use lib.ListN.{length, getD, drop, replicate}
+use lib.ListN.{length, getD, drop}
 use lib.Seq.{sets}
 use Rattle.sizes.specs.Sizes as Size
 use Rattle.sizes.specs.Places.{outputPlace, observingPlace}
@@ -117,11 +117,6 @@ pub record AllRanked (cells : List Cell) (ss : List Statement) (forbidden table 
   pub lays : after ≡ ranks cells ss forbidden ++ drop Size.ranks table
 
 -- ---- what is read
-
--- Tables of its own, of which no place is used yet.
-pub record Zero (library netlist : List ℕ) : Type 0 where
-  pub cells : library ≡ replicate Size.library 0
-  pub statements : netlist ≡ replicate Size.netlist 0
 
 -- Both texts, with an answer of which so many entries are asked: nothing of it is written yet.
 pub record TextsRead (size : ℕ) (g : Given) (before library′ netlist′ after : List ℕ) (said : Read (Unit {0})) : Type 0 where

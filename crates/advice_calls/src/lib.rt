@@ -10,6 +10,7 @@
 // and `Ranked`. They have tables of their own, and no condition on their input; specs/Calls.antt says what they answer
 // and leave, specs/Promise.antt what that means. The published sizes of the answers are 1 and `sizes::RANKS`.
 use analysis_texts::Progress;
+use analysis_texts::Tables;
 use analysis_texts::read_texts;
 use calculation::Advice;
 use cost::MOST;
@@ -47,9 +48,10 @@ ghost use Rattle.calculation.specs.Advice.{leaves, before, advice, rankWords};
 ghost use Rattle.calculation.specs.Stored.{Holds};
 ghost use Rattle.demands.specs.Outcome.{givenTexts};
 ghost use Rattle.advice_calls.specs.Calls.{adviceInto, advisedRead, rankedRead};
+ghost use Rattle.analysis_texts.specs.Tables.{Zero};
 ghost use Rattle.advice_calls.specs.Parts.{Barred, Bars, mayPad, costAt, leftOf, leftWith};
 ghost use Rattle.advice_calls.specs.Parts.{Holding, Stands, TryLineFits, TrialsFit};
-ghost use Rattle.advice_calls.specs.Parts.{Considered, LineRanked, AllRanked, Zero, TextsRead};
+ghost use Rattle.advice_calls.specs.Parts.{Considered, LineRanked, AllRanked, TextsRead};
 ghost use Rattle.advice_calls.specs.Promise.{AdvicePromised, RankPromised};
 
 // What `advise` answers: the advice, or a refusal. `advisedRead` gives its cases.
@@ -413,7 +415,15 @@ fn read_into(
             line: 0,
         });
     }
-    let progress = read_texts(Rules::New, lib, net, library, netlist, sizes::NUMBERS, 0, 0);
+    let progress = read_texts(
+        Rules::New,
+        lib,
+        net,
+        library,
+        netlist,
+        sizes::NUMBERS,
+        Tables::Own,
+    );
     match progress {
         Progress::AtEntry(r) => Verdict::Refused(r),
         Progress::Later(r) => {

@@ -4,23 +4,22 @@
 // It has no condition on its input. What it promises is in crate `demands`: specs/Outcome.antt has its
 // answer and what it leaves in lent memory, specs/Demands.antt the three demands. The published sizes
 // of the tables are `sizes::LIBRARY`, `sizes::NETLIST` and `sizes::NUMBERS`. For the crates above:
-// `analyse_into`, which does not clear a table that is zero, and `report_into`, which speaks of the report alone
+// `analyse_into`, which does not clear tables of the caller's own first, and `report_into`, which speaks of the report alone
 // (specs/Own.antt).
 use analysis_end::finish;
 use analysis_end::tell;
+use analysis_texts::Tables;
 use analysis_texts::read_texts;
 use demands::Answer;
 use netlist_table::Rules;
-ghost use mathlib.Core.Path.{_≡_};
 ghost use Rattle.sizes.specs.Sizes as Size;
-ghost use Rattle.table.specs.Blocks.{cleared};
 ghost use Rattle.demands.specs.Answer.{answerRead, lentOf};
 ghost use Rattle.demands.specs.Demands.{Promised};
 ghost use Rattle.demands.specs.Outcome.{givenTexts};
+ghost use Rattle.analysis_texts.specs.Tables.{ZeroIfOwn, Zero};
 ghost use Rattle.analysis_call.specs.Own.{ReportPromised};
 
-// As `analyse`, where the library table may have other numbers than 0 in its first `library_used` places, the netlist
-// table in its first `netlist_used`, and each past its published size.
+// As `analyse`, where the library and the netlist table may be the caller's own.
 pub fn analyse_into(
     lib: &[u8],
     net: &[u8],
@@ -28,11 +27,9 @@ pub fn analyse_into(
     netlist: &mut [u32],
     numbers: &mut [u32],
     report: &mut [u8],
-    library_used: usize,
-    netlist_used: usize,
+    tables: Tables,
 ) -> Answer
-    requires { ⌜ (cleared «library_used» (now library) ≡ cleared Size.library (now library))
-        × (cleared «netlist_used» (now netlist) ≡ cleared Size.netlist (now netlist)) ⌝ }
+    requires { ⌜ ZeroIfOwn tables Size.library (now library) × ZeroIfOwn tables Size.netlist (now netlist) ⌝ }
     ensures { λ r. ⌜ Promised (givenTexts (now (lib .entry)) (now (net .entry)))
         (lentOf (now (library .entry)) (now (netlist .entry)) (now (numbers .entry)) (now (report .entry)))
         (lentOf (now (library .exit)) (now (netlist .exit)) (now (numbers .exit)) (now (report .exit)))
@@ -45,14 +42,13 @@ pub fn analyse_into(
         library,
         netlist,
         numbers.len(),
-        library_used,
-        netlist_used,
+        tables,
     );
     finish(library, netlist, numbers, report, progress)
 }
 
-// As `analyse_into` for a caller whose tables are its own: nobody sees them afterwards, so that a refusal clears the report
-// alone.
+// As `analyse_into` for a caller whose tables are its own, and who needs the report alone: nobody sees the tables afterwards, so
+// that a refusal does not clear them.
 pub fn report_into(
     lib: &[u8],
     net: &[u8],
@@ -60,11 +56,8 @@ pub fn report_into(
     netlist: &mut [u32],
     found: &mut [u32],
     report: &mut [u8],
-    library_used: usize,
-    netlist_used: usize,
 ) -> Answer
-    requires { ⌜ (cleared «library_used» (now library) ≡ cleared Size.library (now library))
-        × (cleared «netlist_used» (now netlist) ≡ cleared Size.netlist (now netlist)) ⌝ }
+    requires { ⌜ Zero (now library) (now netlist) ⌝ }
     ensures { λ r. ⌜ ReportPromised (givenTexts (now (lib .entry)) (now (net .entry)))
         (lentOf (now (library .entry)) (now (netlist .entry)) (now (found .entry)) (now (report .entry)))
         (now (report .exit)) (answerRead r) ⌝ }
@@ -76,8 +69,7 @@ pub fn report_into(
         library,
         netlist,
         found.len(),
-        library_used,
-        netlist_used,
+        Tables::Own,
     );
     tell(library, netlist, found, report, progress)
 }
@@ -97,14 +89,5 @@ pub fn analyse(
         (lentOf (now (library .exit)) (now (netlist .exit)) (now (numbers .exit)) (now (report .exit)))
         (answerRead r) ⌝ }
 {
-    analyse_into(
-        lib,
-        net,
-        library,
-        netlist,
-        numbers,
-        report,
-        sizes::LIBRARY,
-        sizes::NETLIST,
-    )
+    analyse_into(lib, net, library, netlist, numbers, report, Tables::Lent)
 }

@@ -2,6 +2,7 @@
 // calls, and writes just the bytes that the call counts.
 //
 // Open to others: `put_analysis`. It has no condition on its input; specs/Printed.antt says what it promises.
+use analysis_texts::Tables;
 use demands::Answer;
 ghost use Rattle.analysis_printed.specs.Printed.{Printed};
 
@@ -13,7 +14,15 @@ pub fn put_analysis(lib: &[u8], net: &[u8], report: &mut [u8; sizes::REPORT_BYTE
     let mut library = [0u32; sizes::LIBRARY];
     let mut netlist = [0u32; sizes::NETLIST];
     let mut numbers = [0u32; sizes::NUMBERS];
-    let answer = analysis_call::analyse(lib, net, &mut library, &mut netlist, &mut numbers, report);
+    let answer = analysis_call::analyse_into(
+        lib,
+        net,
+        &mut library,
+        &mut netlist,
+        &mut numbers,
+        report,
+        Tables::Own,
+    );
     match answer {
         Answer::Accepted(s) => s.length,
         Answer::Refused(r) => writer::put_refusal(report, 0, r),

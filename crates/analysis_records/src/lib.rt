@@ -5,6 +5,7 @@
 // `analysis_call::analyse` over a list of records. It has no condition on its input.
 use analysis_end::finish;
 use analysis_texts::Progress;
+use analysis_texts::Tables;
 use analysis_texts::begin;
 use demands::Answer;
 use netlist_table::RawStatement;
@@ -164,7 +165,7 @@ fn prepare(lib: &[u8], library: &mut [u32], netlist: &mut [u32], numbers: usize)
     ensures { λ r. ⌜ Prepared (now (lib .entry)) (now (library .entry)) (now (netlist .entry)) numbers r
         (now (library .exit)) (now (netlist .exit)) ⌝ }
 {
-    let begun = begin(lib, 0, library, netlist.len(), numbers, sizes::LIBRARY);
+    let begun = begin(lib, 0, library, netlist.len(), numbers, Tables::Lent);
     match begun {
         Progress::AtEntry(_) => begun,
         Progress::Later(_) => begun,

@@ -1,19 +1,20 @@
--- A call's own tables are zero before they are lent.
+-- A call's own tables are zero before they are read into.
 -- Assumes nothing.
 use mathlib.Core.List.{List}
-use mathlib.Core.Path.{_≡_, refl, sym, _∙_}
-use Prim.Native.Nat.{ℕ, min}
-use native.Mathlib.Omega.{arith}
-use lib.ListN.{length, replicate, length-replicate}
+use mathlib.Core.Path.{_≡_, sym, subst}
+use Prim.Native.Nat.{ℕ}
+use lib.ListN.{replicate, length-replicate}
 use Rattle.table.specs.Blocks.{cleared}
 use Rattle.table.proofs.Places.{cleared-all}
+use Rattle.analysis_texts.specs.declared.Tables.{Tables}
+use Rattle.analysis_texts.specs.declared.Tables.the-variants.{Own}
+use Rattle.analysis_texts.specs.Tables.{ZeroIfOwn}
 
-cleared-none : (xs : List ℕ) → cleared 0 xs ≡ xs
-unfolding cleared
-cleared-none xs = let e : min 0 (length xs) ≡ 0 = omega arith in rw e refl
+zeros-cleared : (n : ℕ) → replicate n 0 ≡ cleared n (replicate n 0)
+zeros-cleared n = sym (rw (length-replicate {A = ℕ} n 0) at (cleared-all (replicate n 0)))
 
 -- To clear such a table changes nothing.
-pub zeros-cleared : (n : ℕ) → cleared 0 (replicate n 0) ≡ cleared n (replicate n 0)
-zeros-cleared n =
-    let all : cleared n (replicate n 0) ≡ replicate n 0 = rw (length-replicate {A = ℕ} n 0) at (cleared-all (replicate n 0)) in
-    cleared-none (replicate n 0) ∙ sym all
+pub own-cleared : {tables : Tables} (n : ℕ) (xs : List ℕ) → tables ≡ Own → ZeroIfOwn tables n xs → xs ≡ cleared n xs
+own-cleared n xs e z =
+    let zero : xs ≡ replicate n 0 = subst (λ (t : Tables). ZeroIfOwn t n xs) e z in
+    rw zero (zeros-cleared n)

@@ -10,10 +10,9 @@ use Rattle.reading.specs.Refusal.{Read, refused, read, _>>=_}
 use Rattle.reading.specs.declared.Refusal.{Refusal}
 use Rattle.library_table.specs.Cells.{Cell}
 use Rattle.library_table.specs.Library.{library}
-use Rattle.library_table.specs.Layout.{libraryWords, libraryAfter}
+use Rattle.library_table.specs.Layout.{libraryWords}
 use Rattle.library_table.specs.Sound as C
 use Rattle.library_table.proofs.Laws.{library-sound}
-use Rattle.library_text.specs.Entry.{leftBehind}
 use Rattle.netlist_table.specs.declared.Rules.the-variants.{New}
 use Rattle.netlist_table.specs.Layout.{netlistWords}
 use Rattle.netlist_table.specs.Netlist.{Statement}
@@ -25,7 +24,7 @@ use Rattle.demands.proofs.Given.{Checked, texts-checked}
 use Rattle.demands.proofs.EntryChecks.{texts-entry, entered}
 use Rattle.analysis_texts.specs.declared.Progress.{Progress}
 use Rattle.analysis_texts.specs.declared.Progress.the-variants.{Unrefused, AtEntry, Later}
-use Rattle.analysis_texts.specs.Progress.{progressOf, progressFrom, PairStands, Reached}
+use Rattle.analysis_texts.specs.Progress.{progressOf, progressFrom, LibraryStands, PairStands, Reached}
 
 -- ---- the cases of progress are told apart
 
@@ -54,7 +53,7 @@ module _ (g : Given) (before past : List ℕ) where
   -- ---- where a call stands then
 
   module _ (entry : Read (Unit {0})) (library′ : List ℕ) (begun : Progress) (begins : begun ≡ progressFrom entry (library (g .library)))
-      (leaves : library′ ≡ leftBehind entry (library (g .library)) before)
+      (leaves : LibraryStands entry (library (g .library)) before library′)
       (netlist′ : List ℕ) (said : Progress) (n : NetlistRead library′ begun netlist′ said) where
     abbrev Here : Progress → Type 0
     Here s = Reached g entry before past library′ netlist′ s
@@ -73,14 +72,14 @@ module _ (g : Given) (before past : List ℕ) where
         rw s (e, record { pair = pairOf cells ss; reads = rw (p, q); cellsStand = l; statementsStand = h .1 ss q })
 
     from-library : entry ≡ read tt → (o : Read (List Cell)) → library (g .library) ≡ o → Here said
-    unfolding Reached progressFrom progressOf leftBehind libraryAfter readPair _>>=_
+    unfolding Reached progressFrom progressOf LibraryStands readPair _>>=_
     from-library e (refused number line) p =
         let b : begun ≡ Later (record { number = number; line = line }) = rw (e, p) at begins in
         rw (n .stays (λ x. later-shut _ (sym b ∙ x)) .0, b) (e, rw p)
     from-library e (read cells) p = from-statements e (rw (e, p) at begins) cells p (rw (e, p) at leaves) (g .statements cells) refl
 
     from-entry : (e : Read (Unit {0})) → entry ≡ e → Here said
-    unfolding Reached progressFrom leftBehind
+    unfolding Reached progressFrom LibraryStands
     from-entry (refused number line) e =
         let b : begun ≡ AtEntry (record { number = number; line = line }) = rw e at begins in
         let s = n .stays (λ x. entry-shut _ (sym b ∙ x)) in

@@ -9,10 +9,9 @@ use Rattle.reading.specs.Refusal.{Read, refused, read}
 use Rattle.library_table.specs.Cells.{Cell}
 use Rattle.library_table.specs.Library.{library}
 use Rattle.library_table.specs.Layout.{libraryWords, LibraryHolds}
-use Rattle.library_text.specs.Entry.{leftBehind}
 use Rattle.netlist_table.specs.declared.Rules.{Rules}
-use Rattle.netlist_table.specs.Layout.{netlistWords, netlistAfter}
-use Rattle.netlist_table.specs.Netlist.{netlist}
+use Rattle.netlist_table.specs.Layout.{netlistWords}
+use Rattle.netlist_table.specs.Netlist.{Statement, netlist}
 use Rattle.demands.specs.Outcome.{Given, Pair, entryBy, readPair}
 use Rattle.analysis_texts.specs.declared.Progress.{Progress}
 use Rattle.analysis_texts.specs.declared.Progress.the-variants.{Unrefused, AtEntry, Later}
@@ -29,10 +28,17 @@ unfoldable pub progressFrom : {A : Type 0} → Read (Unit {0}) → Read A → Pr
 progressFrom (refused number line) o = AtEntry (record { number = number; line = line })
 progressFrom (read u) o = progressOf o
 
+-- What the library table has in it then: what it had, after a refusal at entry; the cells, where they are read. What a later
+-- refusal leaves is not said: the end of the call clears it.
+unfoldable pub LibraryStands : Read (Unit {0}) → Read (List Cell) → List ℕ → List ℕ → Type 0
+LibraryStands (refused number line) o before after = after ≡ before
+LibraryStands (read u) (refused number line) before after = Unit {0}
+LibraryStands (read u) (read cells) before after = after ≡ libraryWords cells ++ drop Size.library before
+
 -- The entry and the library text, over the lengths of the netlist text and of the tables that are not read yet.
 pub record Begun (text : List ℕ) (net : ℕ) (before : List ℕ) (netlist numbers : ℕ) (said : Progress) (after : List ℕ) : Type 0 where
   pub answers : said ≡ progressFrom (entryBy (length text) net (length before) netlist numbers) (library text)
-  pub leaves : after ≡ leftBehind (entryBy (length text) net (length before) netlist numbers) (library text) before
+  pub leaves : LibraryStands (entryBy (length text) net (length before) netlist numbers) (library text) before after
 
 -- ---- the netlist text
 
@@ -44,7 +50,8 @@ NetlistFits begun text table = begun ≡ Unrefused → (length text ≤ Size.tex
 pub record TextRead (rules : Rules) (text lib before : List ℕ) (begun : Progress) (after : List ℕ) (said : Progress) : Type 0 where
   pub stays : (begun ≡ Unrefused → ⊥) → (said ≡ begun) × (after ≡ before)
   pub reads : begun ≡ Unrefused → (cells : List Cell) → LibraryHolds lib cells
-      → (said ≡ progressOf (netlist rules cells text)) × (after ≡ netlistAfter (netlist rules cells text) before)
+      → (said ≡ progressOf (netlist rules cells text))
+      × ((ss : List Statement) → netlist rules cells text ≡ read ss → after ≡ netlistWords ss ++ drop Size.netlist before)
 
 -- ---- both
 

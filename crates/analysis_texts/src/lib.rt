@@ -2,15 +2,16 @@
 // calculated here. demands/specs/Outcome.antt has what reading comes to (`entry`, `readPair`), specs/Progress.antt how
 // far a call has come then.
 //
-// For the crates above: `Progress`; `read_texts`, over two texts; `begin`, the entry and the library text alone, behind
+// For the crates above: `Progress`, `Tables`; `read_texts`, over two texts; `begin`, the entry and the library text alone, behind
 // which a caller reads its netlist itself; `clear_all`, which a later refusal asks for.
-use library_text::fill;
+use library_text::lines::read_lines;
 use netlist_table::Rules;
 use netlist_text::read_all;
 use reading::Refusal;
 use reading::TABLE_SHORT;
 use reading::TEXT_LONG;
 use reading::Verdict;
+use table::clear;
 ghost use mathlib.Core.Path.{_≡_};
 ghost use lib.ListN.{length};
 ghost use Rattle.sizes.specs.Sizes as Size;
@@ -19,6 +20,7 @@ ghost use Rattle.reading.specs.Verdict.{verdictRead};
 ghost use Rattle.demands.specs.Answer.{lentOf};
 ghost use Rattle.demands.specs.Outcome.{entryBy, givenBy, zeroed};
 ghost use Rattle.analysis_texts.specs.Progress.{Begun, NetlistFits, TextRead, Reached};
+ghost use Rattle.analysis_texts.specs.Tables.{ZeroIfOwn};
 
 // How far a call has come: nothing is refused so far; refused at entry, with all that was lent as it
 // was; or refused later.
@@ -26,6 +28,23 @@ pub enum Progress {
     Unrefused,
     AtEntry(Refusal),
     Later(Refusal),
+}
+
+// Whose the library and the netlist table are: a call's own, zero as it makes them, or lent, with anything in them.
+pub enum Tables {
+    Own,
+    Lent,
+}
+
+// Makes a table zero up to its published size. One of the call's own is so already.
+fn clear_lent(table: &mut [u32], size: usize, tables: Tables)
+    requires { ⌜ ZeroIfOwn tables size (now table) ⌝ }
+    ensures { λ _. ⌜ now (table .exit) ≡ cleared size (now (table .entry)) ⌝ }
+{
+    match tables {
+        Tables::Own => {}
+        Tables::Lent => clear(table, size),
+    }
 }
 
 // The entry's two checks, by lengths.
@@ -50,24 +69,24 @@ fn entry(lib: usize, net: usize, library: usize, netlist: usize, numbers: usize)
     Verdict::Accepted
 }
 
-// The entry and the library text. Of the netlist text and of the other tables it takes the lengths. The library table
-// may have other numbers than 0 in its first `used` places, and past its published size.
+// The entry and the library text. Of the netlist text and of the other tables it takes the lengths.
 pub fn begin(
     lib: &[u8],
     net: usize,
     library: &mut [u32],
     netlist: usize,
     numbers: usize,
-    used: usize,
+    tables: Tables,
 ) -> Progress
-    requires { ⌜ cleared used (now library) ≡ cleared Size.library (now library) ⌝ }
+    requires { ⌜ ZeroIfOwn tables Size.library (now library) ⌝ }
     ensures { λ r. ⌜ Begun (now (lib .entry)) net (now (library .entry)) netlist numbers r (now (library .exit)) ⌝ }
 {
     let entered = entry(lib.len(), net, library.len(), netlist, numbers);
     match entered {
         Verdict::Refused(r) => Progress::AtEntry(r),
         Verdict::Accepted => {
-            let cells = fill(lib, library, used);
+            clear_lent(library, sizes::LIBRARY, tables);
+            let cells = read_lines(lib, library);
             match cells {
                 Verdict::Refused(r) => Progress::Later(r),
                 Verdict::Accepted => Progress::Unrefused,
@@ -76,18 +95,16 @@ pub fn begin(
     }
 }
 
-// Reads the netlist text by the rules named, against the cells of the library table, into a table that may have other
-// numbers than 0 in its first `used` places, and past its published size. Nothing happens once a refusal stands.
+// Reads the netlist text by the rules named, against the cells of the library table. Nothing happens once a refusal stands.
 fn read_netlist(
     rules: Rules,
     net: &[u8],
     library: &[u32],
     netlist: &mut [u32],
     begun: Progress,
-    used: usize,
+    tables: Tables,
 ) -> Progress
-    requires { ⌜ NetlistFits begun (now net) (now netlist)
-        × (cleared used (now netlist) ≡ cleared Size.netlist (now netlist)) ⌝ }
+    requires { ⌜ NetlistFits begun (now net) (now netlist) × ZeroIfOwn tables Size.netlist (now netlist) ⌝ }
     ensures { λ r. ⌜ TextRead rules (now (net .entry)) (now (library .entry)) (now (netlist .entry)) begun
         (now (netlist .exit)) r ⌝ }
 {
@@ -95,7 +112,8 @@ fn read_netlist(
         Progress::AtEntry(_) => begun,
         Progress::Later(_) => begun,
         Progress::Unrefused => {
-            let statements = read_all(rules, net, library, netlist, used);
+            clear_lent(netlist, sizes::NETLIST, tables);
+            let statements = read_all(rules, net, library, netlist);
             match statements {
                 Verdict::Refused(bad) => Progress::Later(bad),
                 Verdict::Accepted => Progress::Unrefused,
@@ -104,8 +122,7 @@ fn read_netlist(
     }
 }
 
-// The entry and both texts, the netlist by the rules named. Of the numbers table it takes the length; the other two may
-// have other numbers than 0 in so many of their first places, and past their published sizes.
+// The entry and both texts, the netlist by the rules named. Of the numbers table it takes the length.
 pub fn read_texts(
     rules: Rules,
     lib: &[u8],
@@ -113,25 +130,16 @@ pub fn read_texts(
     library: &mut [u32],
     netlist: &mut [u32],
     numbers: usize,
-    library_used: usize,
-    netlist_used: usize,
+    tables: Tables,
 ) -> Progress
-    requires { ⌜ (cleared «library_used» (now library) ≡ cleared Size.library (now library))
-        × (cleared «netlist_used» (now netlist) ≡ cleared Size.netlist (now netlist)) ⌝ }
+    requires { ⌜ ZeroIfOwn tables Size.library (now library) × ZeroIfOwn tables Size.netlist (now netlist) ⌝ }
     ensures { λ r. ⌜ Reached (givenBy rules (now (lib .entry)) (now (net .entry)))
         (entryBy (length (now (lib .entry))) (length (now (net .entry)))
         (length (now (library .entry))) (length (now (netlist .entry))) numbers)
         (now (library .entry)) (now (netlist .entry)) (now (library .exit)) (now (netlist .exit)) r ⌝ }
 {
-    let begun = begin(
-        lib,
-        net.len(),
-        library,
-        netlist.len(),
-        numbers,
-        library_used,
-    );
-    read_netlist(rules, net, library, netlist, begun, netlist_used)
+    let begun = begin(lib, net.len(), library, netlist.len(), numbers, tables);
+    read_netlist(rules, net, library, netlist, begun, tables)
 }
 
 // Sets all that was lent to zero.
@@ -139,8 +147,8 @@ pub fn clear_all(library: &mut [u32], netlist: &mut [u32], numbers: &mut [u32], 
     ensures { λ _. ⌜ lentOf (now (library .exit)) (now (netlist .exit)) (now (numbers .exit)) (now (report .exit))
         ≡ zeroed (lentOf (now (library .entry)) (now (netlist .entry)) (now (numbers .entry)) (now (report .entry))) ⌝ }
 {
-    table::clear(library, library.len());
-    table::clear(netlist, netlist.len());
-    table::clear(numbers, numbers.len());
+    clear(library, library.len());
+    clear(netlist, netlist.len());
+    clear(numbers, numbers.len());
     table::clear_bytes(report);
 }

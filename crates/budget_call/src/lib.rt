@@ -5,6 +5,7 @@
 // `Steps`, what it answers. It has no condition on its input; specs/Promise.antt says what it promises. The
 // published size of the buffer is `sizes::BEST`.
 use analysis_texts::Progress;
+use analysis_texts::Tables;
 use analysis_texts::read_texts;
 use budget_queue::cost_at;
 use budget_queue::empty;
@@ -115,8 +116,7 @@ pub fn best_within(lib: &[u8], net: &[u8], budget: usize, best: &mut [u32]) -> S
         &mut library,
         &mut netlist,
         sizes::NUMBERS,
-        0,
-        0,
+        Tables::Own,
     );
     match progress {
         Progress::AtEntry(r) => Steps::Refused(r),

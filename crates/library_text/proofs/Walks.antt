@@ -1,14 +1,16 @@
 -- The walk over the lines of a library text: what each line and the text's end make of the reading so far.
 -- Assumes nothing.
 use mathlib.Core.List.{List, [], _∷_, _++_}
-use mathlib.Core.Path.{_≡_, refl, sym, ap, _∙_}
+use mathlib.Core.Path.{_≡_, refl, sym, ap, subst, _∙_}
 use Prim.Native.Nat.{ℕ, zero, suc, _+_, _*_, _≤_, _<_, min}
+use native.Mathlib.Nat.{le-of-eq}
 use native.Mathlib.Numerals.{add-one}
 use native.Mathlib.Omega.{arith}
-use lib.ListN.{length, drop, replicate}
+use lib.ListN.{length, drop, replicate, length-replicate}
 use lib.Seq.{drop-at}
 use Rattle.sizes.specs.Sizes as Size
 use Rattle.table.specs.Blocks.{fitted, blocks, cleared}
+use Rattle.table.proofs.Places.{cleared-all}
 use Rattle.reading.specs.Numbers as No
 use Rattle.reading.specs.Refusal.{Read, refused, read, _>>=_, form}
 use Rattle.text.specs.Lines.{fields, part, nextAfter, linesFrom}
@@ -17,7 +19,7 @@ use Rattle.library_table.specs.Cells.{Cell}
 use Rattle.library_table.specs.Library.{Place, outside, inside, Reading, libraryLine, libraryEnd, libraryFrom, library}
 use Rattle.library_table.specs.Layout.{libraryWords}
 use Rattle.library_rows.specs.Passes.{countedWords}
-use Rattle.library_text.specs.Walk.{placeCells, readingWords, placeNumber, placePins, placeHeading, Shows, Leaves}
+use Rattle.library_text.specs.Walk.{NoCells, placeCells, readingWords, placeNumber, placePins, placeHeading, Shows, Leaves}
 use Rattle.library_text.specs.declared.lines.State.{State}
 use Rattle.library_text.proofs.Entries.{leaves-number, leaves-onward, outside-at}
 use Rattle.library_table.proofs.Laws.{start-sound}
@@ -92,10 +94,20 @@ unfolding fitted
 filled zero = refl
 filled (suc m) = ap (λ (l : List ℕ). 0 ∷ l) (filled m)
 
-pub cleared-empty : (xs : List ℕ) → Size.library ≤ length xs → cleared Size.library xs ≡ libraryWords [] ++ drop Size.library xs
+cleared-empty : (xs : List ℕ) → Size.library ≤ length xs → cleared Size.library xs ≡ libraryWords [] ++ drop Size.library xs
 unfolding libraryWords blocks cleared
 cleared-empty xs h = let all : min Size.library (length xs) ≡ Size.library = omega arith in rw (all, ← filled (Size.cells * Size.cellWords)) refl
 
--- What stands past the published size of a table that holds cells.
-pub past-size : (cells : List Cell) (past : List ℕ) → drop Size.library (libraryWords cells ++ past) ≡ past
-past-size cells past = drop-at (libraryWords cells) past Size.library (length-libraryWords cells)
+module _ (xs : List ℕ) (long : Size.library ≤ length xs) where
+  pub cleared-past : drop Size.library (cleared Size.library xs) ≡ drop Size.library xs
+  cleared-past =
+      ap (drop Size.library) (cleared-empty xs long) ∙ drop-at (libraryWords []) (drop Size.library xs) Size.library (length-libraryWords [])
+
+  pub cleared-none : NoCells (cleared Size.library xs)
+  cleared-none = cleared-empty xs long ∙ ap (λ (past : List ℕ). libraryWords [] ++ past) (sym cleared-past)
+
+pub zeros-none : (xs : List ℕ) → xs ≡ replicate Size.library 0 → NoCells xs
+zeros-none xs zeros =
+    let size : length xs ≡ Size.library = ap length zeros ∙ length-replicate {A = ℕ} Size.library 0 in
+    let same : cleared Size.library xs ≡ xs = subst (λ (n : ℕ). cleared n xs ≡ replicate n 0) size (cleared-all xs) ∙ sym zeros in
+    subst NoCells same (cleared-none xs (le-of-eq (sym size)))

@@ -3,7 +3,7 @@
 use mathlib.Core.List.{List, [], _∷_, _++_}
 use mathlib.Core.Path.{_≡_}
 use Prim.Native.Nat.{ℕ, zero, suc, _≤_}
-use lib.ListN.{length}
+use lib.ListN.{length, drop}
 use Rattle.sizes.specs.Sizes as Size
 use Rattle.reading.specs.Refusal.{Read, refused, read}
 use Rattle.text.specs.Lines.{fields}
@@ -11,12 +11,16 @@ use Rattle.library_table.specs.Cells.{Cell}
 use Rattle.library_table.specs.declared.Word.{Word}
 use Rattle.library_table.specs.declared.Word.the-variants.{CC, CO, SC, SO}
 use Rattle.library_table.specs.Library.{Place, outside, inside, Reading, libraryLine}
-use Rattle.library_table.specs.Layout.{headingNumber}
+use Rattle.library_table.specs.Layout.{headingNumber, libraryWords}
 use Rattle.library_table.specs.Sound.{wantedNumber, SoundReading}
 use Rattle.library_rows.specs.Passes.{countedWords}
 use Rattle.library_text.specs.declared.lines.State.{State}
 
 -- ---- the table
+
+-- A table that holds no cell: zero up to its published size.
+abbrev pub NoCells : List ℕ → Type 0
+NoCells table = table ≡ libraryWords [] ++ drop Size.library table
 
 -- The cells of which the table holds something: those read, and the one that is being read.
 unfoldable pub placeCells : List Cell → Place → List Cell

@@ -1,17 +1,17 @@
 // The library text read into the library table.
 //
-// Open to others, for every input: `read_library`. For the crates above: `fill`, behind an entry that the caller has checked.
+// Open to others, for every input: `read_library`. For the crates above: `lines::read_lines`, behind an entry that the caller
+// has checked, into a table that holds no cell.
 ghost use mathlib.Core.Path.{_≡_};
 ghost use Prim.Native.Nat.{_≤_};
 ghost use lib.ListN.{length};
 ghost use Rattle.sizes.specs.Sizes as Size;
 ghost use Rattle.reading.specs.Verdict.{verdictRead, doneRead};
-ghost use Rattle.table.specs.Blocks.{cleared};
 ghost use Rattle.library_text.specs.Entry.{readLibrary, libraryLeft};
 ghost use Rattle.library_table.specs.Library.{library};
 ghost use Rattle.library_table.specs.Layout.{libraryAfter};
 
-mod lines;
+pub mod lines;
 mod store;
 
 use crate::lines::read_lines;
@@ -19,15 +19,13 @@ use reading::Refusal;
 use reading::Verdict;
 use table::clear;
 
-// Reads a library text into a table of the published size, which may have other numbers than 0 in its first `used` places, and
-// past that size. Where the text is refused, the whole table is 0.
-pub fn fill(text: &[u8], table: &mut [u32], used: usize) -> Verdict
-    requires { ⌜ (length (now text) ≤ Size.textBytes) × (Size.library ≤ length (now table))
-        × (cleared used (now table) ≡ cleared Size.library (now table)) ⌝ }
+// Behind the entry: the table is cleared before the first line, and whole where a line is refused.
+fn fill(text: &[u8], table: &mut [u32]) -> Verdict
+    requires { ⌜ (length (now text) ≤ Size.textBytes) × (Size.library ≤ length (now table)) ⌝ }
     ensures answered { λ r. ⌜ verdictRead r ≡ doneRead (library (now (text .entry))) ⌝ }
     ensures leaves { λ _. ⌜ now (table .exit) ≡ libraryAfter (library (now (text .entry))) (now (table .entry)) ⌝ }
 {
-    clear(table, used);
+    clear(table, sizes::LIBRARY);
     let answer = read_lines(text, table);
     match answer {
         Verdict::Accepted => answer,
@@ -57,5 +55,5 @@ pub fn read_library(text: &[u8], table: &mut [u32]) -> Verdict
             line: 0,
         });
     }
-    fill(text, table, sizes::LIBRARY)
+    fill(text, table)
 }

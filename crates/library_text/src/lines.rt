@@ -1,6 +1,7 @@
-// The lines of a library text one after another: what refuses each, and what each leaves in the table.
+// The lines of a library text one after another: what refuses each, and what each leaves in the table. For the crates above:
+// `read_lines`.
 ghost use mathlib.Core.Path.{_≡_};
-ghost use mathlib.Core.List.{List, [], _++_};
+ghost use mathlib.Core.List.{List, _++_};
 ghost use Prim.Native.Nat.{_≤_, _<_};
 ghost use lib.ListN.{length, drop};
 ghost use Rattle.sizes.specs.Sizes as Size;
@@ -12,7 +13,7 @@ ghost use Rattle.library_table.specs.Library.{library};
 ghost use Rattle.library_table.specs.Layout.{libraryWords};
 ghost use Rattle.library_text.specs.Headers.{headingIn, pinsIn, headerNumber};
 ghost use Rattle.library_table.specs.Sound.{endNumber};
-ghost use Rattle.library_text.specs.Walk.{wordAt, StateFits, LineReads};
+ghost use Rattle.library_text.specs.Walk.{NoCells, wordAt, StateFits, LineReads};
 use crate::store::put_header;
 use library_rows::read_rows;
 use library_table::Word;
@@ -212,10 +213,9 @@ fn read_line(line: &[u8], table: &mut [u32], s: State) -> State
     end_line(line, table, s)
 }
 
-// The lines of the text, into a table that holds no cell.
+// The lines of the text, into a table that holds no cell. What a refusal leaves is the caller's to clear.
 pub fn read_lines(text: &[u8], table: &mut [u32]) -> Verdict
-    requires { ⌜ (length (now text) ≤ Size.textBytes)
-        × (now table ≡ libraryWords [] ++ drop Size.library (now table)) ⌝ }
+    requires { ⌜ (length (now text) ≤ Size.textBytes) × NoCells (now table) ⌝ }
     ensures answered { λ r. ⌜ verdictRead r ≡ doneRead (library (now (text .entry))) ⌝ }
     ensures filled { λ _. ⌜ ((cells : List Cell) → library (now (text .entry)) ≡ read cells
         → now (table .exit) ≡ libraryWords cells ++ drop Size.library (now (table .entry))) ⌝ }

@@ -4,6 +4,7 @@
 //
 // Open to others: `put_copy`. It has no condition on its input; specs/Copied.antt says what it promises.
 use analysis_texts::Progress;
+use analysis_texts::Tables;
 use analysis_texts::read_texts;
 use netlist_table::Rules;
 use netlist_table::undeclared;
@@ -80,8 +81,7 @@ pub fn put_copy(lib: &[u8], net: &[u8], copy: &mut [u8; COPY_BYTES]) -> usize
         &mut library,
         &mut netlist,
         sizes::NUMBERS,
-        0,
-        0,
+        Tables::Own,
     );
     match progress {
         Progress::AtEntry(r) => writer::put_refusal(copy, 0, r),

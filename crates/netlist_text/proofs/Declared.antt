@@ -1,11 +1,10 @@
--- What comes behind the lines of a text: refusal 20.
+-- What comes behind the lines of a text: refusal 20; and what the reader as a call of its own leaves.
 -- Assumes nothing.
 use mathlib.Core.Bool.{true, false, _&&_}
-use mathlib.Core.List.{List}
-use mathlib.Core.Path.{_≡_, refl, sym, ap, _∙_}
+use mathlib.Core.List.{List, _++_}
+use mathlib.Core.Path.{_≡_, ap, _∙_}
 use Prim.Native.Nat.{ℕ}
 use lib.ListN.{length, drop, replicate}
-use lib.Seq.{drop-at}
 use Rattle.sizes.specs.Sizes as Size
 use Rattle.reading.specs.Choice.{pick}
 use Rattle.reading.specs.Numbers as No
@@ -14,7 +13,7 @@ use Rattle.reading.specs.Verdict.{verdictRead, doneRead}
 use Rattle.reading.specs.declared.Verdict.{Verdict}
 use Rattle.reading.specs.declared.Verdict.the-variants.{Accepted, Refused}
 use Rattle.reading.specs.declared.Refusal.{Refusal}
-use Rattle.reading.proofs.Laws.{refused-read}
+use Rattle.reading.proofs.Laws.{refused-read, done-read, done-refused}
 use Rattle.library_table.specs.Cells.{Cell}
 use Rattle.netlist_table.specs.declared.Rules.{Rules}
 use Rattle.netlist_table.specs.Netlist.{Statement, declaring, textStatements, undeclaredLines, someLine, declared, netlist}
@@ -22,65 +21,63 @@ use Rattle.netlist_table.specs.Layout.{netlistWords, NetlistHolds, netlistAfter
 use Rattle.netlist_table.specs.Admission.{someUndeclared}
 use Rattle.netlist_table.specs.Sound.{Sound}
 use Rattle.netlist_table.proofs.Laws.{text-sound}
-use Rattle.netlist_table.proofs.OpenLines.{some-same}
-use Rattle.netlist_table.proofs.Places.{length-netlistWords}
-use Rattle.netlist_text.specs.Reader.{ReadsAs}
+use Rattle.netlist_table.proofs.OpenLines.{some-same, declared-read}
+use Rattle.netlist_text.specs.Reader.{Fills, ReadsAs}
 
-held-past : {table : List ℕ} {ss : List Statement} (h : NetlistHolds table ss) → drop Size.netlist table ≡ h .past
-held-past {table} {ss} h = ap (λ (t : List ℕ). drop Size.netlist t) (h .words) ∙ (drop-at (netlistWords ss) (h .past) Size.netlist (length-netlistWords ss))
-
-module _ {cells : List Cell} (rules : Rules) (before : List ℕ) (ss : List Statement) (so : Sound cells ss) (h : NetlistHolds before ss)
-    (r : Verdict) (after : List ℕ) where
-  pub declares-refused : (declaring rules && someUndeclared before) ≡ true → verdictRead r ≡ refused No.undeclared 0
-      → after ≡ replicate (length before) 0 → ReadsAs (declared rules ss) before r after
-  unfolding declared weigh pick _>>_ doneRead netlistAfter
-  declares-refused t said z =
+module _ {cells : List Cell} (rules : Rules) (table : List ℕ) (ss : List Statement) (so : Sound cells ss) (h : NetlistHolds table ss)
+    (r : Verdict) where
+  pub declares-refused : (declaring rules && someUndeclared table) ≡ true → verdictRead r ≡ refused No.undeclared 0
+      → verdictRead r ≡ doneRead (declared rules ss)
+  unfolding declared weigh pick _>>_ doneRead
+  declares-refused t said =
       let e : (declaring rules && someLine (undeclaredLines ss)) ≡ true = rw (← some-same h so) t in
-      record { answers = rw e said; leaves = rw e z }
+      rw e said
 
-  pub declares-read : (declaring rules && someUndeclared before) ≡ false → verdictRead r ≡ read tt → after ≡ before
-      → ReadsAs (declared rules ss) before r after
-  unfolding declared weigh pick _>>_ doneRead netlistAfter
-  declares-read t said z =
+  pub declares-read : (declaring rules && someUndeclared table) ≡ false → verdictRead r ≡ read tt
+      → verdictRead r ≡ doneRead (declared rules ss)
+  unfolding declared weigh pick _>>_ doneRead
+  declares-read t said =
       let e : (declaring rules && someLine (undeclaredLines ss)) ≡ false = rw (← some-same h so) t in
-      record { answers = rw e said; leaves = rw (e, held-past h) (z ∙ h .words) }
+      rw e said
 
 -- ---- the lines of a text, and what comes behind them
 
-after-same : (mid before : List ℕ) → length mid ≡ length before → drop Size.netlist mid ≡ drop Size.netlist before
-    → (o : Read (List Statement)) → netlistAfter o mid ≡ netlistAfter o before
-unfolding netlistAfter
-after-same mid before size past (refused number line) = rw size
-after-same mid before size past (read ss) = rw past
+module _ (rules : Rules) (cells : List Cell) (text before : List ℕ) (v : Verdict) (after : List ℕ)
+    (lines : Fills (textStatements rules cells text) before v after) where
+  pub all-refused : (r : Refusal) → v ≡ Refused r → Fills (netlist rules cells text) before v after
+  unfolding netlist _>>=_ verdictRead doneRead
+  all-refused r q =
+      let stop = done-refused (textStatements rules cells text) (r .number) (r .line) (rw q at (lines .answers)) in
+      record { answers = rw (q, stop); filled = λ ss e. refused-read (rw stop at e) }
 
--- One reading behind another, into the one table.
-module _ (f : List Statement → Read (List Statement)) {before mid : List ℕ} where
-  then-refused : (o : Read (List Statement)) (r : Refusal) → ReadsAs o before (Refused r) mid
-      → ReadsAs (o >>= f) before (Refused r) mid
-  unfolding _>>=_ verdictRead doneRead
-  then-refused (refused number line) r reads = reads
-  then-refused (read ss) r reads = refused-read (reads .answers)
+  -- Behind an accepted text the table stays as it is.
+  pub all-read : v ≡ Accepted → (w : Verdict)
+      → ((ss : List Statement) → Sound cells ss → NetlistHolds after ss → verdictRead w ≡ doneRead (declared rules ss))
+      → Fills (netlist rules cells text) before w after
+  unfolding netlist _>>=_
+  all-read q w declares =
+      done-read (textStatements rules cells text) (unfold verdictRead in rw q at (lines .answers))
+      (λ ss e.
+      let words = lines .filled ss e in
+      let said = declares ss (text-sound cells rules text ss e) (record { past = drop Size.netlist before; words = words }) in
+      record {
+        answers = rw e said;
+        filled =
+            λ ts z.
+            words ∙ ap (λ (l : List Statement). netlistWords l ++ drop Size.netlist before) (declared-read rules ss ts (rw e at z));
+      })
 
-  then-read : {cells : List Cell} (o : Read (List Statement)) → ((ss : List Statement) → o ≡ read ss → Sound cells ss)
-      → ReadsAs o before Accepted mid → length mid ≡ length before → (w : Verdict) (after : List ℕ)
-      → ((ss : List Statement) → Sound cells ss → NetlistHolds mid ss → ReadsAs (f ss) mid w after)
-      → ReadsAs (o >>= f) before w after
-  unfolding _>>=_ verdictRead doneRead netlistAfter
-  then-read (refused number line) sound reads size w after behind = refused-read (sym (reads .answers))
-  then-read (read ss) sound reads size w after behind =
-      let held : NetlistHolds mid ss = record { past = drop Size.netlist before; words = reads .leaves } in
-      let d = behind ss (sound ss refl) held in
-      record { answers = d .answers; leaves = d .leaves ∙ after-same mid before size (held-past held) (f ss) }
+-- ---- the call of its own, into a table that was cleared before
 
-module _ (rules : Rules) (cells : List Cell) (text before : List ℕ) (v : Verdict) (mid : List ℕ)
-    (lines : ReadsAs (textStatements rules cells text) before v mid) where
-  pub all-refused : (r : Refusal) → v ≡ Refused r → ReadsAs (netlist rules cells text) before v mid
-  unfolding netlist
-  all-refused r q = rw q (then-refused (declared rules) (textStatements rules cells text) r (rw q at lines))
+module _ (o : Read (List Statement)) (before mid : List ℕ) (v : Verdict) (after : List ℕ) (fills : Fills o mid v after) where
+  pub whole-read : drop Size.netlist mid ≡ drop Size.netlist before → v ≡ Accepted → ReadsAs o before v after
+  unfolding netlistAfter
+  whole-read past q =
+      done-read o (unfold verdictRead in rw q at (fills .answers))
+      (λ ss e. record { answers = fills .answers; leaves = fills .filled ss e ∙ rw (e, past) })
 
-  pub all-read : v ≡ Accepted → length mid ≡ length before → (w : Verdict) (after : List ℕ)
-      → ((ss : List Statement) → Sound cells ss → NetlistHolds mid ss → ReadsAs (declared rules ss) mid w after)
-      → ReadsAs (netlist rules cells text) before w after
-  unfolding netlist
-  all-read q size w after declares =
-      then-read (declared rules) (textStatements rules cells text) (text-sound cells rules text) (rw q at lines) size w after declares
+  pub whole-refused : (r : Refusal) → v ≡ Refused r → (zero : List ℕ) → zero ≡ replicate (length before) 0 → ReadsAs o before v zero
+  unfolding netlistAfter
+  whole-refused r q zero z =
+      let stop = done-refused o (r .number) (r .line) (unfold verdictRead in rw q at (fills .answers)) in
+      record { answers = fills .answers; leaves = z ∙ rw stop }

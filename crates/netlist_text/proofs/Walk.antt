@@ -6,7 +6,7 @@ use mathlib.Core.Path.{_≡_, sym, ap, _∙_}
 use Prim.Native.Nat.{ℕ, _+_, _-_, _≤_, _<_}
 use native.Mathlib.Numerals.{add-one}
 use native.Mathlib.Omega.{arith}
-use lib.ListN.{length, drop, replicate}
+use lib.ListN.{length, drop}
 use lib.Seq.{drop-at}
 use Rattle.sizes.specs.Sizes as Size
 use Rattle.table.specs.Blocks.{cleared}
@@ -14,25 +14,31 @@ use Rattle.text.specs.Lines.{part, fields, linesFrom, nextAfter}
 use Rattle.text.proofs.Laws.{linesFrom-start, linesFrom-line, linesFrom-end, linesFrom-unended, nextAfter-within, part-within}
 use Rattle.reading.specs.Choice.{pick}
 use Rattle.reading.specs.Numbers as No
-use Rattle.reading.specs.Refusal.{refused, read, _>>=_, form}
+use Rattle.reading.specs.Refusal.{Read, refused, read, _>>=_, form}
 use Rattle.reading.specs.Verdict.{verdictRead, doneRead}
 use Rattle.reading.specs.declared.Verdict.{Verdict}
+use Rattle.reading.proofs.Laws.{refused-read}
 use Rattle.library_table.specs.Cells.{Cell}
 use Rattle.netlist_table.specs.declared.Rules.{Rules}
 use Rattle.netlist_table.specs.Netlist.{Statement, admitted, statementOf, lineForm, lineForms, textStatements}
-use Rattle.netlist_table.specs.Layout.{netlistWords, NetlistHolds, netlistAfter}
+use Rattle.netlist_table.specs.Layout.{netlistWords, NetlistHolds}
 use Rattle.netlist_table.specs.Admission.{extended, Decided, wordsAfter}
 use Rattle.netlist_table.specs.Sound.{Sound}
 use Rattle.netlist_table.proofs.Admission.{admitted-more, admitted-refused, cleared-empty}
 use Rattle.netlist_table.proofs.Places.{length-netlistWords}
 use Rattle.netlist_table.proofs.Soundness.{sound-none, sound-next}
-use Rattle.netlist_text.specs.Reader.{ReadsAs}
+use Rattle.netlist_text.specs.Reader.{NoStatements, Fills}
 
-pub cleared-past : (before : List ℕ) → Size.netlist ≤ length before
-    → drop Size.netlist (cleared Size.netlist before) ≡ drop Size.netlist before
-cleared-past before h =
-    rw (cleared-empty before h)
-    (drop-at (netlistWords []) (drop Size.netlist before) Size.netlist (length-netlistWords []))
+-- ---- the table before the first line
+
+module _ (before : List ℕ) (long : Size.netlist ≤ length before) where
+  pub cleared-past : drop Size.netlist (cleared Size.netlist before) ≡ drop Size.netlist before
+  cleared-past =
+      rw (cleared-empty before long)
+      (drop-at (netlistWords []) (drop Size.netlist before) Size.netlist (length-netlistWords []))
+
+  pub cleared-none : NoStatements (cleared Size.netlist before)
+  cleared-none = cleared-empty before long ∙ ap (λ (past : List ℕ). netlistWords [] ++ past) (sym cleared-past)
 
 -- ---- the walk
 
@@ -65,11 +71,11 @@ pub record Reading (rules : Rules) (cells : List Cell) (text : List ℕ) (at num
   pub sound : Sound cells statements
   pub held : table ≡ netlistWords statements ++ past
 
-pub reading-start : (rules : Rules) (cells : List Cell) (text before : List ℕ) → Size.netlist ≤ length before
-    → Reading rules cells text 0 1 (cleared Size.netlist before) (drop Size.netlist (cleared Size.netlist before))
+pub reading-start : (rules : Rules) (cells : List Cell) (text table : List ℕ) → NoStatements table
+    → Reading rules cells text 0 1 table (drop Size.netlist table)
 unfolding textStatements
-reading-start rules cells text before h =
-    record { statements = []; rest = rw (linesFrom-start text); sound = sound-none cells; held = cleared-empty before h ∙ ap (λ (past : List ℕ). netlistWords [] ++ past) (sym (cleared-past before h)) }
+reading-start rules cells text table none =
+    record { statements = []; rest = rw (linesFrom-start text); sound = sound-none cells; held = none }
 
 module _ {rules : Rules} {cells : List Cell} {text : List ℕ} {at number : ℕ} {table past : List ℕ}
     (so-far : Reading rules cells text at number table past) where
@@ -122,14 +128,19 @@ module _ {rules : Rules} {cells : List Cell} {text : List ℕ} {at number : ℕ}
 
 -- ---- what the reader answers and leaves
 
-module _ (rules : Rules) (cells : List Cell) (text before : List ℕ) (answer : Verdict) (after : List ℕ) where
-  pub left-refused : {number line n : ℕ} → textStatements rules cells text ≡ refused number line → verdictRead answer ≡ refused number line
-      → after ≡ replicate n 0 → n ≡ length before → ReadsAs (textStatements rules cells text) before answer after
-  unfolding doneRead netlistAfter
-  left-refused e said z same = record { answers = rw e said; leaves = rw (e, ← same) z }
+read-same : {A : Type 0} {x y : A} → read x ≡ read y → x ≡ y
+read-same e = cc
 
-  pub left-read : {ss : List Statement} {past : List ℕ} → textStatements rules cells text ≡ read ss → verdictRead answer ≡ read tt
-      → after ≡ netlistWords ss ++ past → past ≡ drop Size.netlist before
-      → ReadsAs (textStatements rules cells text) before answer after
-  unfolding doneRead netlistAfter
-  left-read e said words same = record { answers = rw e said; leaves = rw (e, ← same) words }
+module _ (o : Read (List Statement)) (before : List ℕ) (answer : Verdict) (after : List ℕ) where
+  pub fills-refused : {number line : ℕ} → o ≡ refused number line → verdictRead answer ≡ refused number line → Fills o before answer after
+  unfolding doneRead
+  fills-refused e said = record { answers = rw e said; filled = λ ss q. refused-read (sym e ∙ q) }
+
+  pub fills-read : {ss : List Statement} → o ≡ read ss → verdictRead answer ≡ read tt → after ≡ netlistWords ss ++ drop Size.netlist before
+      → Fills o before answer after
+  unfolding doneRead
+  fills-read e said words =
+      record {
+        answers = rw e said;
+        filled = λ ss q. words ∙ ap (λ (l : List Statement). netlistWords l ++ drop Size.netlist before) (read-same (sym e ∙ q));
+      }

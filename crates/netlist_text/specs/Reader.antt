@@ -1,12 +1,12 @@
 -- The reader of a netlist text: the pins of a line as they are gathered, and what reading a text answers and leaves.
 -- Assumes nothing.
 use mathlib.Core.Bool.{true, false, _||_}
-use mathlib.Core.List.{List, [], _∷_}
+use mathlib.Core.List.{List, [], _∷_, _++_}
 use mathlib.Core.Option.{Option, none, some}
 use mathlib.Core.Path.{_≡_}
 use Prim.Native.Nat.{ℕ}
 use lib.Dec.{ltb}
-use lib.ListN.{length}
+use lib.ListN.{length, drop}
 use Rattle.sizes.specs.Sizes as Size
 use Rattle.table.specs.Blocks.{fitted}
 use Rattle.reading.specs.Numbers as No
@@ -17,7 +17,7 @@ use Rattle.library_table.specs.Cells.{Cell}
 use Rattle.library_table.specs.Layout.{LibraryHolds, cellsIn}
 use Rattle.netlist_table.specs.declared.Rules.{Rules}
 use Rattle.netlist_table.specs.Netlist.{Statement, anyLineBad, netlist}
-use Rattle.netlist_table.specs.Layout.{netlistAfter}
+use Rattle.netlist_table.specs.Layout.{netlistWords, netlistAfter}
 use Rattle.netlist_text.specs.declared.Pins.{Pins}
 
 -- ---- pins
@@ -44,6 +44,15 @@ netlistEntry text library table =
     ((No.tableShort, ltb library Size.library || ltb table Size.netlist)
     ∷ (No.textLong, ltb Size.textBytes text)
     ∷ [])
+
+-- A table that holds no statement: zero up to its published size.
+abbrev pub NoStatements : List ℕ → Type 0
+NoStatements table = table ≡ netlistWords [] ++ drop Size.netlist table
+
+-- What a reading answers, and leaves in the table where nothing is refused; what a refusal leaves is the caller's to clear.
+pub record Fills (o : Read (List Statement)) (before : List ℕ) (verdict : Verdict) (after : List ℕ) : Type 0 where
+  pub answers : verdictRead verdict ≡ doneRead o
+  pub filled : (ss : List Statement) → o ≡ read ss → after ≡ netlistWords ss ++ drop Size.netlist before
 
 -- What a reading answers, and leaves in the lent table.
 pub record ReadsAs (o : Read (List Statement)) (before : List ℕ) (verdict : Verdict) (after : List ℕ) : Type 0 where

@@ -2,24 +2,23 @@
 // and stores, and behind them refusal 20.
 //
 // Open to others: `read_netlist`, which has no condition on its input: the library table may be any. For the crates above:
-// `read_all`, behind an entry that the caller has checked.
+// `read_all`, behind an entry that the caller has checked, into a table that holds no statement.
 ghost use mathlib.Core.Path.{_≡_};
 ghost use mathlib.Core.Bool.{true, false};
 ghost use mathlib.Core.List.{List};
 ghost use Prim.Native.Nat.{_≤_};
-ghost use lib.ListN.{length, replicate};
+ghost use lib.ListN.{length};
 ghost use Rattle.sizes.specs.Sizes as Size;
-ghost use Rattle.table.specs.Blocks.{cleared};
 ghost use Rattle.text.specs.Lines.{fields, fieldsFrom};
 ghost use Rattle.reading.specs.Refusal.{refused};
-ghost use Rattle.reading.specs.Verdict.{verdictRead};
+ghost use Rattle.reading.specs.Verdict.{verdictRead, doneRead};
 ghost use Rattle.library_table.specs.Cells.{Cell};
 ghost use Rattle.library_table.specs.Layout.{CellsTold};
 ghost use Rattle.netlist_table.specs.Netlist.{Mark, Statement, kindOf, declaring, lone, markOf, gateOf, rangeOf, statementOf, decimals, textStatements, declared, netlist};
 ghost use Rattle.netlist_table.specs.Layout.{NetlistHolds};
 ghost use Rattle.netlist_table.specs.Admission.{IsMark, StandsFor, Admits};
 ghost use Rattle.netlist_table.specs.Sound.{Sound};
-ghost use Rattle.netlist_text.specs.Reader.{PinsRead, netlistEntry, ReadsAs, ReadsNetlist};
+ghost use Rattle.netlist_text.specs.Reader.{PinsRead, netlistEntry, NoStatements, Fills, ReadsAs, ReadsNetlist};
 use library_table::cells::find;
 use library_table::cells::told;
 use netlist_table::RawStatement;
@@ -229,11 +228,9 @@ fn read_line(rules: Rules, line: &[u8], library: &[u32], table: &mut [u32]) -> u
 
 // ---- the text
 
-fn refusal(table: &mut [u32], number: u32, line: usize) -> Verdict
-    ensures { λ r. ⌜ (verdictRead r ≡ refused number line)
-        × (now (table .exit) ≡ replicate (length (now (table .entry))) 0) ⌝ }
+fn refusal(number: u32, line: usize) -> Verdict
+    ensures { λ r. ⌜ verdictRead r ≡ refused number line ⌝ }
 {
-    clear(table, table.len());
     Verdict::Refused(Refusal {
         number: number,
         line: line,
@@ -241,13 +238,11 @@ fn refusal(table: &mut [u32], number: u32, line: usize) -> Verdict
 }
 
 // Reads the lines of a text against the cells of a library table.
-fn read_lines(rules: Rules, text: &[u8], library: &[u32], table: &mut [u32], used: usize) -> Verdict
-    requires { ⌜ (length (now text) ≤ Size.textBytes) × (Size.netlist ≤ length (now table))
-        × (cleared used (now table) ≡ cleared Size.netlist (now table)) ⌝ }
+fn read_lines(rules: Rules, text: &[u8], library: &[u32], table: &mut [u32]) -> Verdict
+    requires { ⌜ (length (now text) ≤ Size.textBytes) × NoStatements (now table) ⌝ }
     ensures { λ r. ⌜ ((cells : List Cell) → CellsTold (now (library .entry)) cells
-        → ReadsAs (textStatements rules cells (now (text .entry))) (now (table .entry)) r (now (table .exit))) ⌝ }
+        → Fills (textStatements rules cells (now (text .entry))) (now (table .entry)) r (now (table .exit))) ⌝ }
 {
-    clear(table, used);
     let n = text.len();
     let mut at = 0;
     let mut number: usize = 1;
@@ -255,11 +250,11 @@ fn read_lines(rules: Rules, text: &[u8], library: &[u32], table: &mut [u32], use
         let l = line(text, at);
         let end = after(text, at, l);
         if n < end {
-            return refusal(table, reading::NETLIST_FORM, number);
+            return refusal(reading::NETLIST_FORM, number);
         }
         let cause = read_line(rules, l, library, table);
         if cause != 0 {
-            return refusal(table, cause, number);
+            return refusal(cause, number);
         }
         at = end;
         number += 1;
@@ -268,35 +263,44 @@ fn read_lines(rules: Rules, text: &[u8], library: &[u32], table: &mut [u32], use
 }
 
 // What comes behind the lines of a text: the new rules ask that each line read or marked is driven or open.
-fn declare(rules: Rules, table: &mut [u32]) -> Verdict
+fn declare(rules: Rules, table: &[u32]) -> Verdict
     ensures { λ r. ⌜ ((cells : List Cell) (ss : List Statement) → Sound cells ss → NetlistHolds (now (table .entry)) ss
-        → ReadsAs (declared rules ss) (now (table .entry)) r (now (table .exit))) ⌝ }
+        → verdictRead r ≡ doneRead (declared rules ss)) ⌝ }
 {
     let asked = declaring(rules) & some_undeclared(table);
     if asked {
-        return refusal(table, reading::UNDECLARED, 0);
+        return refusal(reading::UNDECLARED, 0);
     }
     Verdict::Accepted
 }
 
-// The lines of a text, and what comes behind them, into a table that may have other numbers than 0 in its first `used` places,
-// and past its published size.
-pub fn read_all(
-    rules: Rules,
-    text: &[u8],
-    library: &[u32],
-    table: &mut [u32],
-    used: usize,
-) -> Verdict
-    requires { ⌜ (length (now text) ≤ Size.textBytes) × (Size.netlist ≤ length (now table))
-        × (cleared used (now table) ≡ cleared Size.netlist (now table)) ⌝ }
+// The lines of a text, and what comes behind them, into a table that holds no statement.
+pub fn read_all(rules: Rules, text: &[u8], library: &[u32], table: &mut [u32]) -> Verdict
+    requires { ⌜ (length (now text) ≤ Size.textBytes) × NoStatements (now table) ⌝ }
     ensures { λ r. ⌜ ((cells : List Cell) → CellsTold (now (library .entry)) cells
-        → ReadsAs (netlist rules cells (now (text .entry))) (now (table .entry)) r (now (table .exit))) ⌝ }
+        → Fills (netlist rules cells (now (text .entry))) (now (table .entry)) r (now (table .exit))) ⌝ }
 {
-    let lines = read_lines(rules, text, library, table, used);
+    let lines = read_lines(rules, text, library, table);
     match lines {
         Verdict::Refused(_) => lines,
         Verdict::Accepted => declare(rules, table),
+    }
+}
+
+// Behind the entry: the table is cleared before the first line, and whole where the text is refused.
+fn fill(rules: Rules, text: &[u8], library: &[u32], table: &mut [u32]) -> Verdict
+    requires { ⌜ (length (now text) ≤ Size.textBytes) × (Size.netlist ≤ length (now table)) ⌝ }
+    ensures { λ r. ⌜ ((cells : List Cell) → CellsTold (now (library .entry)) cells
+        → ReadsAs (netlist rules cells (now (text .entry))) (now (table .entry)) r (now (table .exit))) ⌝ }
+{
+    clear(table, sizes::NETLIST);
+    let answer = read_all(rules, text, library, table);
+    match answer {
+        Verdict::Accepted => answer,
+        Verdict::Refused(_) => {
+            clear(table, table.len());
+            answer
+        }
     }
 }
 
@@ -331,6 +335,6 @@ pub fn read_netlist(rules: Rules, text: &[u8], library: &[u32], table: &mut [u32
     let entered = entry(text.len(), library.len(), table.len());
     match entered {
         Verdict::Refused(_) => entered,
-        Verdict::Accepted => read_all(rules, text, told(library), table, sizes::NETLIST),
+        Verdict::Accepted => fill(rules, text, told(library), table),
     }
 }

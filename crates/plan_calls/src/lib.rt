@@ -4,6 +4,7 @@
 // value and a kind; `put_plan`, what the program prints. They have no condition on their input;
 // specs/Promise.antt and specs/Printed.antt say what they promise. For the crates above: `write_plan_into`.
 use analysis_texts::Progress;
+use analysis_texts::Tables;
 use analysis_texts::clear_all;
 use analysis_texts::read_texts;
 use cost::MOST;
@@ -18,13 +19,13 @@ use writer::Written;
 ghost use mathlib.Core.List.{List};
 ghost use mathlib.Core.Path.{_≡_};
 ghost use Rattle.sizes.specs.Sizes as Size;
-ghost use Rattle.table.specs.Blocks.{cleared};
 ghost use Rattle.writer.specs.Buffer.{writtenRead};
 ghost use Rattle.library_table.specs.Cells.{Cell};
 ghost use Rattle.netlist_table.specs.Netlist.{Statement};
 ghost use Rattle.calculation.specs.Stored.{Holds, Ready, HoldsAnalysis, SomeAnalysis};
 ghost use Rattle.demands.specs.Answer.{lentOf};
 ghost use Rattle.demands.specs.Outcome.{givenTexts};
+ghost use Rattle.analysis_texts.specs.Tables.{ZeroIfOwn};
 ghost use Rattle.plan_calls.specs.Parts.{PlanMade};
 ghost use Rattle.plan_calls.specs.Printed.{PlanPrinted};
 ghost use Rattle.plan_calls.specs.Promise.{known, askedNumber, PlanConcluded, PlanPromised};
@@ -93,7 +94,7 @@ fn calculate_plan(
     conclude_plan(library, netlist, numbers, text, line, value, kind)
 }
 
-// As `write_plan`, on tables of which `analysis_texts::read_texts` asks the same.
+// As `write_plan`, where the library and the netlist table may be the caller's own.
 pub fn write_plan_into(
     lib: &[u8],
     net: &[u8],
@@ -104,11 +105,9 @@ pub fn write_plan_into(
     line: usize,
     value: usize,
     kind: usize,
-    library_used: usize,
-    netlist_used: usize,
+    tables: Tables,
 ) -> Written
-    requires { ⌜ (cleared «library_used» (now library) ≡ cleared Size.library (now library))
-        × (cleared «netlist_used» (now netlist) ≡ cleared Size.netlist (now netlist)) ⌝ }
+    requires { ⌜ ZeroIfOwn tables Size.library (now library) × ZeroIfOwn tables Size.netlist (now netlist) ⌝ }
     ensures { λ r. ⌜ PlanPromised (givenTexts (now (lib .entry)) (now (net .entry)))
         (lentOf (now (library .entry)) (now (netlist .entry)) (now (numbers .entry)) (now (text .entry)))
         (lentOf (now (library .exit)) (now (netlist .exit)) (now (numbers .exit)) (now (text .exit)))
@@ -121,8 +120,7 @@ pub fn write_plan_into(
         library,
         netlist,
         numbers.len(),
-        library_used,
-        netlist_used,
+        tables,
     );
     match progress {
         Progress::AtEntry(r) => Written::Refused(r),
@@ -163,8 +161,7 @@ pub fn write_plan(
         line,
         value,
         kind,
-        sizes::LIBRARY,
-        sizes::NETLIST,
+        Tables::Lent,
     )
 }
 
@@ -193,8 +190,7 @@ pub fn put_plan(
         line,
         value,
         kind,
-        0,
-        0,
+        Tables::Own,
     );
     writer::show(text, written)
 }

@@ -9,6 +9,7 @@
 use advice_calls::Advised;
 use advice_calls::Ranked;
 use analysis_texts::Progress;
+use analysis_texts::Tables;
 use analysis_texts::read_texts;
 use budget_call::Steps;
 use calculation::Advice;
@@ -65,8 +66,6 @@ pub extern "C" fn scoap_report(lib: &[u8], net: &[u8], report: &mut [u8]) -> u64
         &mut netlist,
         &mut numbers,
         report,
-        0,
-        0,
     );
     answer_code(answer)
 }
@@ -136,8 +135,7 @@ pub extern "C" fn scoap_plan(
         line as usize,
         value as usize,
         kind as usize,
-        0,
-        0,
+        Tables::Own,
     );
     let told = limit_plan(text, written);
     writer::code(told)
@@ -158,8 +156,7 @@ pub extern "C" fn scoap_qualifies(lib: &[u8], net: &[u8]) -> u64
         &mut library,
         &mut netlist,
         sizes::NUMBERS,
-        0,
-        0,
+        Tables::Own,
     );
     match progress {
         Progress::AtEntry(r) => refusal_code(r),

@@ -7,6 +7,7 @@
 // `sizes::STANDING` and `sizes::OBSERVED`.
 // What they are made of: crate `standing_texts` reads what is lent, crate `standing_table` runs and stores.
 use analysis_call::analyse_into;
+use analysis_texts::Tables;
 use calculation::Counts;
 use demands::Answer;
 use reading::Refusal;
@@ -69,8 +70,7 @@ pub fn stand(lib: &[u8], net: &[u8], standing: &mut [u32], report: &mut [u8]) ->
         &mut netlist,
         &mut numbers,
         report,
-        0,
-        0,
+        Tables::Own,
     );
     match answer {
         Answer::Refused(r) => {

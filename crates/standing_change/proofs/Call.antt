@@ -1,7 +1,7 @@
 -- Reading the netlist again, reading the new library, and the call, from what their parts leave.
 -- Assumes nothing.
 use mathlib.Core.Bool.{Bool, true, false, not, _||_, or-true}
-use mathlib.Core.List.{List, []}
+use mathlib.Core.List.{List, [], _++_}
 use mathlib.Core.Path.{_≡_, refl, sym, ap, subst, _∙_}
 use Prim.Native.Nat.{ℕ, _≤_, _<_}
 use native.Mathlib.Omega.{arith}
@@ -19,16 +19,16 @@ use Rattle.reading.specs.declared.Verdict.the-variants.{Accepted, Refused}
 use Rattle.reading.proofs.Laws.{or-left, or-right, weigh-one, refused-read, bind-read, then-read, done-read, done-refused}
 use Rattle.library_table.specs.Cells.{Cell}
 use Rattle.library_table.specs.Library.{library}
-use Rattle.library_table.specs.Layout.{libraryAfter, CellsTold}
+use Rattle.library_table.specs.Layout.{libraryWords, CellsTold}
 use Rattle.library_table.proofs.Laws.{library-sound, sound-fits}
 use Rattle.library_table.proofs.Names.{holds-told}
 use Rattle.netlist_table.specs.declared.Rules.the-variants.{New}
 use Rattle.netlist_table.specs.Netlist.{Statement, netlist}
-use Rattle.netlist_table.specs.Layout.{netlistWords, netlistAfter}
+use Rattle.netlist_table.specs.Layout.{netlistWords}
 use Rattle.netlist_table.proofs.Laws.{netlist-sound}
 use Rattle.netlist_table.proofs.Places.{length-netlistWords}
 use Rattle.netlist_table.proofs.Reread.{text-rereadable}
-use Rattle.netlist_text.specs.Reader.{ReadsAs}
+use Rattle.netlist_text.specs.Reader.{Fills}
 use Rattle.calculation.specs.Growth.{grown}
 use Rattle.calculation.specs.Pads.{padded, State, statementsOf, placeable}
 use Rattle.calculation.specs.Stored.{Holds, Ready}
@@ -84,8 +84,8 @@ again-fits net library netlist table s =
     }
 
 module _ (net library before table : List ℕ) (v : Verdict) (after : List ℕ)
-    (ensures : (cells : List Cell) → CellsTold library cells → ReadsAs (netlist New cells net) before v after) where
-  lines-read : (cells : List Cell) → HoldsCells library cells → ReadsAs (netlist New cells net) before v after
+    (ensures : (cells : List Cell) → CellsTold library cells → Fills (netlist New cells net) before v after) where
+  lines-read : (cells : List Cell) → HoldsCells library cells → Fills (netlist New cells net) before v after
   lines-read cells h = ensures cells (holds-told library cells (record { past = h .past; words = h .stand; fits = sound-fits cells (h .sound) }))
 
   pub again-stopped : (r : Refusal) → v ≡ Refused r → (cells : List Cell) → HoldsCells library cells → ReadAgain net library cells table after (verdictRead v)
@@ -107,14 +107,14 @@ module _ (net library before table : List ℕ) (v : Verdict) (after : List ℕ)
             behind = h .past;
             past = drop Size.netlist before;
             cellsStand = h .stand;
-            statementsStand = lines-read cells h .leaves ∙ unfold netlistAfter in rw n;
+            statementsStand = lines-read cells h .filled ss n;
             sound = record { library = h .sound; netlist = netlist-sound cells New net ss n };
           }
 
 -- ---- the new library
 
 module _ (new net zeros more′ : List ℕ) (v : Verdict) (answered : verdictRead v ≡ doneRead (library new))
-    (leaves : more′ ≡ libraryAfter (library new) zeros) where
+    (filled : (cells : List Cell) → library new ≡ read cells → more′ ≡ libraryWords cells ++ drop Size.library zeros) where
   pub new-refused : (s : State) (table : List ℕ) (r : Refusal) → v ≡ Refused r → Changes (changedBy (givenTexts new net) s) table table (refused (r .number) (r .line))
   new-refused s table r e =
       let n = done-refused (library new) (r .number) (r .line) (unfold verdictRead in rw e at answered) in
@@ -123,7 +123,7 @@ module _ (new net zeros more′ : List ℕ) (v : Verdict) (answered : verdictRea
   pub new-read : {B : Type 0} → v ≡ Accepted → ((cells : List Cell) → library new ≡ read cells → HoldsCells more′ cells → B) → B
   new-read e on =
       done-read (library new) (unfold verdictRead in rw e at answered)
-      (λ cells n. on cells n (record { past = drop Size.library zeros; stand = leaves ∙ unfold libraryAfter in rw n; sound = library-sound new cells n }))
+      (λ cells n. on cells n (record { past = drop Size.library zeros; stand = filled cells n; sound = library-sound new cells n }))
 
   pub new-changed : (s : State) (table after : List ℕ) (said : Read Bool) (cells : List Cell) → library new ≡ read cells
       → Changes (changed s cells (readUnder cells net)) table after said → Changes (changedBy (givenTexts new net) s) table after said

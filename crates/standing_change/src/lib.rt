@@ -4,7 +4,7 @@
 // leaves, specs/Promise.antt what that means of a standing analysis.
 use calculation::Counts;
 use library_growth::grown_at;
-use library_text::fill;
+use library_text::lines::read_lines;
 use netlist_table::Rules;
 use netlist_text::read_all;
 use reading::Refusal;
@@ -18,6 +18,7 @@ use sweep_reruns::go_on;
 use sweep_runs::calculate;
 use sweep_start::LOW;
 use sweep_sums::kinds::wide;
+use table::clear;
 use table::word;
 ghost use mathlib.Core.List.{List};
 ghost use mathlib.Core.Path.{_≡_};
@@ -112,7 +113,8 @@ fn read_again(net: &[u8], library: &[u32], netlist: &mut [u32], standing: &[u32]
         → ReadAgain (now (net .entry)) (now (library .entry)) cells (now (standing .entry)) (now (netlist .exit))
         (verdictRead r)) ⌝ }
 {
-    let read = read_all(Rules::New, net, library, netlist, sizes::NETLIST);
+    clear(netlist, sizes::NETLIST);
+    let read = read_all(Rules::New, net, library, netlist);
     match read {
         Verdict::Refused(_) => read,
         Verdict::Accepted => mark_pads(library, netlist, standing),
@@ -165,7 +167,7 @@ fn change_held(
         (now (standing .exit)) (changedRead r)) ⌝ }
 {
     let mut more = [0u32; sizes::LIBRARY];
-    let cells = fill(new_lib, &mut more, 0);
+    let cells = read_lines(new_lib, &mut more);
     match cells {
         Verdict::Refused(r) => Changed::Refused(r),
         Verdict::Accepted => change_to(net, library, &more, netlist, standing),

@@ -9,7 +9,6 @@ use borrow.Author.Tests.{le-ltb, not-false}
 use lib.Dec.{ltb}
 use lib.ListN.{length, replicate, length-replicate}
 use Rattle.sizes.specs.Sizes as Size
-use Rattle.table.specs.Blocks.{cleared}
 use Rattle.reading.specs.Choice.{pick}
 use Rattle.reading.specs.Numbers as No
 use Rattle.reading.specs.Refusal.{Read, refused, read, _>>=_, _>>_, weigh}
@@ -27,11 +26,11 @@ use Rattle.demands.specs.Outcome.{Given, Pair, readPair, givenBy, givenTexts, t
 use Rattle.demands.proofs.Given.{Checked}
 use Rattle.analysis_texts.specs.declared.Progress.{Progress}
 use Rattle.analysis_texts.specs.declared.Progress.the-variants.{Unrefused, AtEntry, Later}
+use Rattle.analysis_texts.specs.Tables.{Zero}
 use Rattle.analysis_texts.specs.Progress.{Reached}
-use Rattle.analysis_texts.proofs.Own.{zeros-cleared}
 use Rattle.analysis_texts.proofs.Reached.{stands-hold}
 use Rattle.standing_texts.specs.Held.{entered, foreign, heldBy, padCauses}
-use Rattle.standing_texts.specs.Parts.{PadTried, PadsJudged, Zero, TextsRead, HeldRead, PadRead}
+use Rattle.standing_texts.specs.Parts.{PadTried, PadsJudged, TextsRead, HeldRead, PadRead}
 use Rattle.standing_table.specs.StandingTable.{stateHeld}
 
 -- ---- one step behind another
@@ -83,9 +82,6 @@ module _ (g : Given) (checks : Checked g) (library netlist library′ netlist′
       }
 
 -- ---- two texts, into tables that are zero
-
-pub zero-cleared : (xs : List ℕ) (n : ℕ) → xs ≡ replicate n 0 → cleared 0 xs ≡ cleared n xs
-zero-cleared xs n e = rw e (zeros-cleared n)
 
 zero-fits : (xs : List ℕ) (n : ℕ) → xs ≡ replicate n 0 → ltb (length xs) n ≡ false
 zero-fits xs n e = le-ltb (length xs) n (le-of-eq (sym (ap length e ∙ length-replicate {A = ℕ} n 0)))

@@ -4,8 +4,6 @@ use mathlib.Core.Bool.{Bool, true, false, not}
 use mathlib.Core.List.{List, [], _∷_, _++_}
 use mathlib.Core.Path.{_≡_}
 use Prim.Native.Nat.{ℕ}
-use lib.ListN.{replicate}
-use Rattle.sizes.specs.Sizes as Size
 use Rattle.reading.specs.Numbers as No
 use Rattle.reading.specs.Refusal.{Read, read, _>>=_, _>>_, weigh}
 use Rattle.reading.specs.Verdict.{doneRead}
@@ -33,11 +31,6 @@ pub record PadsJudged (library : List ℕ) (cells : List Cell) (ss : List Statem
     : Type 0 where
   pub answers : said ≡ weigh 0 ((No.unpaddable, foreign (stateHeld cells ss table)) ∷ [])
   pub holds : said ≡ read tt → Holds library netlist′ cells (statementsOf (stateHeld cells ss table))
-
--- Tables of its own, of which no place is used yet.
-pub record Zero (library netlist : List ℕ) : Type 0 where
-  pub cells : library ≡ replicate Size.library 0
-  pub statements : netlist ≡ replicate Size.netlist 0
 
 -- Both texts.
 pub record TextsRead (g : Given) (library′ netlist′ : List ℕ) (said : Read (Unit {0})) : Type 0 where

@@ -4,6 +4,7 @@
 // For the crates above, each with what it asks and leaves (specs/Parts.antt): `mark_pads`, the pads of a standing table in a
 // netlist table; `read_held`, both texts and these pads; `read_pad`, one pad more, whose ticket may be stale; `refusal`.
 use analysis_texts::Progress;
+use analysis_texts::Tables;
 use netlist_table::RawStatement;
 use netlist_table::Rules;
 use reading::Refusal;
@@ -26,7 +27,8 @@ ghost use Rattle.netlist_table.specs.Admission.{IsMark};
 ghost use Rattle.calculation.specs.Stored.{Holds};
 ghost use Rattle.demands.specs.Outcome.{givenTexts};
 ghost use Rattle.standing_texts.specs.Held.{padCauses};
-ghost use Rattle.standing_texts.specs.Parts.{PadTried, PadsTried, PadsJudged, Zero, TextsRead, HeldRead, PadRead};
+ghost use Rattle.analysis_texts.specs.Tables.{Zero};
+ghost use Rattle.standing_texts.specs.Parts.{PadTried, PadsTried, PadsJudged, TextsRead, HeldRead, PadRead};
 
 // ---- the netlist table with pads
 
@@ -122,8 +124,7 @@ fn read_both(lib: &[u8], net: &[u8], library: &mut [u32], netlist: &mut [u32]) -
         library,
         netlist,
         sizes::NUMBERS,
-        0,
-        0,
+        Tables::Own,
     );
     match progress {
         Progress::AtEntry(r) => Verdict::Refused(r),

@@ -3,7 +3,7 @@ use mathlib.Core.Path.{_∙_}
 use denote.Ref.{now}
 use Rattle.reading.specs.Verdict.{verdictRead}
 use Rattle.table.proofs.Places.{cleared-all}
-use Rattle.advice_calls.proofs.Texts.{zero-cleared, short-read, entry-read, later-read, both-read}
+use Rattle.advice_calls.proofs.Texts.{short-read, entry-read, later-read, both-read}
 use borrow.Author.Needs.{needs}
 use Rattle.advice_calls.proofs.read_into.Statement.{statement}
 use Rattle.advice_calls.proofs.read_into.Tie as tie
@@ -59,7 +59,7 @@ read-into-spec =
     tie.close
     (tie.spec
     returns
-    (λ c κs. zero-cleared (began (c .before .before .before) .pre))
+    (λ c κs. let z = began (c .before .before .before) .pre in (z .cells, z .statements))
     (λ c. search needs)
     (λ c. search needs)
     (λ c κs. search needs)

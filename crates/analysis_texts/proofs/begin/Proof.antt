@@ -1,5 +1,17 @@
 -- `begin` reads the library text behind the entry. Assumes nothing.
+use mathlib.Core.List.{List, _++_}
+use mathlib.Core.Path.{_≡_, sym, ap, subst, _∙_}
+use Prim.Native.Nat.{ℕ}
+use lib.ListN.{length, drop}
 use denote.Ref.{now}
+use Rattle.sizes.specs.Sizes as Size
+use Rattle.reading.specs.Refusal.{read}
+use Rattle.library_table.specs.Cells.{Cell}
+use Rattle.library_table.specs.Library.{library}
+use Rattle.library_table.specs.Layout.{libraryWords}
+use Rattle.library_text.specs.Walk.{NoCells}
+use Rattle.library_text.proofs.Walks.{cleared-past, cleared-none}
+use Rattle.demands.proofs.EntryChecks.{Entered}
 use Rattle.analysis_texts.proofs.EntryChecks.{begun-entry, fits, begun-later, begun-unrefused}
 use borrow.Author.Needs.{needs}
 use Rattle.analysis_texts.proofs.begin.Statement.{statement}
@@ -13,16 +25,39 @@ begins c = c .before .before .before
 abbrev accepted : tie.After-enum-told → tie.After-entry
 accepted c = c .before .before
 
-abbrev library-read : tie.After-slice-known2 → tie.After-fill
+abbrev clears : tie.After-clear-lent → tie.After-enum-told
+clears c = c .before .before
+
+abbrev empties : tie.After-read-lines → tie.After-clear-lent
+empties c = c .before .before .before .before
+
+abbrev library-read : tie.After-slice-known3 → tie.After-read-lines
 library-read c = c .before .before
 
--- What the entry has checked is what `fill` requires.
-fill-requires : tie.Need-fill-requires
-fill-requires c κs =
-    let v = accepted (c .before) in
+-- What the entry has checked.
+checked : (c : tie.After-enum-told)
+    → let a = begins (accepted c) .args in
+    Entered (length (now (a .lib))) (a .net) (length (now (a .library))) (a .netlist) (a .numbers)
+checked c =
+    let v = accepted c in
     let a = begins v .args in
-    let e = fits (now (a .lib)) (a .net) (now (a .library)) (a .netlist) (a .numbers) (v .entry .result) (v .entry .ensures) (search needs) in
-    (e .lib-short, e .library-long, begins v .pre)
+    fits (now (a .lib)) (a .net) (now (a .library)) (a .netlist) (a .numbers) (v .entry .result) (v .entry .ensures) (search needs)
+
+read-lines-requires : tie.Need-read-lines-requires
+read-lines-requires c κs =
+    let k = c .before .before .before in
+    let e = checked (clears k) in
+    (e .lib-short, subst NoCells (sym (k .clear-lent .ensures)) (cleared-none (now (begins (accepted (clears k)) .args .library)) (e .library-long)))
+
+-- What is read stands before what stood past the published size.
+filled : (c : tie.After-read-lines)
+    → let a = begins (accepted (clears (empties c))) .args in
+    (cells : List Cell) → library (now (a .lib)) ≡ read cells → c .read-lines .last .1 .0 ≡ libraryWords cells ++ drop Size.library (now (a .library))
+filled c cells e =
+    let k = empties c in
+    c .read-lines .ensures .1 cells e
+    ∙ ap (λ (l : List ℕ). libraryWords cells ++ l)
+    (ap (drop Size.library) (k .clear-lent .ensures) ∙ cleared-past (now (begins (accepted (clears k)) .args .library)) (checked (clears k) .library-long))
 
 returns : tie.Need-returns
 returns c =
@@ -33,18 +68,18 @@ returns c =
 returns-2 : tie.Need-returns-2
 returns-2 c =
     let r = library-read (c .before .before .before) in
-    let v = accepted (r .before .before) in
+    let v = accepted (clears (empties r)) in
     let a = begins v .args in
     begun-later (now (a .lib)) (a .net) (now (a .library)) (a .netlist) (a .numbers) (v .entry .result) (v .entry .ensures) (search needs)
-    (r .fill .result) _ (r .fill .ensures .0) (r .fill .ensures .1) _ (search needs)
+    (r .read-lines .result) _ (r .read-lines .ensures .0) (filled r) _ (search needs)
 
 returns-3 : tie.Need-returns-3
 returns-3 c =
     let r = library-read (c .before .before) in
-    let v = accepted (r .before .before) in
+    let v = accepted (clears (empties r)) in
     let a = begins v .args in
     begun-unrefused (now (a .lib)) (a .net) (now (a .library)) (a .netlist) (a .numbers) (v .entry .result) (v .entry .ensures) (search needs)
-    (r .fill .result) _ (r .fill .ensures .0) (r .fill .ensures .1) (search needs)
+    (r .read-lines .result) _ (r .read-lines .ensures .0) (filled r) (search needs)
 
 pub begin-spec : {M : Type 1} → statement M
 begin-spec =
@@ -53,7 +88,8 @@ begin-spec =
     (λ c κs. search needs)
     (λ c. search needs)
     (λ c. search needs)
-    fill-requires
+    (λ c κs. begins (accepted (c .before)) .pre)
+    read-lines-requires
     (λ c. search needs)
     (λ c. search needs)
     returns

@@ -1,10 +1,8 @@
 -- `best_within`: the entry and both texts, then the run. Assumes nothing.
-use mathlib.Core.Path.{_∙_}
+use mathlib.Core.Path.{refl, _∙_}
 use denote.Ref.{now}
 use borrow.Author.Needs.{needs}
-use Rattle.sizes.specs.Sizes as Size
 use Rattle.table.proofs.Places.{cleared-all}
-use Rattle.analysis_texts.proofs.Own.{zeros-cleared}
 use Rattle.budget_call.specs.Promise.{stepsRead}
 use Rattle.budget_call.proofs.Promise.{call-short, call-entry, call-later, fill-fits, call-made}
 use Rattle.budget_call.proofs.best_within.Statement.{statement}
@@ -71,7 +69,7 @@ best-within-spec =
     returns
     (λ c. search needs)
     (λ c. search needs)
-    (λ c κs. (zeros-cleared Size.library, zeros-cleared Size.netlist))
+    (λ c κs. (refl, refl))
     (λ c. search needs)
     (λ c. search needs)
     (λ c κs. search needs)

@@ -1,7 +1,5 @@
 -- `fill` meets its contract. Assumes nothing.
-use mathlib.Core.List.{List, [], _++_}
-use mathlib.Core.Path.{_≡_, refl, sym, ap, _∙_}
-use Prim.Native.Nat.{ℕ}
+use mathlib.Core.Path.{_≡_, refl, sym, ap, subst, _∙_}
 use lib.ListN.{length, drop}
 use Rattle.sizes.specs.Sizes as Size
 use Rattle.table.proofs.Places.{cleared-all}
@@ -9,8 +7,9 @@ use Rattle.reading.specs.Refusal.{refused, read}
 use Rattle.reading.specs.Verdict.{verdictRead, doneRead}
 use Rattle.reading.proofs.Laws.{done-read, done-refused}
 use Rattle.library_table.specs.Library.{library}
-use Rattle.library_table.specs.Layout.{libraryWords, libraryAfter}
-use Rattle.library_text.proofs.Walks.{cleared-empty, past-size}
+use Rattle.library_table.specs.Layout.{libraryAfter}
+use Rattle.library_text.specs.Walk.{NoCells}
+use Rattle.library_text.proofs.Walks.{cleared-past, cleared-none}
 use borrow.Author.Needs.{needs}
 use Rattle.library_text.proofs.fill.Statement.{statement}
 use Rattle.library_text.proofs.fill.Tie as tie
@@ -29,17 +28,13 @@ accepted c = c .before .before .before .before
 abbrev stopped : tie.After-enum-told2 → tie.After-read-lines
 stopped c = c .before .before .before .before
 
--- The table holds no cell before the first line is read.
-empty : (c : tie.After-clear) → c .clear .last .0 ≡ libraryWords [] ++ drop Size.library (begun c .args .table .now)
-empty c = c .clear .ensures ∙ begun c .pre .2 ∙ cleared-empty (begun c .args .table .now) (begun c .pre .1)
-
 kept : (c : tie.After-clear) → drop Size.library (c .clear .last .0) ≡ drop Size.library (begun c .args .table .now)
-kept c = ap (drop Size.library) (empty c) ∙ past-size [] (drop Size.library (begun c .args .table .now))
+kept c = ap (drop Size.library) (c .clear .ensures) ∙ cleared-past (begun c .args .table .now) (begun c .pre .1)
 
 read-lines-requires : tie.Need-read-lines-requires
 read-lines-requires c κs =
     let t = c .before .before .before in
-    (begun t .pre .0, empty t ∙ ap (λ (l : List ℕ). libraryWords [] ++ l) (sym (kept t)))
+    (begun t .pre .0, subst NoCells (sym (t .clear .ensures)) (cleared-none (begun t .args .table .now) (begun t .pre .1)))
 
 returns : tie.Need-returns
 unfolding verdictRead libraryAfter

@@ -1,10 +1,8 @@
 -- `put_copy` puts the copy, or the refusal, into the buffer. Assumes nothing.
-use mathlib.Core.Path.{_≡_}
+use mathlib.Core.Path.{_≡_, refl}
 use native.Mathlib.Omega.{arith}
 use denote.Ref.{now}
 use lib.ListN.{length}
-use Rattle.sizes.specs.Sizes as Size
-use Rattle.analysis_texts.proofs.Own.{zeros-cleared}
 use Rattle.netlist_open.specs.Copied.{copyBytes}
 use Rattle.netlist_open.proofs.Opens.{put-refused, put-accepted, at-entry, later, both-old}
 use borrow.Author.Needs.{needs}
@@ -51,7 +49,7 @@ put-copy-spec =
     (tie.spec
     (λ c. search needs)
     (λ c. search needs)
-    (λ c κs. (zeros-cleared Size.library, zeros-cleared Size.netlist))
+    (λ c κs. (refl, refl))
     (λ c. search needs)
     (λ c κs. search needs)
     (λ c. search needs)

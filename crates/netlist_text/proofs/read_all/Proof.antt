@@ -25,11 +25,10 @@ returns c cells lib =
 
 returns-2 : tie.Need-returns-2
 returns-2 c cells lib =
-    let d = c .before .before in
-    let r = reads (accepted d) in
+    let r = reads (accepted c) in
     let a = begins r .args in
     all-read (a .rules) cells (now (a .text)) (now (a .table)) (r .read-lines .result) _ (r .read-lines .ensures cells lib)
-    (search needs) (search needs) (d .declare .result) _ (d .declare .ensures cells)
+    (search needs) (c .declare .result) (c .declare .ensures cells)
 
 pub read-all-spec : {M : Type 1} → statement M
 read-all-spec =

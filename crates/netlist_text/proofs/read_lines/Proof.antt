@@ -5,15 +5,13 @@ use Prim.Native.Nat.{ℕ, _+_, _-_, _≤_, _<_}
 use native.Mathlib.Omega.{arith}
 use lib.ListN.{length, drop}
 use Rattle.sizes.specs.Sizes as Size
-use Rattle.table.specs.Blocks as T
 use Rattle.text.specs.Lines.{part, fields, nextAfter}
 use Rattle.reading.specs.Verdict.{verdictRead}
 use Rattle.library_table.specs.Cells.{Cell}
-use Rattle.netlist_table.specs.Netlist.{statementOf}
+use Rattle.netlist_table.specs.Netlist.{statementOf, textStatements}
 use Rattle.netlist_table.specs.Admission.{Decided}
 use Rattle.library_table.specs.Layout.{CellsTold}
 use Rattle.netlist_text.proofs.Walk.{
-  cleared-past,
   Reading,
   holding,
   line-ended,
@@ -26,55 +24,42 @@ use Rattle.netlist_text.proofs.Walk.{
   reading-refused,
   reading-unended,
   reading-end,
-  left-refused,
-  left-read,
+  fills-refused,
+  fills-read,
 }
 use Rattle.netlist_text.proofs.read_lines.Statement.{statement}
 use Rattle.netlist_text.proofs.read_lines.Tie as tie
 
 abbrev Inv-loop : tie.InvT-loop
-Inv-loop rules text library table₀ used n at₀ number₀ table at number =
+Inv-loop rules text library table₀ n at₀ number₀ table at number =
     (at ≤ length text)
     × (number ≤ at + 1)
     × (length table ≡ length table₀)
     × ((cells : List Cell) → CellsTold library cells → Reading rules cells text at number table (drop Size.netlist table₀))
 
 abbrev μ-loop : tie.MeasureT-loop
-μ-loop rules text library table₀ used n at₀ number₀ table at number = length text - at
+μ-loop rules text library table₀ n at₀ number₀ table at number = length text - at
 
 -- ---- the places of the code that the answers speak of
 
-abbrev begun : tie.After-clear Inv-loop μ-loop → tie.Start Inv-loop μ-loop
-begun c = c .before .before .before .before .before
-
--- The table is zero up to its published size before the first line is read.
-cleared-front : (c : tie.After-clear Inv-loop μ-loop) → c .clear .last .0 ≡ T.cleared Size.netlist (begun c .args .table .now)
-cleared-front c = c .clear .ensures ∙ begun c .pre .2
-
-abbrev cleared : tie.At-loop Inv-loop μ-loop → tie.After-clear Inv-loop μ-loop
-cleared c = c .before .before .before
+abbrev begun : tie.At-loop Inv-loop μ-loop → tie.Start Inv-loop μ-loop
+begun c = c .before .before .before .before
 
 abbrev walking : tie.After-after Inv-loop μ-loop → tie.At-loop Inv-loop μ-loop
 walking c = c .before .before .before
 
-abbrev read : tie.After-slice-known4 Inv-loop μ-loop → tie.After-read-line Inv-loop μ-loop
+abbrev read : tie.After-slice-known2 Inv-loop μ-loop → tie.After-read-line Inv-loop μ-loop
 read c = c .before .before
 
 abbrev ended : tie.After-read-line Inv-loop μ-loop → tie.Else1 Inv-loop μ-loop
 ended c = c .before .before
 
-abbrev refused-at : tie.After-slice-known5 Inv-loop μ-loop → tie.Then2 Inv-loop μ-loop
-refused-at c = c .before .before .before .before
-
 module _ (c : tie.At-loop Inv-loop μ-loop) where
   abbrev text : List ℕ
-  text = begun (cleared c) .args .text .now
+  text = begun c .args .text .now
 
   abbrev before : List ℕ
-  before = begun (cleared c) .args .table .now
-
-  same-size : length (c .loop .table) ≡ length before
-  same-size = c .loop .inv .2 ∙ cleared c .clear .kept .0
+  before = begun c .args .table .now
 
 -- The cursor behind the line.
 behind : (c : tie.After-after Inv-loop μ-loop)
@@ -92,59 +77,48 @@ whole c =
 -- What `read_line` answered and left.
 decided : (c : tie.After-read-line Inv-loop μ-loop) (cells : List Cell)
     → let w = walking (ended c .before) in
-    (lib : CellsTold (begun (cleared w) .args .library .now) cells)
+    (lib : CellsTold (begun w .args .library .now) cells)
     → let so-far = w .loop .inv .3 cells lib in
-    Decided cells (so-far .statements) (statementOf (begun (cleared w) .args .rules) cells (fields (part 10 (text w) (w .loop .at))))
-    (drop Size.netlist (cleared w .clear .last .0)) (c .read-line .result) (c .read-line .last .1 .1 .1 .0)
+    Decided cells (so-far .statements) (statementOf (begun w .args .rules) cells (fields (part 10 (text w) (w .loop .at))))
+    (drop Size.netlist (before w)) (c .read-line .result) (c .read-line .last .1 .1 .1 .0)
 decided c cells lib =
     let w = walking (ended c .before) in
     let so-far = w .loop .inv .3 cells lib in
-    part-decided (begun (cleared w) .args .rules) (ended c .before .before .line .ensures)
+    part-decided (begun w .args .rules) (ended c .before .before .line .ensures)
     (c .read-line .ensures cells lib (so-far .statements) (so-far .sound) (holding so-far))
 
 loop-holds : tie.Need-loop-holds Inv-loop μ-loop
 loop-holds c =
-    let k = c .before .before in
-    let a = begun k .args in (
-      omega arith,
-      omega arith,
-      refl,
-      λ cells lib.
-          subst (λ (t : List ℕ). Reading (a .rules) cells (a .text .now) 0 1 t (drop Size.netlist t)) (sym (cleared-front k))
-          (reading-start (a .rules) cells (a .text .now) (a .table .now) (begun k .pre .1)),
-    )
-
-same-length : tie.Need-same-length Inv-loop μ-loop
-same-length c = c .before .before .refusal .kept .0 ∙ same-size (walking (c .before .before .before .before .before))
+    let s = c .before .before .before in
+    let a = s .args in
+    (omega arith, omega arith, refl, λ cells lib. reading-start (a .rules) cells (a .text .now) (a .table .now) (s .pre .1))
 
 returns : tie.Need-returns Inv-loop μ-loop
 returns c cells lib =
-    let left = c .before .before in
-    let t = left .before .before in
+    let t = c .before in
     let w = walking (t .before) in
-    let s = text w in
     let l = w .loop in
-    left-refused (begun (cleared w) .args .rules) cells s (before w) (left .refusal .result) _
+    fills-refused (textStatements (begun w .args .rules) cells (text w)) (before w) (c .refusal .result) _
     (reading-unended (l .inv .3 cells lib) (t .before .before .before .loop-test .taken)
-    (line-unended s (l .at) (t .before .after .result) (l .inv .0) (behind (t .before)) (t .if1 .taken)))
-    (left .refusal .ensures .0) (left .refusal .ensures .1) (same-size w)
+    (line-unended (text w) (l .at) (t .before .after .result) (l .inv .0) (behind (t .before)) (t .if1 .taken)))
+    (c .refusal .ensures)
 
 same-length-2 : tie.Need-same-length-2 Inv-loop μ-loop
 same-length-2 c =
-    let r = read (refused-at c .before) in
-    c .before .before .refusal2 .kept .0 ∙ r .read-line .kept .1 .1 .1 .0 ∙ same-size (walking (ended r .before))
+    let r = read (c .before .before) in
+    r .read-line .kept .1 .1 .1 .0 ∙ walking (ended r .before) .loop .inv .2
 
 returns-2 : tie.Need-returns-2 Inv-loop μ-loop
 returns-2 c cells lib =
-    let left = c .before .before in
-    let r = read (refused-at c .before) in
+    let t = c .before in
+    let r = read (t .before) in
     let w = walking (ended r .before) in
-    left-refused (begun (cleared w) .args .rules) cells (text w) (before w) (left .refusal2 .result) _
-    (reading-refused (w .loop .inv .3 cells lib) (whole (ended r)) (decided r cells lib) (refused-at c .if2 .taken))
-    (left .refusal2 .ensures .0) (left .refusal2 .ensures .1) (r .read-line .kept .1 .1 .1 .0 ∙ same-size w)
+    fills-refused (textStatements (begun w .args .rules) cells (text w)) (before w) (c .refusal2 .result) _
+    (reading-refused (w .loop .inv .3 cells lib) (whole (ended r)) (decided r cells lib) (t .if2 .taken))
+    (c .refusal2 .ensures)
 
 add-number : tie.Need-add-number Inv-loop μ-loop
-add-number c = omega (arith, begun (cleared (walking (ended (read (c .before)) .before))) .pre .0)
+add-number c = omega (arith, begun (walking (ended (read (c .before)) .before)) .pre .0)
 
 loop-less : tie.Need-loop-less Inv-loop μ-loop
 loop-less c =
@@ -164,17 +138,13 @@ loop-again c =
       λ cells lib. reading-more (l .inv .3 cells lib) (whole (ended r)) (decided r cells lib) (behind f) (c .if2 .left),
     )
 
-same-length-3 : tie.Need-same-length-3 Inv-loop μ-loop
-same-length-3 c = same-size (c .before)
-
 returns-3 : tie.Need-returns-3 Inv-loop μ-loop
 unfolding verdictRead
 returns-3 c cells lib =
     let w = c .before in
     let so-far = w .loop .inv .3 cells lib in
-    left-read (begun (cleared w) .args .rules) cells (text w) (before w) _ (w .loop .table) (reading-end so-far (c .loop-test .left)) refl
+    fills-read (textStatements (begun w .args .rules) cells (text w)) (before w) _ (w .loop .table) (reading-end so-far (c .loop-test .left)) refl
     (so-far .held)
-    (ap (drop Size.netlist) (cleared-front (cleared w)) ∙ cleared-past (before w) (begun (cleared w) .pre .1))
 
 pub read-lines-spec : {M : Type 1} → statement M
 read-lines-spec =
@@ -182,12 +152,11 @@ read-lines-spec =
     (tie.spec
     Inv-loop
     μ-loop
-    (λ c κs. tt)
     loop-holds
     (λ c κs. tt)
     (λ c κs. tt)
     (λ c κs. tt)
-    same-length
+    (λ c. walking (c .before .before) .loop .inv .2)
     returns
     (λ c κs. tt)
     (λ c κs. tt)
@@ -196,5 +165,5 @@ read-lines-spec =
     add-number
     loop-less
     loop-again
-    same-length-3
+    (λ c. c .before .loop .inv .2)
     returns-3)

@@ -1,5 +1,4 @@
 -- `read_netlist` reads the lines behind the entry. Assumes nothing.
-use mathlib.Core.Path.{refl}
 use denote.Ref.{now}
 use Rattle.netlist_text.proofs.EntryChecks.{entered, shut, unshut, behind}
 use borrow.Author.Needs.{needs}
@@ -11,15 +10,15 @@ use Rattle.netlist_text.proofs.read_netlist.Tie as tie
 abbrev begins : tie.After-entry → tie.Start
 begins c = c .before .before .before .before
 
-abbrev accepted : tie.After-read-all-arg → tie.After-entry
+abbrev accepted : tie.After-fill-arg → tie.After-entry
 accepted c = c .before .before .before .before
 
-read-all-requires : tie.Need-read-all-requires
-read-all-requires c κs =
+fill-requires : tie.Need-fill-requires
+fill-requires c κs =
     let e = accepted c in
     let a = begins e .args in
     let fits = entered _ _ _ (unshut (a .rules) (now (a .text)) (now (a .library)) (now (a .table)) (e .entry .result) (e .entry .ensures) (search needs)) in
-    (fits .0, fits .1, refl)
+    (fits .0, fits .1)
 
 returns : tie.Need-returns
 returns c =
@@ -33,7 +32,7 @@ returns-2 c =
     let e = accepted (r .before) in
     let a = begins e .args in
     behind (a .rules) (now (a .text)) (now (a .library)) (now (a .table)) (e .entry .result) (e .entry .ensures) (search needs)
-    (r .read-all .result) _ _ (r .before .before .told .ensures) (r .read-all .ensures)
+    (r .fill .result) _ _ (r .before .before .told .ensures) (r .fill .ensures)
 
 pub read-netlist-spec : {M : Type 1} → statement M
 read-netlist-spec =
@@ -43,7 +42,7 @@ read-netlist-spec =
     (λ c. search needs)
     (λ c. search needs)
     (λ c κs. search needs)
-    read-all-requires
+    fill-requires
     returns
     (λ c. search needs)
     returns-2)

@@ -1,11 +1,10 @@
 -- `put_plan` leaves the text where it stands, or puts the refusal there. Assumes nothing.
-use mathlib.Core.Path.{_≡_}
+use mathlib.Core.Path.{_≡_, refl}
 use denote.Ref.{now}
 use lib.ListN.{length}
 use borrow.Author.Needs.{needs}
 use Rattle.sizes.specs.Sizes as Size
 use Rattle.demands.specs.Own.{ownTables}
-use Rattle.analysis_texts.proofs.Own.{zeros-cleared}
 use Rattle.plan_calls.proofs.Printed.{plan-printed}
 use Rattle.plan_calls.proofs.put_plan.Statement.{statement}
 use Rattle.plan_calls.proofs.put_plan.Tie as tie
@@ -33,6 +32,6 @@ put-plan-spec =
     (λ c. search needs)
     (λ c. search needs)
     (λ c. search needs)
-    (λ c κs. (zeros-cleared Size.library, zeros-cleared Size.netlist))
+    (λ c κs. (refl, refl))
     (λ c κs. search needs)
     returns)

@@ -1,8 +1,7 @@
 -- `scoap_plan` tells the answer of `write_plan` by one number. Assumes nothing.
+use mathlib.Core.Path.{refl}
 use denote.Ref.{now}
-use Rattle.sizes.specs.Sizes as Size
 use Rattle.demands.specs.Own.{ownTables}
-use Rattle.analysis_texts.proofs.Own.{zeros-cleared}
 use Rattle.scoap_c.proofs.Plan.{plan-line, plan-coded}
 use borrow.Author.Needs.{needs}
 use Rattle.scoap_c.proofs.scoap_plan.Statement.{statement}
@@ -44,7 +43,7 @@ scoap-plan-spec =
     (λ c. search needs)
     (λ c. search needs)
     (λ c. search needs)
-    (λ c κs. (zeros-cleared Size.library, zeros-cleared Size.netlist))
+    (λ c κs. (refl, refl))
     (λ c κs. search needs)
     code-requires
     (λ c. search needs)

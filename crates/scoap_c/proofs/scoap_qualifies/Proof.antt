@@ -1,7 +1,6 @@
 -- `scoap_qualifies` tells by one number what the tables of the two texts say. Assumes nothing.
+use mathlib.Core.Path.{refl}
 use denote.Ref.{now}
-use Rattle.sizes.specs.Sizes as Size
-use Rattle.analysis_texts.proofs.Own.{zeros-cleared}
 use Rattle.scoap_c.proofs.Qualifies.{entry-line, later-line, qualifies-entry, qualifies-later, qualifies-accepted}
 use borrow.Author.Needs.{needs}
 use Rattle.scoap_c.proofs.scoap_qualifies.Statement.{statement}
@@ -53,7 +52,7 @@ scoap-qualifies-spec =
     (tie.spec
     (λ c. search needs)
     (λ c. search needs)
-    (λ c κs. (zeros-cleared Size.library, zeros-cleared Size.netlist))
+    (λ c κs. (refl, refl))
     (λ c. search needs)
     entry-requires
     (λ c. search needs)

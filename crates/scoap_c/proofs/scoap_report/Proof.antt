@@ -1,8 +1,7 @@
 -- `scoap_report` tells the answer of the analysis by one number. Assumes nothing.
+use mathlib.Core.Path.{refl}
 use denote.Ref.{now}
-use Rattle.sizes.specs.Sizes as Size
 use Rattle.demands.specs.Own.{ownTables}
-use Rattle.analysis_texts.proofs.Own.{zeros-cleared}
 use Rattle.scoap_c.proofs.ReportCode.{report-line, report-coded}
 use borrow.Author.Needs.{needs}
 use Rattle.scoap_c.proofs.scoap_report.Statement.{statement}
@@ -38,7 +37,7 @@ scoap-report-spec =
     (λ c. search needs)
     (λ c. search needs)
     (λ c. search needs)
-    (λ c κs. (zeros-cleared Size.library, zeros-cleared Size.netlist))
+    (λ c κs. record { cells = refl; statements = refl })
     answer-code-requires
     (λ c. search needs)
     returns)

@@ -1,13 +1,12 @@
 -- `stand`: the analysis, and its numbers and counts laid into the standing table. Assumes nothing.
+use mathlib.Core.Path.{refl}
 use native.Mathlib.Omega.{arith}
 use denote.Ref.{now}
 use borrow.Author.Needs.{needs}
-use Rattle.sizes.specs.Sizes as Size
 use Rattle.demands.specs.Answer.{answerRead}
 use Rattle.demands.specs.Outcome.{Given, givenTexts}
 use Rattle.demands.proofs.Given.{texts-checked}
 use Rattle.demands.specs.Own.{ownTables}
-use Rattle.analysis_texts.proofs.Own.{zeros-cleared}
 use Rattle.standing_calls.proofs.Analysis.{stand-short, told-refused, told-accepted}
 use Rattle.standing_calls.proofs.Calls.{is-short, is-long}
 use Rattle.standing_calls.proofs.stand.Statement.{statement}
@@ -74,7 +73,7 @@ stand-spec =
     (λ c. search needs)
     (λ c. search needs)
     (λ c. search needs)
-    (λ c κs. (zeros-cleared Size.library, zeros-cleared Size.netlist))
+    (λ c κs. (refl, refl))
     (λ c. search needs)
     (λ c κs. search needs)
     (λ c. search needs)

@@ -1,30 +1,28 @@
 -- `change_held` reads the new library. Assumes nothing.
-use mathlib.Core.Path.{refl, sym}
-use Prim.Native.Nat.{ℕ}
-use native.Mathlib.Nat.{le-of-eq}
-use lib.ListN.{replicate, length-replicate}
+use mathlib.Core.Path.{refl}
+use lib.ListN.{replicate}
 use denote.Ref.{now}
 use borrow.Author.Needs.{needs}
 use Rattle.sizes.specs.Sizes as Size
-use Rattle.standing_texts.proofs.Texts.{zero-cleared}
+use Rattle.library_text.proofs.Walks.{zeros-none}
 use Rattle.standing_change.specs.Calls.{changedRead}
 use Rattle.standing_change.proofs.Call.{new-refused, new-read, new-changed}
 use Rattle.standing_change.proofs.change_held.Statement.{statement}
 use Rattle.standing_change.proofs.change_held.Tie as tie
 
-abbrev begins : tie.After-fill → tie.Start
+abbrev begins : tie.After-read-lines → tie.Start
 begins c = c .before .before .before .before .before .before .before
 
-abbrev reads : tie.After-more2 → tie.After-fill
+abbrev reads : tie.After-more2 → tie.After-read-lines
 reads c = c .before
 
 abbrev told : tie.After-change-to-arg2 → tie.After-enum-told
 told c = c .before .before .before
 
-fill-requires : tie.Need-fill-requires
-fill-requires c κs =
+read-lines-requires : tie.Need-read-lines-requires
+read-lines-requires c κs =
     let s = c .before .before .before .before .before .before in
-    (s .pre .1, le-of-eq (sym (length-replicate {A = ℕ} Size.library 0)), zero-cleared _ Size.library refl)
+    (s .pre .1, zeros-none _ refl)
 
 change-to-requires : tie.Need-change-to-requires
 change-to-requires c κs =
@@ -32,8 +30,8 @@ change-to-requires c κs =
     let r = reads (t .before .before) in
     let s = begins r in (
       s .pre .0,
-      new-read (now (s .args .new-lib)) (now (s .args .net)) (replicate Size.library 0) _ (r .fill .result)
-          (r .fill .ensures .0) (r .fill .ensures .1) (search needs)
+      new-read (now (s .args .new-lib)) (now (s .args .net)) (replicate Size.library 0) _ (r .read-lines .result)
+          (r .read-lines .ensures .0) (r .read-lines .ensures .1) (search needs)
           (λ cells e holds. record { cells = cells; holds = holds }),
     )
 
@@ -43,8 +41,8 @@ returns c x h =
     let r = reads (c .before .before .before) in
     let s = begins r in
     let y = c .before .cells .given .0 .0 in
-    new-refused (now (s .args .new-lib)) (now (s .args .net)) (replicate Size.library 0) _ (r .fill .result)
-    (r .fill .ensures .0) (r .fill .ensures .1) x (now (s .args .standing)) y (search needs)
+    new-refused (now (s .args .new-lib)) (now (s .args .net)) (replicate Size.library 0) _ (r .read-lines .result)
+    (r .read-lines .ensures .0) (r .read-lines .ensures .1) x (now (s .args .standing)) y (search needs)
 
 returns-2 : tie.Need-returns-2
 returns-2 c x h =
@@ -52,11 +50,11 @@ returns-2 c x h =
     let t = told (p .before) in
     let r = reads (t .before .before) in
     let s = begins r in
-    new-read (now (s .args .new-lib)) (now (s .args .net)) (replicate Size.library 0) _ (r .fill .result)
-    (r .fill .ensures .0) (r .fill .ensures .1) (search needs)
+    new-read (now (s .args .new-lib)) (now (s .args .net)) (replicate Size.library 0) _ (r .read-lines .result)
+    (r .read-lines .ensures .0) (r .read-lines .ensures .1) (search needs)
     (λ cells e holds.
-    new-changed (now (s .args .new-lib)) (now (s .args .net)) (replicate Size.library 0) _ (r .fill .result)
-    (r .fill .ensures .0) (r .fill .ensures .1) x (now (s .args .standing)) _ _ cells e
+    new-changed (now (s .args .new-lib)) (now (s .args .net)) (replicate Size.library 0) _ (r .read-lines .result)
+    (r .read-lines .ensures .0) (r .read-lines .ensures .1) x (now (s .args .standing)) _ _ cells e
     (p .change-to .ensures x cells h holds))
 
 pub change-held-spec : {M : Type 1} → statement M
@@ -64,7 +62,7 @@ change-held-spec =
     tie.close
     (tie.spec
     (λ c. search needs)
-    fill-requires
+    read-lines-requires
     (λ c. search needs)
     (λ c. search needs)
     (λ c. search needs)

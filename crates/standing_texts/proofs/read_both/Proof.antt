@@ -2,12 +2,11 @@
 use mathlib.Core.Bool.{false}
 use denote.Ref.{now}
 use borrow.Author.Needs.{needs}
-use Rattle.sizes.specs.Sizes as Size
 use Rattle.demands.specs.Outcome.{Given, givenTexts}
 use Rattle.demands.proofs.Given.{texts-checked}
 use Rattle.analysis_texts.specs.Progress.{Reached}
 use Rattle.standing_texts.specs.Held.{entered}
-use Rattle.standing_texts.proofs.Texts.{zero-cleared, both-reached, told-entry, told-later, told-read}
+use Rattle.standing_texts.proofs.Texts.{both-reached, told-entry, told-later, told-read}
 use Rattle.standing_texts.proofs.read_both.Statement.{statement}
 use Rattle.standing_texts.proofs.read_both.Tie as tie
 
@@ -51,7 +50,7 @@ pub read-both-spec : {M : Type 1} → statement M
 read-both-spec =
     tie.close
     (tie.spec
-    (λ c κs. let z = begins c .pre in (zero-cleared _ Size.library (z .cells), zero-cleared _ Size.netlist (z .statements)))
+    (λ c κs. let z = begins c .pre in (z .cells, z .statements))
     (λ c. search needs)
     (λ c. search needs)
     (λ c. search needs)
