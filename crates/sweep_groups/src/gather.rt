@@ -12,7 +12,7 @@ fn line_costs(
     kind: usize,
     lines: &[u32; sizes::GATE_LINES],
     pins: usize,
-    numbers: &[u32; sizes::NUMBERS],
+    numbers: &[u32],
     count: usize,
     costs: &mut [u32; sizes::COLUMNS],
 )
@@ -38,7 +38,7 @@ pub fn column_costs(
     kind: usize,
     lines: &[u32; sizes::GATE_LINES],
     pins: usize,
-    numbers: &[u32; sizes::NUMBERS],
+    numbers: &[u32],
     costs: &mut [u32; sizes::COLUMNS],
 )
     requires { ⌜ GatherFits stale role kind (now lines) pins (now numbers) (now costs) ⌝ }

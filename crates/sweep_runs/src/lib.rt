@@ -38,6 +38,7 @@ ghost use Rattle.sizes.specs.Sizes as Size;
 ghost use Rattle.plans.specs.Sweep.{lower, Settles};
 ghost use Rattle.library_table.specs.Cells.{Cell};
 ghost use Rattle.netlist_table.specs.Netlist.{Statement, gatesOf};
+ghost use Rattle.calculation.specs.Calculation.{analysedAt};
 ghost use Rattle.calculation.specs.Prices.{pricesAt};
 ghost use Rattle.calculation.specs.Runs.{settingStages, observingStages};
 ghost use Rattle.sweep_turns.specs.Order.{gateOfTurn};
@@ -45,7 +46,7 @@ ghost use Rattle.sweep_turns.specs.Renewed.{Swept};
 ghost use Rattle.sweep_runs.specs.Fits.{SweepFits, RunFits, FreshFits};
 ghost use Rattle.sweep_runs.specs.Halves.{HalfFits, Ran};
 ghost use Rattle.sweep_runs.specs.Order.{sweepVisits};
-ghost use Rattle.calculation.specs.Stored.{Holds, Ready, Calculated};
+ghost use Rattle.calculation.specs.Stored.{Holds, Ready, Calculated, whole};
 ghost use Rattle.sweep_runs.specs.Asleep.{Resting};
 
 // The gate of a turn, "in netlist order" or "in reverse order".
@@ -67,7 +68,7 @@ fn one_sweep(
     library: &[u32],
     netlist: &[u32],
     links: &[u16; sizes::LINKS],
-    numbers: &mut [u32; sizes::NUMBERS],
+    numbers: &mut [u32],
     awake: &mut [u64; sizes::AWAKE_WORDS],
 ) -> bool
     requires { ⌜ SweepFits role kind (now library) (now netlist) (now links) (now numbers)
@@ -100,7 +101,7 @@ pub fn run(
     library: &[u32],
     netlist: &[u32],
     links: &[u16; sizes::LINKS],
-    numbers: &mut [u32; sizes::NUMBERS],
+    numbers: &mut [u32],
     awake: &mut [u64; sizes::AWAKE_WORDS],
 ) -> u32
     requires { ⌜ RunFits role kind (now library) (now netlist) (now links) (now numbers)
@@ -123,7 +124,7 @@ fn run_all(
     library: &[u32],
     netlist: &[u32],
     links: &[u16; sizes::LINKS],
-    numbers: &mut [u32; sizes::NUMBERS],
+    numbers: &mut [u32],
 ) -> u32
     requires { ⌜ FreshFits role kind (now library) (now netlist) (now links) (now numbers) ⌝ }
     ensures { λ r.
@@ -147,7 +148,7 @@ pub fn set_lines(
     library: &[u32],
     netlist: &[u32],
     links: &[u16; sizes::LINKS],
-    numbers: &mut [u32; sizes::NUMBERS],
+    numbers: &mut [u32],
 ) -> Sweeps
     requires { ⌜ HalfFits (now library) (now netlist) (now links) (now numbers) ⌝ }
     ensures { λ r.
@@ -168,7 +169,7 @@ pub fn observe_lines(
     library: &[u32],
     netlist: &[u32],
     links: &[u16; sizes::LINKS],
-    numbers: &mut [u32; sizes::NUMBERS],
+    numbers: &mut [u32],
 ) -> Sweeps
     requires { ⌜ HalfFits (now library) (now netlist) (now links) (now numbers) ⌝ }
     ensures { λ r.
@@ -197,9 +198,32 @@ pub fn hand_over(found: &[u32; sizes::NUMBERS], numbers: &mut [u32])
     }
 }
 
+// Links, start and the two halves, in just as many entries as there are numbers, whatever stands there.
+fn four_runs(library: &[u32], netlist: &[u32], numbers: &mut [u32], high: bool) -> Counts
+    requires { ⌜ Ready (now library) (now netlist) (now numbers)
+        × (length (now numbers) ≡ Size.numbers) ⌝ }
+    ensures { λ r.
+        ⌜ ((cells : List Cell) (ss : List Statement) → Holds (now (library .entry))
+        (now (netlist .entry)) cells ss
+        → whole r (now (numbers .exit)) ≡ analysedAt (pricesAt high ss) cells ss) ⌝ }
+{
+    let mut links = [0u16; sizes::LINKS];
+    link(library, netlist, &mut links);
+    start(netlist, numbers, high);
+    let set = set_lines(library, netlist, &links, numbers);
+    let observed = observe_lines(library, netlist, &links, numbers);
+    Counts {
+        cc: set.combinational,
+        sc: set.sequential,
+        co: observed.combinational,
+        so: observed.sequential,
+    }
+}
+
 // Goldstein's calculation over the tables of an accepted library and netlist, inputs at the high end of
 // their ranges or at the low one: leaves the six numbers of each line in the numbers table, and says how
-// many sweeps each run took.
+// many sweeps each run took. The sweeps work in the lent table itself, in its first entries; those behind
+// are not lent on.
 pub fn calculate(library: &[u32], netlist: &[u32], numbers: &mut [u32], high: bool) -> Counts
     requires { ⌜ Ready (now library) (now netlist) (now numbers) ⌝ }
     ensures { λ r.
@@ -207,19 +231,5 @@ pub fn calculate(library: &[u32], netlist: &[u32], numbers: &mut [u32], high: bo
         (now (netlist .entry)) cells ss → Calculated (pricesAt high ss) cells ss
         (now (numbers .entry)) (now (numbers .exit)) r) ⌝ }
 {
-    let mut links = [0u16; sizes::LINKS];
-    link(library, netlist, &mut links);
-    // The sweeps work on an array of their own: a reference to it is one machine word, so that the
-    // row sum's calls of itself stay in registers.
-    let mut found = [0u32; sizes::NUMBERS];
-    start(netlist, &mut found, high);
-    let set = set_lines(library, netlist, &links, &mut found);
-    let observed = observe_lines(library, netlist, &links, &mut found);
-    hand_over(&found, numbers);
-    Counts {
-        cc: set.combinational,
-        sc: set.sequential,
-        co: observed.combinational,
-        so: observed.sequential,
-    }
+    four_runs(library, netlist, &mut numbers[..sizes::NUMBERS], high)
 }

@@ -75,6 +75,11 @@ module _ (high : Bool) (netlist : List ℕ) where
       ∙ sets-eq (lineStart high netlist (1 + i)) (p ++ q) (i * Size.costs) b
       ∙ rw (take-at p q (i * Size.costs) n, d, m, lines-next i 1)
 
+  pub laid-size : (xs ys : List ℕ) (i : ℕ) → i * Size.costs ≤ length xs → Laid xs i ys → length ys ≡ length xs
+  laid-size xs ys i h l =
+      ap length l ∙ length-append (linesStart high netlist i 1) (drop (i * Size.costs) xs)
+      ∙ omega (arith, laid-length i 1, length-drop (i * Size.costs) xs)
+
   -- ---- past the last line that is marked
 
   -- A line that is neither driven nor an output starts at never.

@@ -1,7 +1,7 @@
 // The start of the calculation, document 01, "Sweeps": the six numbers of each line before the first sweep,
 // out of the netlist table.
 //
-// For the crates above: `start`, which asks that table and numbers are long enough.
+// For the crates above: `start`, which asks for a whole table and for just as many entries as there are numbers.
 use cost::NEVER;
 use netlist_table::lines::unchecked;
 use netlist_table::some_range;
@@ -57,14 +57,9 @@ fn line_price(netlist: &[u32], line: usize, high: bool, ranged: bool) -> u32
 }
 
 // Lays the start of the six numbers of a line.
-fn start_line(
-    netlist: &[u32],
-    numbers: &mut [u32; sizes::NUMBERS],
-    line: usize,
-    high: bool,
-    ranged: bool,
-)
+fn start_line(netlist: &[u32], numbers: &mut [u32], line: usize, high: bool, ranged: bool)
     requires { ⌜ (line < Size.lines) × (Size.netlist ≤ length (now netlist))
+        × (length (now numbers) ≡ Size.numbers)
         × (ranged ≡ not (eqb (getD (now netlist) rangedPlace 0) 0)) ⌝ }
     ensures { λ _.
         ⌜ now (numbers .exit) ≡ sets (now (numbers .entry)) (line * Size.costs)
@@ -83,7 +78,7 @@ fn start_line(
 }
 
 // Sets all numbers to never.
-fn lay_never(numbers: &mut [u32; sizes::NUMBERS])
+fn lay_never(numbers: &mut [u32])
     requires { ⌜ length (now numbers) ≡ Size.numbers ⌝ }
     ensures { λ _. ⌜ now (numbers .exit) ≡ replicate Size.numbers never ⌝ }
 {
@@ -104,7 +99,7 @@ fn last_marked(netlist: &[u32]) -> usize
 }
 
 // Lays the start of all numbers, inputs at the high end of their ranges or at the low one.
-pub fn start(netlist: &[u32], numbers: &mut [u32; sizes::NUMBERS], high: bool)
+pub fn start(netlist: &[u32], numbers: &mut [u32], high: bool)
     requires { ⌜ (Size.netlist ≤ length (now netlist)) × (length (now numbers) ≡ Size.numbers) ⌝ }
     ensures { λ _. ⌜ now (numbers .exit) ≡ linesStart high (now (netlist .entry)) Size.lines 1 ⌝ }
 {

@@ -46,7 +46,7 @@ pub fn either(a: bool, b: bool) -> bool
 }
 
 // Stores a sum at a place of its kind, and says whether another number stood there.
-pub fn store(numbers: &mut [u32; sizes::NUMBERS], place: usize, sum: Sum) -> bool
+pub fn store(numbers: &mut [u32], place: usize, sum: Sum) -> bool
     requires { ⌜ StoreFits place sum (now numbers) ⌝ }
     ensures { λ r. ⌜ Stored place (sumNumber sum) (now (numbers .entry)) (now (numbers .exit)) r ⌝ }
 {
@@ -83,7 +83,7 @@ fn visit(
     wired: bool,
     lines: &[u32; sizes::GATE_LINES],
     costs: &[u32; sizes::COLUMNS],
-    numbers: &mut [u32; sizes::NUMBERS],
+    numbers: &mut [u32],
     place: usize,
     pins: usize,
 ) -> bool
@@ -166,7 +166,7 @@ pub fn visit_gate(
     library: &[u32],
     netlist: &[u32],
     links: &[u16; sizes::LINKS],
-    numbers: &mut [u32; sizes::NUMBERS],
+    numbers: &mut [u32],
     awake: &mut [u64; sizes::AWAKE_WORDS],
     gate: usize,
 ) -> bool

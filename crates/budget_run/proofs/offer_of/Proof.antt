@@ -27,7 +27,7 @@ abbrev began : tie.After-lines-of → tie.Start
 began c = celled c .before .before .before
 
 abbrev told : tie.After-column-costs → tie.After-is-tied
-told c = c .before .before .before
+told c = c .before .before .before .before
 
 abbrev lined : tie.After-column-costs → tie.After-lines-of
 lined c = told c .before
@@ -106,7 +106,7 @@ offer-of-spec =
     (λ c κs. gate-fits (c .before .before .before .before .before) .room)
     (λ c κs. search needs)
     (λ c κs.
-    let x = c .before .before .before in
+    let x = c .before .before .before .before in
     let s = began x in
     let a = s .args in
     gather-fits (a .library .now) (a .netlist .now) (a .links .now) (a .numbers .now) (a .gate) (a .value) (s .pre .0) (s .pre .1) (x .lines-of .result) (x .before .wide .result) _

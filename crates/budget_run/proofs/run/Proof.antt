@@ -34,7 +34,7 @@ abbrev linked : tie.After-start Inv-loop μ-loop → tie.After-link Inv-loop μ-
 linked c = c .before .before
 
 abbrev started : tie.After-offer-prices Inv-loop μ-loop → tie.After-start Inv-loop μ-loop
-started c = c .before .before .before
+started c = c .before .before .before .before
 
 abbrev priced : tie.After-refresh-all Inv-loop μ-loop → tie.After-offer-prices Inv-loop μ-loop
 priced c = c .before .before .before .before
@@ -77,9 +77,10 @@ run-spec =
     Inv-loop
     μ-loop
     (λ c κs. link-fits (c .before .before .before .pre .holds) refl)
+    (λ c. search needs)
     (λ c κs. (room (began (c .before) .pre .holds), search needs))
     (λ c κs.
-    let x = c .before .before in
+    let x = c .before .before .before in
     let s = began (linked x) in
     prices-fit (s .pre .holds) (x .start .ensures) (s .pre .empty))
     (λ c κs.

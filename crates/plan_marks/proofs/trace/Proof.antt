@@ -4,6 +4,7 @@ use mathlib.Core.Path.{_≡_, refl, ap, _∙_}
 use Prim.Native.Nat.{ℕ, suc, _+_, _*_, _-_, _≤_}
 use native.Mathlib.Omega.{arith}
 use lib.ListN.{length, getD, length-replicate}
+use borrow.Author.Needs.{needs}
 use borrow.Author.Tests.{not-true}
 use Rattle.sizes.specs.Sizes as Size
 use Rattle.plans.specs.Sweep.{Bounded}
@@ -39,7 +40,7 @@ abbrev began : tie.After-start Inv-loop μ-loop → tie.Start Inv-loop μ-loop
 began c = counted c .before .before .before
 
 abbrev started : tie.In-loop Inv-loop μ-loop → tie.After-start Inv-loop μ-loop
-started c = c .before .before
+started c = c .before .before .before
 
 abbrev looping : tie.After-one-sweep Inv-loop μ-loop → tie.In-loop Inv-loop μ-loop
 looping c = c .before .before .before .before
@@ -51,17 +52,18 @@ few c =
 
 loop-holds : tie.Need-loop-holds Inv-loop μ-loop
 loop-holds c =
-    let s = began c in
+    let x = c .before in
+    let s = began x in
     let a = s .args in
-    let none : 2 * counted c .count .result + 1 - (2 * counted c .count .result + 1) ≡ 0 = omega arith in
-    let b = begins (a .kind) (a .library .now) (a .netlist .now) _ _ (c .start .ensures) (s .pre .unmarked) in (
+    let none : 2 * counted x .count .result + 1 - (2 * counted x .count .result + 1) ≡ 0 = omega arith in
+    let b = begins (a .kind) (a .library .now) (a .netlist .now) _ _ (x .start .ensures) (s .pre .unmarked) in (
       omega arith,
       omega arith,
       rw none (b .1),
       rw none (b .0),
-      ap length (c .start .ensures) ∙ laid-length false (a .netlist .now) Size.lines 1,
+      ap length (x .start .ensures) ∙ laid-length false (a .netlist .now) Size.lines 1,
       ap length (s .pre .unmarked) ∙ length-replicate {A = ℕ} Size.marks 0,
-      rw (c .start .ensures) (starts-bounded (a .kind) (a .library .now) (a .netlist .now) (s .pre .cells) (s .pre .statements) (s .pre .holds)),
+      rw (x .start .ensures) (starts-bounded (a .kind) (a .library .now) (a .netlist .now) (s .pre .cells) (s .pre .statements) (s .pre .holds)),
     )
 
 one-sweep-requires : tie.Need-one-sweep-requires Inv-loop μ-loop
@@ -118,7 +120,7 @@ returns c k cells ss e h =
 
 returns-2 : tie.Need-returns-2 Inv-loop μ-loop
 returns-2 c k cells ss e h =
-    let b = c .before .before in
+    let b = c .before .before .before in
     let a = began b .args in
     let l = c .before .loop in
     let n : 2 * counted b .count .result + 1 - l .left ≡ 2 * getD (a .netlist .now) 0 0 + 1 = omega (arith, counted b .count .ensures) in
@@ -132,9 +134,10 @@ trace-spec =
     μ-loop
     (λ c κs. omega (arith, room (c .before .before .pre .holds)))
     (λ c κs. link-fits (c .before .before .before .before .pre .holds) refl)
+    (λ c. search needs)
     (λ c κs. (room (c .before .before .before .before .before .before .pre .holds), refl))
-    (λ c. omega (arith, few c))
-    (λ c. omega (arith, few c))
+    (λ c. omega (arith, few (c .before)))
+    (λ c. omega (arith, few (c .before)))
     loop-holds
     one-sweep-requires
     returns

@@ -27,7 +27,7 @@ abbrev began : tie.After-lines-of → tie.Start
 began c = celled c .before .before .before
 
 abbrev lined : tie.After-column-costs → tie.After-lines-of
-lined c = c .before .before .before .before
+lined c = c .before .before .before .before .before
 
 abbrev gathered : tie.After-visit-group → tie.After-column-costs
 gathered c = c .before
@@ -209,7 +209,7 @@ visit-spec =
     (λ c κs. search needs)
     (λ c κs. gate-fits (c .before .before .before .before .before) .room)
     (λ c κs.
-    let x = c .before .before .before in
+    let x = c .before .before .before .before in
     let s = began x in
     let a = s .args in
     gather-fits (a .kind) (a .library .now) (a .netlist .now) (a .links .now) (a .numbers .now) (a .marks .now) (s .pre .0) (a .gate) (a .value) (s .pre .1) (s .pre .2) (x .lines-of .result) (x .before .wide .result) _

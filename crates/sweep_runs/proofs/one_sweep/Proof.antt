@@ -29,7 +29,7 @@ abbrev counted : tie.After-next-awake Inv-loop μ-loop → tie.After-count Inv-l
 counted c = c .before .before
 
 abbrev began : tie.After-next-awake Inv-loop μ-loop → tie.Start Inv-loop μ-loop
-began c = counted c .before .before .before
+began c = counted c .before .before .before .before
 
 abbrev turned : tie.After-rest Inv-loop μ-loop → tie.After-gate-of-turn Inv-loop μ-loop
 turned c = c .before .before
@@ -67,7 +67,7 @@ visit-gate-requires c κs =
 loop-again : tie.Need-loop-again Inv-loop μ-loop
 loop-again c =
     let e = c .before .before in
-    let v = e .before in
+    let v = e .before .before .before in
     let r = rested v in
     let t = turned r in
     let l = t .before .before in
@@ -94,10 +94,10 @@ one-sweep-spec =
     (tie.spec
     Inv-loop
     μ-loop
-    (λ c κs. c .before .before .pre .linksFit .tablesFit .some)
+    (λ c κs. c .before .before .before .pre .linksFit .tablesFit .some)
     (λ c κs.
     let w = c .before in
-    let p = w .before .before .before .pre in
+    let p = w .before .before .before .before .pre in
     (rw (w .count .ensures) (p .linksFit .linked .chained .count), p .resting .size))
     (unfold inTurn in
     (λ c.
@@ -113,11 +113,12 @@ one-sweep-spec =
     (λ c κs. search needs)
     (λ c. omega arith)
     (λ c κs.
-    let v = c .before .before in
+    let v = c .before .before .before .before in
     let r = rested v in
     let l = turned r .before .before in
     let p = began (l .before) .pre in
     (rw (counted (l .before) .count .ensures) (p .linksFit .linked .chained .count), v .visit-gate .ensures .1 .size ∙ r .rest .ensures .size ∙ l .loop .inv .1 .size))
     (λ c. omega (arith, c .next-awake2 .ensures .least))
     loop-again
+    (λ c. swept-length (c .before .loop .inv .0))
     returns)

@@ -1,7 +1,7 @@
 -- `run` comes to settled numbers: before each sweep, all sweeps before it changed something, and the
 -- turns that are asleep are idle. The count stays below its type's
 -- bound, and what is left to that bound falls. Assumes nothing.
-use mathlib.Core.Path.{_≡_, _∙_}
+use mathlib.Core.Path.{_≡_, sym, _∙_}
 use Prim.Native.Nat.{_-_, _^_}
 use native.Mathlib.Omega.{arith}
 use lib.ListN.{length}
@@ -23,7 +23,13 @@ abbrev μ-loop : tie.MeasureT-loop
 μ-loop role kind library netlist links numbers₀ awake₀ count₀ numbers awake count = 2 ^ 32 - count
 
 abbrev began : tie.At-loop Inv-loop μ-loop → tie.Start Inv-loop μ-loop
-began c = c .before .before .before
+began c = c .before .before .before .before
+
+abbrev turning : tie.After-one-sweep Inv-loop μ-loop → tie.At-loop Inv-loop μ-loop
+turning c = c .before .before .before
+
+size : (o : tie.After-one-sweep Inv-loop μ-loop) → length (o .one-sweep .last .1 .1 .1 .1 .1 .0) ≡ Size.numbers
+size o = swept-length (o .one-sweep .ensures .0) ∙ turning o .loop .inv .0
 
 pub run-spec : {M : Type 1} → statement M
 run-spec =
@@ -32,21 +38,26 @@ run-spec =
     Inv-loop
     μ-loop
     (λ c.
-    let s = c .before .before in
+    let s = c .before .before .before in
     let a = s .args in
     (s .pre .sweepFits .size, run-first (sweepVisits (a .role) (a .kind) (a .library .now) (a .netlist .now)) (a .numbers .now), s .pre .sweepFits .resting))
     (λ c κs.
     let l = c .before .before in
     record { linksFit = began l .pre .sweepFits .linksFit; size = l .loop .inv .0; resting = l .loop .inv .2 })
     (λ c.
-    let l = c .before .before .before .before in
-    omega (arith, run-fits (began l .pre .runs) (l .loop .inv .1) (c .before .one-sweep .ensures .0) (c .if1 .taken)))
+    let o = c .before .before .before in
+    let l = turning o in
+    omega (arith, run-fits (began l .pre .runs) (l .loop .inv .1) (o .one-sweep .ensures .0) (c .if1 .taken)))
     (λ c.
-    let l = c .before .before .before .before in
-    omega (arith, run-fits (began l .pre .runs) (l .loop .inv .1) (c .before .one-sweep .ensures .0) (c .if1 .taken)))
+    let o = c .before .before .before in
+    let l = turning o in
+    omega (arith, run-fits (began l .pre .runs) (l .loop .inv .1) (o .one-sweep .ensures .0) (c .if1 .taken)))
     (λ c.
-    let l = c .before .before .before .before in
-    (swept-length (c .before .one-sweep .ensures .0) ∙ l .loop .inv .0, run-on (began l .pre .runs) (l .loop .inv .1) (c .before .one-sweep .ensures .0) (c .if1 .taken), c .before .one-sweep .ensures .1))
+    let o = c .before .before .before in
+    let l = turning o in
+    (size o, run-on (began l .pre .runs) (l .loop .inv .1) (o .one-sweep .ensures .0) (c .if1 .taken), o .one-sweep .ensures .1))
+    (λ c. let o = c .before .before .before in size o ∙ sym (began (turning o) .pre .sweepFits .size))
     (λ c.
-    let l = c .before .before .before .before in
-    run-ends (began l .pre .runs) (l .loop .inv .1) (c .before .one-sweep .ensures .0) (c .if1 .left)))
+    let o = c .before .before .before in
+    let l = turning o in
+    run-ends (began l .pre .runs) (l .loop .inv .1) (o .one-sweep .ensures .0) (c .if1 .left)))

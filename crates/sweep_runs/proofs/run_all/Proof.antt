@@ -10,7 +10,7 @@ run-all-spec =
     (tie.spec
     (λ c κs. search needs)
     (λ c κs.
-    let s = c .before .before .before .before .before in
+    let s = c .before .before .before .before .before .before in
     let a = s .args in
     let p = s .pre in
     record {
@@ -23,4 +23,5 @@ run-all-spec =
           };
       runs = p .runs;
     })
+    (λ c. search needs)
     (λ c. search needs))

@@ -1,4 +1,6 @@
 -- `start_line` stores the six numbers of a line, one behind the other. Assumes nothing.
+use native.Mathlib.Omega.{arith}
+use lib.ListN.{length-set}
 use borrow.Author.Needs.{needs}
 use Rattle.sweep_start.proofs.StartLines.{line-laid}
 use Rattle.sweep_start.proofs.start_line.Statement.{statement}
@@ -16,7 +18,7 @@ returns c =
     let p = priced f in
     let o = p .before in
     let d = o .before in
-    let a = d .before .before .args in
+    let a = d .before .before .before .args in
     line-laid (a .high) (a .netlist .now) (a .numbers .now) (a .line) (f .first .result) _ _ _ _ _ (d .driver-of .ensures) (o .output-of .ensures) (p .line-price .ensures)
     (f .first .ensures) (c .before .before .before .before .first2 .ensures) (c .before .before .before .first3 .ensures) (c .before .before .first4 .ensures) (c .before .first5 .ensures) (c .first6 .ensures)
 
@@ -36,21 +38,22 @@ start-line-spec =
     (λ c κs. search needs)
     (λ c. search needs)
     (λ c. search needs)
-    (λ c. search needs)
+    (λ c. simp length-set (omega arith))
     (λ c κs. search needs)
     (λ c. search needs)
     (λ c. search needs)
-    (λ c. search needs)
+    (λ c. simp length-set (omega arith))
     (λ c κs. search needs)
     (λ c. search needs)
     (λ c. search needs)
-    (λ c. search needs)
+    (λ c. simp length-set (omega arith))
     (λ c κs. search needs)
     (λ c. search needs)
     (λ c. search needs)
-    (λ c. search needs)
+    (λ c. simp length-set (omega arith))
     (λ c κs. search needs)
     (λ c. search needs)
     (λ c. search needs)
-    (λ c. search needs)
+    (λ c. simp length-set (omega arith))
+    (λ c. simp length-set)
     returns)

@@ -11,7 +11,7 @@ use Rattle.sweep_turns.proofs.visit.Statement.{statement}
 use Rattle.sweep_turns.proofs.visit.Tie as tie
 
 abbrev began : tie.After-lowest-already → tie.Start
-began c = c .before .before .before .before
+began c = c .before .before .before .before .before
 
 abbrev summed : tie.After-store → tie.After-least-of
 summed c = c .before .before .before .before
@@ -31,14 +31,15 @@ returns c o led =
 returns-2 : tie.Need-returns-2
 unfolding groupVisit
 returns-2 c o led =
-    let s = began (summed c .before .before) in
+    let k = c .before .before in
+    let s = began (summed k .before .before) in
     let a = s .args in
     let inside : a .place < length (a .numbers .now) = rw (s .pre .size) (s .pre .placeFits) in
     let sum =
     group-same (o .gathered) (readRow (a .wired) (a .lines .now) (a .pins)) (read-narrow (a .wired) (a .lines .now) (a .pins) (o .count) (omega (arith, o .few)))
     (a .library .now) (a .group) (o .few) (o .groupFits) in
-    visited (groupVisit (a .wired) (a .kind) (a .lines .now) (a .pins) (a .library .now) (a .group) (a .place)) (a .numbers .now) inside (c .store .ensures)
-    (renewed c .lesser-of .ensures .comesTo ∙ rw (summed c .least-of .ensures .comesTo, sum))
+    visited (groupVisit (a .wired) (a .kind) (a .lines .now) (a .pins) (a .library .now) (a .group) (a .place)) (a .numbers .now) inside (k .store .ensures)
+    (renewed k .lesser-of .ensures .comesTo ∙ rw (summed k .least-of .ensures .comesTo, sum))
 
 -- The sum is of the kind of its place.
 store-requires : tie.Need-store-requires
@@ -53,15 +54,16 @@ visit-spec =
     (tie.spec
     (λ c. search needs)
     (λ c. search needs)
-    (λ c. omega (arith, c .before .before .pre .leastFits .few))
-    (λ c. omega (arith, c .before .before .pre .leastFits .few))
-    (λ c. omega (arith, c .before .before .pre .leastFits .few))
-    (λ c. omega (arith, c .before .before .pre .leastFits .few))
-    (λ c κs. c .before .before .before .pre .leastFits .sumFits .kindFits)
+    (λ c. omega (arith, c .before .before .before .pre .leastFits .few))
+    (λ c. omega (arith, c .before .before .before .pre .leastFits .few))
+    (λ c. omega (arith, c .before .before .before .pre .leastFits .few))
+    (λ c. omega (arith, c .before .before .before .pre .leastFits .few))
+    (λ c κs. c .before .before .before .before .pre .leastFits .sumFits .kindFits)
     returns
     (λ c κs. began (c .before) .pre .leastFits)
     (λ c. search needs)
     (λ c. search needs)
     (λ c κs. search needs)
     store-requires
+    (λ c. search needs)
     returns-2)

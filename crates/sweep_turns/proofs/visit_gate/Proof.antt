@@ -47,8 +47,11 @@ celled c = c .before .before .before .before
 abbrev gatesRead : tie.After-visit-count Inv-loop μ-loop → tie.After-count Inv-loop μ-loop
 gatesRead c = celled c .before
 
+abbrev begins : tie.After-count Inv-loop μ-loop → tie.Start Inv-loop μ-loop
+begins c = c .before .before .before .before
+
 abbrev began : tie.After-visit-count Inv-loop μ-loop → tie.Start Inv-loop μ-loop
-began c = gatesRead c .before .before .before
+began c = begins (gatesRead c)
 
 abbrev looping : tie.After-column-costs Inv-loop μ-loop → tie.In-loop Inv-loop μ-loop
 looping c = c .before .before .before .before
@@ -60,7 +63,7 @@ abbrev placed : tie.After-visit Inv-loop μ-loop → tie.After-visit-place Inv-l
 placed c = c .before .before .before .before
 
 abbrev visited : tie.After-visit-line Inv-loop μ-loop → tie.After-visit Inv-loop μ-loop
-visited c = c .before .before
+visited c = c .before .before .before .before
 
 abbrev turned : tie.After-either Inv-loop μ-loop → tie.In-loop Inv-loop μ-loop
 turned c = looping (grouped (placed (visited (c .before .before .before))) .before)
@@ -237,13 +240,13 @@ visit-gate-spec =
     (tie.spec
     Inv-loop
     μ-loop
-    (λ c κs. c .before .before .pre .linksFit .tablesFit .some)
-    (λ c κs. let s = c .before .before .before in let f = s .pre .linksFit .tablesFit .gates (s .args .gate) (s .pre .inside) in omega arith)
-    (λ c. let s = c .before .before .before .before in let f = s .pre .linksFit .tablesFit .gates (s .args .gate) (s .pre .inside) in omega arith)
-    (λ c. let s = c .before .before .before .before in let f = s .pre .linksFit .tablesFit .gates (s .args .gate) (s .pre .inside) in omega arith)
-    (λ c. let s = c .before .before .before .before .before in let f = s .pre .linksFit .tablesFit .gates (s .args .gate) (s .pre .inside) in omega arith)
+    (λ c κs. c .before .before .before .pre .linksFit .tablesFit .some)
+    (λ c κs. let s = begins c in let f = s .pre .linksFit .tablesFit .gates (s .args .gate) (s .pre .inside) in omega arith)
+    (λ c. let s = begins (c .before) in let f = s .pre .linksFit .tablesFit .gates (s .args .gate) (s .pre .inside) in omega arith)
+    (λ c. let s = begins (c .before) in let f = s .pre .linksFit .tablesFit .gates (s .args .gate) (s .pre .inside) in omega arith)
+    (λ c. let s = begins (c .before .before) in let f = s .pre .linksFit .tablesFit .gates (s .args .gate) (s .pre .inside) in omega arith)
     (λ c κs. search needs)
-    (λ c κs. let s = c .before .before .before .before .before .before in s .pre .linksFit .tablesFit .gates (s .args .gate) (s .pre .inside) .room)
+    (λ c κs. let s = begins (c .before .before .before) in s .pre .linksFit .tablesFit .gates (s .args .gate) (s .pre .inside) .room)
     (λ c κs. search needs)
     (λ c κs. let s = began c in omega (arith, s .pre .inside, s .pre .linksFit .linked .chained .count))
     (unfold inTurn in
@@ -258,7 +261,7 @@ visit-gate-spec =
     (λ c κs. let l = looping (c .before .before) in let d = counted l in (began d .pre .linksFit .kindFits, lines-fit d, turn l))
     visit-requires
     (λ c κs.
-    let l = looping (grouped (placed (c .before)) .before) in
+    let l = looping (grouped (placed (c .before .before .before)) .before) in
     let d = counted l in
     visit-few (began d .args .role) (d .before .lines-of .result) (d .before .before .wide .result) (l .before .loop .i) (lines-fit d) (turn l))
     wake-needing-requires
@@ -266,4 +269,5 @@ visit-gate-spec =
     (λ c. omega (arith, turn-low (turned c)))
     (λ c. omega (arith, turned c .loop-test .taken))
     loop-again
+    (λ c. swept-length (c .before .loop .inv .1))
     returns)

@@ -10,7 +10,7 @@ use Rattle.sweep_groups.proofs.gather.column_costs.Statement.{statement
 use Rattle.sweep_groups.proofs.gather.column_costs.Tie as tie
 
 abbrev began : tie.After-observing-place → tie.Start
-began c = c .before .before .before .before .before .before
+began c = c .before .before .before .before .before .before .before
 
 place-inside : (c : tie.After-observing-place) → c .observing-place .result < Size.numbers
 place-inside c =
@@ -22,15 +22,15 @@ pub column-costs-spec : {M : Type 1} → statement M
 column-costs-spec =
     tie.close
     (tie.spec
-    (λ c. c .before .pre .fresh (not-true _ (c .if1 .taken)))
+    (λ c. c .before .before .pre .fresh (not-true _ (c .if1 .taken)))
     (λ c κs. search needs)
     (λ c. rw (role-set _ _ _ (c .before .before .if2 .taken)) (c .line-costs .ensures))
     (λ c. search needs)
     (λ c κs. search needs)
     (λ c. search needs)
-    (λ c κs. let p = c .before .before .before .before .before .pre in (p .rowFits .linesFit .least 0 (omega arith), p .kindFits))
+    (λ c κs. let p = c .before .before .before .before .before .before .pre in (p .rowFits .linesFit .least 0 (omega arith), p .kindFits))
     (λ c. omega (arith, place-inside c))
-    (λ c. omega (arith, place-inside c))
+    (λ c. omega (arith, place-inside (c .before), began (c .before) .pre .rowFits .size))
     (λ c. search needs)
     (λ c. search needs)
     (λ c. search needs)

@@ -15,13 +15,16 @@ Inv-loop kind lines pins numbers count costs₀ back₀ costs back =
 abbrev μ-loop : tie.MeasureT-loop
 μ-loop kind lines pins numbers count costs₀ back₀ costs back = count - back
 
+abbrev began : tie.At-loop Inv-loop μ-loop → tie.Start Inv-loop μ-loop
+began c = c .before .before
+
 -- The line of a turn is one of the gate's, so that its numbers are in the table.
-line : (c : tie.In-loop Inv-loop μ-loop) → c .before .before .args .pins - c .before .loop .back ≤ c .before .before .args .pins
+line : (c : tie.In-loop Inv-loop μ-loop) → began (c .before) .args .pins - c .before .loop .back ≤ began (c .before) .args .pins
 line c = omega arith
 
 place-inside : (c : tie.After-setting-place Inv-loop μ-loop) → c .setting-place .result + 1 < Size.numbers
 place-inside c =
-    let s = c .before .before .before .before in
+    let s = began (c .before .before .before) in
     let f = s .pre .rowFits .linesFit in
     let b = line (c .before .before) in
     omega (arith, c .setting-place .ensures, s .pre .kindFits, f .least _ b, f .most _ b)
@@ -32,19 +35,19 @@ line-costs-spec =
     (tie.spec
     Inv-loop
     μ-loop
-    (λ c. (omega arith, gather-none (c .pre .size)))
+    (λ c. (omega arith, gather-none (c .before .pre .size)))
     (λ c. omega arith)
     (λ c. omega arith)
     (λ c. omega arith)
-    (λ c κs. let p = c .before .before .before .pre in (p .rowFits .linesFit .least _ (line (c .before)), p .kindFits, omega arith))
+    (λ c κs. let p = began (c .before .before) .pre in (p .rowFits .linesFit .least _ (line (c .before)), p .kindFits, omega arith))
     (λ c. omega (arith, place-inside c))
     (λ c. omega (arith, place-inside c))
-    (λ c. omega (arith, place-inside c))
+    (λ c. omega (arith, place-inside (c .before), began (c .before .before .before .before) .pre .rowFits .size))
     (λ c. omega arith)
     (λ c. omega arith)
     (λ c. omega arith)
     (λ c. omega (arith, place-inside (c .before)))
-    (λ c. omega (arith, place-inside (c .before)))
+    (λ c. omega (arith, place-inside (c .before .before), began (c .before .before .before .before .before) .pre .rowFits .size))
     (λ c. omega arith)
     (λ c. omega arith)
     (λ c. omega arith)
@@ -54,9 +57,9 @@ line-costs-spec =
     (λ c.
     let p = c .before .before in
     let l = p .before .before .before in
-    let s = l .before in
+    let s = began l in
     let f = s .pre .rowFits in
     (omega arith, rw (p .setting-place .ensures) (gather-line (s .pre .kindFits) (f .linesFit) (f .size) (l .loop .inv .1) (omega arith))))
     (λ c.
-    let e : c .before .loop .back ≡ c .before .before .args .count = omega arith in
+    let e : c .before .loop .back ≡ began (c .before) .args .count = omega arith in
     rw e at (c .before .loop .inv .1)))
