@@ -4,11 +4,17 @@
 // For the crates above: `trace`, over the library and the netlist table of accepted texts. specs/Lowered.antt has what
 // the sweeps remember, specs/Marks.antt how it stands in the table of marks.
 //
-// This run stands by itself, so that the sweeps of an analysis, which need no marks, pay nothing for them. It goes gate
-// by gate in netlist order. A visit that does not lower its number leaves it: where lines are set that comes to the same
-// as "becomes the least row sum" (`traces-agree` of crate `plans`).
+// This run stands by itself, so that the sweeps of an analysis, which need no marks, pay nothing for them. Its sweeps go
+// in netlist order from one gate that is awake to the next, as those of crate `sweep_runs` do: the visits of a gate that
+// is asleep lower nothing, so that numbers, marks and times are those of the whole sweep. A visit that does not lower its
+// number leaves it: where lines are set that comes to the same as "becomes the least row sum" (`traces-agree` of crate
+// `plans`).
 use netlist_table::gates::place_of;
 use netlist_table::gates::unchecked;
+use sweep_awake::all_awake;
+use sweep_awake::next_awake;
+use sweep_awake::rest;
+use sweep_awake::wake_readers;
 use sweep_groups::cell_place;
 use sweep_groups::gather::column_costs;
 use sweep_groups::is_way;
@@ -25,13 +31,14 @@ use sweep_sums::is_lower;
 use sweep_sums::kinds::wide;
 use sweep_sums::lesser_of;
 use sweep_sums::no_sum;
+use sweep_turns::either;
 use sweep_turns::store;
 use sweep_wires::once;
 use table::word;
 ghost use mathlib.Core.List.{List, [], _∷_};
 ghost use mathlib.Core.Path.{_≡_};
 ghost use Prim.Native.Nat.{_+_, _*_, _^_, _≤_, _<_};
-ghost use lib.ListN.{length, getD, replicate};
+ghost use lib.ListN.{length, getD};
 ghost use lib.Seq.{sets};
 ghost use Rattle.sizes.specs.Sizes as Size;
 ghost use Rattle.sizes.specs.Places.{markPlace};
@@ -40,11 +47,14 @@ ghost use Rattle.netlist_table.specs.Netlist.{Statement};
 ghost use Rattle.calculation.specs.Nodes.{Kind, kindNumber};
 ghost use Rattle.sweep_groups.specs.Fits.{ReadFits, LeastFits};
 ghost use Rattle.sweep_groups.specs.Tables.{readRow};
+ghost use Rattle.sweep_turns.specs.Order.{gateVisits};
+ghost use Rattle.sweep_turns.specs.Wakes.{ChangesWoken};
+ghost use Rattle.sweep_runs.specs.Asleep.{Resting};
 ghost use Rattle.sweep_runs.specs.Order.{sweepVisits};
 ghost use Rattle.calculation.specs.Stored.{Holds};
 ghost use Rattle.plan_marks.specs.Lowered.{settingTrace};
 ghost use Rattle.plan_marks.specs.Marks.{asWritten, askingColumns, AllNoted};
-ghost use Rattle.plan_marks.specs.Runs.{LeastOf, Fits, turnVisit, Traced, Traceable};
+ghost use Rattle.plan_marks.specs.Runs.{LeastOf, Fits, GateFits, SweepFits, turnVisit, Traced, Traceable};
 
 // The least row sum of a group, in its kind, and the first of its rows, from 0, that comes to it.
 pub struct Least {
@@ -188,7 +198,59 @@ fn visit(
     true
 }
 
-// One sweep that begins at a time, "for each the output's 0 before its 1"; whether a number changed.
+// A gate's two visits from a time on, "the output's 0 before its 1"; where one lowers its number, the gates that read
+// the line are woken. Whether one did.
+fn visit_gate(
+    kind: usize,
+    library: &[u32],
+    netlist: &[u32],
+    links: &[u16; sizes::LINKS],
+    gate: usize,
+    clock: u32,
+    numbers: &mut [u32; sizes::NUMBERS],
+    marks: &mut [u32; sizes::MARKS],
+    awake: &mut [u64; sizes::AWAKE_WORDS],
+) -> bool
+    requires { ⌜ GateFits kind (now library) (now netlist) (now links) (now numbers) (now marks)
+        (now awake) gate clock ⌝ }
+    ensures traced { λ r.
+        ⌜ Traced kind (now (library .entry)) (now (netlist .entry))
+        (gateVisits 0 kind (now (library .entry)) (now (netlist .entry)) gate) clock
+        (now (numbers .entry)) (now (marks .entry)) (now (numbers .exit)) (now (marks .exit)) r ⌝ }
+    ensures wakes { λ _.
+        ⌜ ChangesWoken 0 kind (now (library .entry)) (now (netlist .entry)) (now (awake .entry))
+        (now (numbers .entry)) (now (awake .exit)) (now (numbers .exit)) ⌝ }
+{
+    let at_zero = visit(
+        kind,
+        library,
+        netlist,
+        links,
+        gate,
+        0,
+        clock,
+        numbers,
+        marks,
+    );
+    let at_one = visit(
+        kind,
+        library,
+        netlist,
+        links,
+        gate,
+        1,
+        clock + 1,
+        numbers,
+        marks,
+    );
+    if !either(at_zero, at_one) {
+        return false;
+    }
+    wake_readers(awake, links, unchecked::line_of(netlist, gate, 0));
+    true
+}
+
+// One sweep that begins at a time, from one gate that is awake to the next; whether a number changed.
 fn one_sweep(
     kind: usize,
     library: &[u32],
@@ -197,32 +259,37 @@ fn one_sweep(
     clock: u32,
     numbers: &mut [u32; sizes::NUMBERS],
     marks: &mut [u32; sizes::MARKS],
+    awake: &mut [u64; sizes::AWAKE_WORDS],
 ) -> bool
-    requires { ⌜ Fits kind (now library) (now netlist) (now links) (now numbers) (now marks)
-        × (clock + 2 * Size.gates < 2 ^ 32) ⌝ }
-    ensures { λ r.
+    requires { ⌜ SweepFits kind (now library) (now netlist) (now links) (now numbers) (now marks)
+        (now awake) clock ⌝ }
+    ensures traced { λ r.
         ⌜ Traced kind (now (library .entry)) (now (netlist .entry))
         (sweepVisits 0 kind (now (library .entry)) (now (netlist .entry))) clock
         (now (numbers .entry)) (now (marks .entry)) (now (numbers .exit)) (now (marks .exit)) r ⌝ }
+    ensures rests { λ _.
+        ⌜ Resting 0 kind (now (library .entry)) (now (netlist .entry)) (now (awake .exit))
+        (now (numbers .exit)) ⌝ }
 {
-    let turns = sizes::VALUES * unchecked::count(netlist);
+    let gates = unchecked::count(netlist);
     let mut changed = false;
-    let mut turn = 0;
-    while turn < turns {
-        let time = clock + turn as u32;
-        let lowered = visit(
+    let mut gate = next_awake(awake, 0, gates);
+    while gate < gates {
+        rest(awake, gate);
+        let time = clock + 2 * gate as u32;
+        let lowered = visit_gate(
             kind,
             library,
             netlist,
             links,
-            turn / 2,
-            turn % 2,
+            gate,
             time,
             numbers,
             marks,
+            awake,
         );
-        changed = changed | lowered;
-        turn += 1;
+        changed = either(changed, lowered);
+        gate = next_awake(awake, gate + 1, gates);
     }
     changed
 }
@@ -241,10 +308,20 @@ pub fn trace(kind: usize, library: &[u32], netlist: &[u32], marks: &mut [u32; si
     link(library, netlist, &mut links);
     let mut numbers = [0u32; sizes::NUMBERS];
     start(netlist, &mut numbers, LOW);
+    let mut awake = all_awake();
     let mut clock: u32 = 0;
     let mut left = 2 * gates + 1;
     while 0 < left {
-        let changed = one_sweep(kind, library, netlist, &links, clock, &mut numbers, marks);
+        let changed = one_sweep(
+            kind,
+            library,
+            netlist,
+            &links,
+            clock,
+            &mut numbers,
+            marks,
+            &mut awake,
+        );
         if !changed {
             return;
         }

@@ -44,7 +44,7 @@ placed c = told c .before
 -- ---- what was read of the gate
 
 gate-fits : (s : tie.Start) → GateFits (s .args .library .now) (s .args .netlist .now) (s .args .gate)
-gate-fits s = s .pre .0 .tablesFit .gates (s .args .gate) (s .pre .1)
+gate-fits s = s .pre .0 .linksFit .tablesFit .gates (s .args .gate) (s .pre .1)
 
 pins-are : (c : tie.After-lines-of) → c .before .wide .result ≡ gatePins (began c .args .library .now) (began c .args .netlist .now) (began c .args .gate)
 pins-are c = rw (celled c .cell-place .ensures) at (c .before .wide .ensures)
@@ -60,7 +60,7 @@ group-few : (c : tie.After-visit-group) → c .visit-group .result ≤ 3
 unfolding byRole pick
 group-few c =
     let s = began (lined (gathered c)) in
-    omega (arith, c .visit-group .ensures, s .pre .0 .kindFits, s .pre .2)
+    omega (arith, c .visit-group .ensures, s .pre .0 .linksFit .kindFits, s .pre .2)
 
 abbrev groupAt : tie.After-visit-group → ℕ
 groupAt c = celled (lined (gathered c)) .cell-place .result + Size.groupsAt + c .visit-group .result * Size.groupWords
@@ -107,7 +107,7 @@ small : (c : tie.After-least-row)
     (began x .args .gate < Size.gates) × (x .before .wide .result ≤ Size.pins)
 small c =
     let x = lined (gathered (grouped (placed c))) in
-    (omega (arith, began x .pre .1, began x .pre .0 .linked .chained .count), fit x .count)
+    (omega (arith, began x .pre .1, began x .pre .0 .linksFit .linked .chained .count), fit x .count)
 
 -- How the gate's rows are read.
 wired-is : (c : tie.After-least-row)
@@ -115,7 +115,7 @@ wired-is : (c : tie.After-least-row)
     told c .is-tied .result ≡ gateTied (a .library .now) (a .netlist .now) (a .gate)
 wired-is c =
     let s = began (lined (gathered (grouped (placed c)))) in
-    told c .is-tied .ensures _ _ _ (s .pre .0 .linked .tied) (s .pre .1)
+    told c .is-tied .ensures _ _ _ (s .pre .0 .linksFit .linked .tied) (s .pre .1)
 
 returns : tie.Need-returns
 returns c =
@@ -218,10 +218,10 @@ visit-spec =
     (λ c κs. search needs)
     (λ c. omega (arith, group-few c))
     (λ c. let f = gate-fits (began (lined (gathered c))) in omega (arith, group-few c))
-    (unfold byRole pick in (λ c κs. let x = lined (gathered (c .before)) in (began x .pre .0 .kindFits, fit x, omega (arith, began x .pre .2))))
+    (unfold byRole pick in (λ c κs. let x = lined (gathered (c .before)) in (began x .pre .0 .linksFit .kindFits, fit x, omega (arith, began x .pre .2))))
     (λ c κs.
     let s = began (lined (gathered (grouped c))) in
-    omega (arith, s .pre .1, s .pre .0 .linked .chained .count))
+    omega (arith, s .pre .1, s .pre .0 .linksFit .linked .chained .count))
     (λ c κs.
     let g = grouped (c .before .before .before) in
     let x = lined (gathered g) in
