@@ -19,16 +19,16 @@ use Rattle.plans.specs.Sweep.{at, least, lower}
 use Rattle.plans.specs.Trace.{firstPlace, Trace, traceVisit, traceSweep}
 use Rattle.plans.proofs.Laws.{at-getD, least-bound}
 use Rattle.netlist_table.specs.Gates.{gateCell, gateLines}
-use Rattle.sweep_sums.specs.Sums.{sumNumber, placeKind}
+use Rattle.sweep_sums.specs.declared.Sum.{Sum}
+use Rattle.sweep_sums.specs.Sums.{sumNumber, placeKind, Summed}
 use Rattle.sweep_sums.proofs.Sums.{setting-kind}
-use Rattle.sweep_groups.specs.Tables.{readRow, gatePins, byRole, roleColumns, visitGroup, visitPlace, gateTied, groupVisit}
+use Rattle.sweep_groups.specs.Tables.{readRow, groupColumns, gatePins, byRole, roleColumns, visitGroup, visitPlace, gateTied, groupVisit}
 use Rattle.sweep_groups.specs.Fits.{LinesFit, Gathered, GatherFits, GroupFits, GateFits, ReadFits, LeastFits}
 use Rattle.sweep_turns.specs.Renewed.{Stored, Swept}
 use Rattle.sweep_turns.proofs.Groups as Group
 use Rattle.sweep_turns.proofs.Visits.{visited, swept-one}
-use Rattle.plan_marks.specs.declared.Least.{Least}
 use Rattle.plan_marks.specs.Marks.{rowPlace, wayRow, gateRow, lastPin, writtenRow, askingRow, Stands}
-use Rattle.plan_marks.specs.Runs.{LeastOf, Fits, turnVisit, Traced}
+use Rattle.plan_marks.specs.Runs.{FirstOf, Fits, turnVisit, Traced}
 use Rattle.plan_marks.proofs.Marks.{stands-still, stands-lowered}
 use Rattle.plan_marks.proofs.Rows.{first-same}
 
@@ -77,19 +77,12 @@ module _ (kind : ℕ) (library netlist links numbers marks : List ℕ) (fits : F
     same-visit : here ≡ turnVisit kind library netlist g e
     same-visit = Group.same-visit kind (fits .linksFit .kindFits) library netlist g e gate-fits value lines pins group lines-are pins-are group-is place place-is wired tied
 
-    module _ (costs : List ℕ) (gathered : Gathered (roleColumns 0 pins) kind lines pins numbers costs) (said : Least) (leastOf : LeastOf read kind library group costs said) where
+    module _ (costs : List ℕ) (gathered : Gathered (roleColumns 0 pins) kind lines pins numbers costs) (found : Sum) (leastOf : Summed kind (least costs (groupColumns read library group)) found) where
       abbrev lowest : ℕ
-      lowest = sumNumber (said .sum)
+      lowest = sumNumber found
 
       least-is : lowest ≡ least numbers (here .ways)
-      least-is = leastOf .sum .comesTo ∙ Group.columns-least kind (fits .linksFit .kindFits) library netlist g e gate-fits value lines pins group lines-are pins-are group-is place place-is wired tied numbers costs gathered
-
-      row-is : said .row ≡ gateRow kind library netlist g e (firstPlace numbers (here .ways))
-      unfolding groupVisit byRole pick
-      row-is =
-          leastOf .row
-          ∙ ap (wayRow read library (getD library group 0) (group + 1)) (first-same gathered read narrow library group few-columns rows-fit)
-          ∙ rw (group-is, tied, lines-are, pins-are)
+      least-is = leastOf .comesTo ∙ Group.columns-least kind (fits .linksFit .kindFits) library netlist g e gate-fits value lines pins group lines-are pins-are group-is place place-is wired tied numbers costs gathered
 
       number-is : at numbers (here .node) ≡ getD numbers place 0
       unfolding groupVisit
@@ -125,13 +118,6 @@ module _ (kind : ℕ) (library netlist links numbers marks : List ℕ) (fits : F
         unfolding lesser counted
         lowered-numbers e = stored .numbers ∙ ap (set numbers place) (omega (arith, taken, below e, least-is, least-bound numbers (here .ways)))
 
-        -- A number that was lowered was so by a row, which may be read.
-        pub row-fits : changed ≡ true → ReadFits wired pins (getD library (group + 1 + Size.rowWords * said .row + 1) 0)
-        unfolding byRole pick
-        row-fits e =
-            let b : at numbers place ≤ never = fits .bounded place in
-            record { few = lines-fit .count; within = λ w. rows-fit .columns (said .row) (leastOf .some (omega (arith, below e, stood))) }
-
         swept-here : Swept (turnVisit kind library netlist g e ∷ []) numbers ys changed
         unfolding groupVisit
         swept-here =
@@ -153,30 +139,47 @@ module _ (kind : ℕ) (library netlist links numbers marks : List ℕ) (fits : F
       unfolding groupVisit byRole pick
       node-is = place-is
 
-      noted : (t : Trace) (line clock row columns last : ℕ) → t .time ≡ clock → line ≡ getD lines 0 0
-          → row ≡ writtenRow library netlist g (rowPlace kind netlist g e (said .row)) → columns ≡ askingRow library netlist g (rowPlace kind netlist g e (said .row))
-          → last ≡ lastPin library netlist g → lowest < getD numbers place 0
-          → Stands kind library netlist t numbers marks
-          → Stands kind library netlist (traceVisit lower t here) (set numbers (here .node) lowest) (sets marks (markPlace line e) ((clock + 1) ∷ row ∷ columns ∷ last ∷ []))
-      noted t line clock row columns last q l d c p h s =
-          let time : clock + 1 ≡ suc (t .time) = omega arith in
-          rw (time, l, d, c, p)
-          (stands-lowered kind library netlist t numbers marks s here g (getD lines 0 0) e node-is inside
-          (ap (λ (ls : List ℕ). getD ls 0 0) (sym lines-are)) (fits .linksFit .kindFits) (lines-fit .least 0 (omega arith)) (lines-fit .most 0 (omega arith)) value (fits .marksSize)
-          (lowest) (said .row) least-is row-is (omega (arith, number-is, least-is)))
+      -- The row that the number was lowered by.
+      module _ (first : ℕ) (firstOf : FirstOf read library group costs first) where
+        row-is : first ≡ gateRow kind library netlist g e (firstPlace numbers (here .ways))
+        unfolding groupVisit byRole pick
+        row-is =
+            firstOf .row
+            ∙ ap (wayRow read library (getD library group 0) (group + 1)) (first-same gathered read narrow library group few-columns rows-fit)
+            ∙ rw (group-is, tied, lines-are, pins-are)
 
-      pub traced-lowered : {number : ℕ} {ys : List ℕ} {changed : Bool} → number ≡ lesser (getD numbers place 0) lowest → Stored place number numbers ys changed → changed ≡ true
-          → (line clock row columns last : ℕ) → line ≡ getD lines 0 0
-          → row ≡ writtenRow library netlist g (rowPlace kind netlist g e (said .row)) → columns ≡ askingRow library netlist g (rowPlace kind netlist g e (said .row))
-          → last ≡ lastPin library netlist g
-          → (marks′ : List ℕ) → marks′ ≡ sets marks (markPlace line e) ((clock + 1) ∷ row ∷ columns ∷ last ∷ [])
-          → Traced kind library netlist (turnVisit kind library netlist g e ∷ []) clock numbers marks ys marks′ true
-      unfolding traceSweep groupVisit
-      traced-lowered taken stored f line clock row columns last l d c p marks′ m =
-          record {
-            stands = λ t q s.
-                rw (lowered-numbers taken stored f, ← same-visit, m)
-                (noted t line clock row columns last q l d c p (below taken stored f) s);
-            swept = rw f at (swept-here taken stored);
-            marksLong = ap length m ∙ length-sets marks (markPlace line e) ((clock + 1) ∷ row ∷ columns ∷ last ∷ []);
-          }
+        -- It may be read.
+        pub row-fits : {number : ℕ} {ys : List ℕ} {changed : Bool} → number ≡ lesser (getD numbers place 0) lowest → Stored place number numbers ys changed → changed ≡ true
+            → ReadFits wired pins (getD library (group + 1 + Size.rowWords * first + 1) 0)
+        unfolding byRole pick
+        row-fits taken stored f =
+            let b : at numbers place ≤ never = fits .bounded place in
+            record { few = lines-fit .count; within = λ w. rows-fit .columns first (firstOf .some (omega (arith, below taken stored f, stood taken stored, leastOf .comesTo))) }
+
+        noted : (t : Trace) (line clock row columns last : ℕ) → t .time ≡ clock → line ≡ getD lines 0 0
+            → row ≡ writtenRow library netlist g (rowPlace kind netlist g e (first)) → columns ≡ askingRow library netlist g (rowPlace kind netlist g e (first))
+            → last ≡ lastPin library netlist g → lowest < getD numbers place 0
+            → Stands kind library netlist t numbers marks
+            → Stands kind library netlist (traceVisit lower t here) (set numbers (here .node) lowest) (sets marks (markPlace line e) ((clock + 1) ∷ row ∷ columns ∷ last ∷ []))
+        noted t line clock row columns last q l d c p h s =
+            let time : clock + 1 ≡ suc (t .time) = omega arith in
+            rw (time, l, d, c, p)
+            (stands-lowered kind library netlist t numbers marks s here g (getD lines 0 0) e node-is inside
+            (ap (λ (ls : List ℕ). getD ls 0 0) (sym lines-are)) (fits .linksFit .kindFits) (lines-fit .least 0 (omega arith)) (lines-fit .most 0 (omega arith)) value (fits .marksSize)
+            (lowest) (first) least-is row-is (omega (arith, number-is, least-is)))
+
+        pub traced-lowered : {number : ℕ} {ys : List ℕ} {changed : Bool} → number ≡ lesser (getD numbers place 0) lowest → Stored place number numbers ys changed → changed ≡ true
+            → (line clock row columns last : ℕ) → line ≡ getD lines 0 0
+            → row ≡ writtenRow library netlist g (rowPlace kind netlist g e (first)) → columns ≡ askingRow library netlist g (rowPlace kind netlist g e (first))
+            → last ≡ lastPin library netlist g
+            → (marks′ : List ℕ) → marks′ ≡ sets marks (markPlace line e) ((clock + 1) ∷ row ∷ columns ∷ last ∷ [])
+            → Traced kind library netlist (turnVisit kind library netlist g e ∷ []) clock numbers marks ys marks′ true
+        unfolding traceSweep groupVisit
+        traced-lowered taken stored f line clock row columns last l d c p marks′ m =
+            record {
+              stands = λ t q s.
+                  rw (lowered-numbers taken stored f, ← same-visit, m)
+                  (noted t line clock row columns last q l d c p (below taken stored f) s);
+              swept = rw f at (swept-here taken stored);
+              marksLong = ap length m ∙ length-sets marks (markPlace line e) ((clock + 1) ∷ row ∷ columns ∷ last ∷ []);
+            }

@@ -13,22 +13,18 @@ use Rattle.plans.specs.Sweep.{least, lower, Bounded}
 use Rattle.plans.specs.Trace.{firstPlace, Trace, traceSweep}
 use Rattle.library_table.specs.Cells.{Cell}
 use Rattle.netlist_table.specs.Netlist.{Statement}
-use Rattle.sweep_sums.specs.Sums.{sumNumber, Summed}
 use Rattle.sweep_groups.specs.Tables.{groupColumns, gateVisit}
 use Rattle.sweep_turns.specs.Fits.{LinksFit}
 use Rattle.sweep_turns.specs.Renewed.{Swept}
 use Rattle.sweep_runs.specs.Asleep.{Resting}
 use Rattle.calculation.specs.Stored.{Holds}
-use Rattle.plan_marks.specs.declared.Least.{Least}
 use Rattle.plan_marks.specs.Marks.{wayRow, Stands}
 
--- The least row sum of a group over the costs of its columns, of a kind, and the first row that comes to it; the rows are read
--- as those of the gate.
-pub record LeastOf (read : ℕ → Option ℕ) (kind : ℕ) (library : List ℕ) (group : ℕ) (costs : List ℕ) (said : Least) : Type 0 where
-  pub sum : Summed kind (least costs (groupColumns read library group)) (said .sum)
-  pub row : said .row ≡ wayRow read library (getD library group 0) (group + 1) (firstPlace costs (groupColumns read library group))
-  pub few : said .row ≤ getD library group 0
-  pub some : sumNumber (said .sum) < never → said .row < getD library group 0
+-- The first row of a group that comes to the least row sum over the costs of its columns; the rows are read as those of the gate.
+pub record FirstOf (read : ℕ → Option ℕ) (library : List ℕ) (group : ℕ) (costs : List ℕ) (said : ℕ) : Type 0 where
+  pub row : said ≡ wayRow read library (getD library group 0) (group + 1) (firstPlace costs (groupColumns read library group))
+  pub few : said ≤ getD library group 0
+  pub some : least costs (groupColumns read library group) < never → said < getD library group 0
 
 -- The tables, the links and the arrays beside them.
 pub record Fits (kind : ℕ) (library netlist links numbers marks : List ℕ) : Type 0 where

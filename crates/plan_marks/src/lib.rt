@@ -18,6 +18,8 @@ use sweep_awake::wake_readers;
 use sweep_groups::cell_place;
 use sweep_groups::gather::column_costs;
 use sweep_groups::is_way;
+use sweep_groups::least_sum;
+use sweep_groups::least_wired;
 use sweep_groups::read_sum;
 use sweep_groups::turns::SETTING;
 use sweep_groups::turns::visit_group;
@@ -30,7 +32,6 @@ use sweep_sums::Sum;
 use sweep_sums::is_lower;
 use sweep_sums::kinds::wide;
 use sweep_sums::lesser_of;
-use sweep_sums::no_sum;
 use sweep_turns::either;
 use sweep_turns::store;
 use sweep_wires::once;
@@ -45,8 +46,10 @@ ghost use Rattle.sizes.specs.Places.{markPlace};
 ghost use Rattle.library_table.specs.Cells.{Cell};
 ghost use Rattle.netlist_table.specs.Netlist.{Statement};
 ghost use Rattle.calculation.specs.Nodes.{Kind, kindNumber};
+ghost use Rattle.plans.specs.Sweep.{least};
+ghost use Rattle.sweep_sums.specs.Sums.{Summed};
 ghost use Rattle.sweep_groups.specs.Fits.{ReadFits, LeastFits};
-ghost use Rattle.sweep_groups.specs.Tables.{readRow};
+ghost use Rattle.sweep_groups.specs.Tables.{readRow, groupColumns};
 ghost use Rattle.sweep_turns.specs.Order.{gateVisits};
 ghost use Rattle.sweep_turns.specs.Wakes.{ChangesWoken};
 ghost use Rattle.sweep_runs.specs.Asleep.{Resting};
@@ -54,16 +57,10 @@ ghost use Rattle.sweep_runs.specs.Order.{sweepVisits};
 ghost use Rattle.calculation.specs.Stored.{Holds};
 ghost use Rattle.plan_marks.specs.Lowered.{settingTrace};
 ghost use Rattle.plan_marks.specs.Marks.{asWritten, askingColumns, AllNoted};
-ghost use Rattle.plan_marks.specs.Runs.{LeastOf, Fits, GateFits, SweepFits, turnVisit, Traced, Traceable};
+ghost use Rattle.plan_marks.specs.Runs.{FirstOf, Fits, GateFits, SweepFits, turnVisit, Traced, Traceable};
 
-// The least row sum of a group, in its kind, and the first of its rows, from 0, that comes to it.
-pub struct Least {
-    pub sum: Sum,
-    pub row: usize,
-}
-
-// From the last row to the first, so that the first among equals stays.
-fn least_row(
+// The least row sum of a group, as `least_of` of crate `sweep_groups` has it, which the sweeps of an analysis alone call.
+fn least_in(
     wired: bool,
     kind: usize,
     library: &[u32],
@@ -71,32 +68,51 @@ fn least_row(
     lines: &[u32; sizes::GATE_LINES],
     pins: usize,
     costs: &[u32; sizes::COLUMNS],
-) -> Least
+) -> Sum
     requires { ⌜ LeastFits wired kind (now library) group pins (now costs) ⌝ }
     ensures { λ r.
-        ⌜ LeastOf (readRow wired (now (lines .entry)) pins) kind (now (library .entry)) group
+        ⌜ Summed kind (least (now (costs .entry)) (groupColumns
+        (readRow wired (now (lines .entry)) pins) (now (library .entry)) group)) r ⌝ }
+{
+    if wired {
+        return least_wired(kind, library, group, lines, pins, costs);
+    }
+    least_sum(kind, library, group, costs)
+}
+
+// The first row of a group, from 0, that comes to the least row sum.
+fn first_row(
+    wired: bool,
+    kind: usize,
+    library: &[u32],
+    group: usize,
+    lines: &[u32; sizes::GATE_LINES],
+    pins: usize,
+    costs: &[u32; sizes::COLUMNS],
+    lowest: Sum,
+) -> usize
+    requires { ⌜ LeastFits wired kind (now library) group pins (now costs)
+        × Summed kind (least (now costs) (groupColumns (readRow wired (now lines) pins) (now library) group))
+        lowest ⌝ }
+    ensures { λ r.
+        ⌜ FirstOf (readRow wired (now (lines .entry)) pins) (now (library .entry)) group
         (now (costs .entry)) r ⌝ }
 {
-    let mut best = no_sum(kind);
-    let mut first = wide(library[group]);
-    let mut row = first;
-    while 0 < row {
-        row -= 1;
+    let rows = wide(library[group]);
+    let mut row = 0;
+    while row < rows {
         let at = group + 1 + sizes::ROW_WORDS * row;
         let depth = library[at];
         let columns = library[at + 1];
         if is_way(wired, lines, pins, columns) {
             let sum = read_sum(wired, kind, lines, pins, costs, depth, columns);
-            if !is_lower(best, sum) {
-                best = sum;
-                first = row;
+            if !is_lower(lowest, sum) {
+                return row;
             }
         }
+        row += 1;
     }
-    Least {
-        sum: best,
-        row: first,
-    }
+    row
 }
 
 // Notes the visit of a line at a value, with the row that it took as it is written, the columns by which
@@ -145,7 +161,7 @@ fn asking_columns(wired: bool, lines: &[u32; sizes::GATE_LINES], pins: usize, co
 }
 
 // A visit to a gate's output at a value, at a time: lowers its number to the least row sum, and notes
-// the row. Whether it was lowered.
+// the row, which is looked for only then. Whether it was lowered.
 fn visit(
     kind: usize,
     library: &[u32],
@@ -172,13 +188,13 @@ fn visit(
     let group = cell + sizes::GROUPS_AT + visit_group(SETTING, kind, value) * sizes::GROUP_WORDS;
     let place = visit_place(SETTING, kind, &lines, pins, value);
     let wired = is_tied(links, gate);
-    let least = least_row(wired, kind, library, group, &lines, pins, &costs);
-    let lowest = least.sum;
+    let lowest = least_in(wired, kind, library, group, &lines, pins, &costs);
     let sum = lesser_of(numbers[place], lowest);
     if !store(numbers, place, sum) {
         return false;
     }
-    let row = group + 1 + sizes::ROW_WORDS * least.row;
+    let first = first_row(wired, kind, library, group, &lines, pins, &costs, lowest);
+    let row = group + 1 + sizes::ROW_WORDS * first;
     let columns = word(library, row + 1);
     let written = as_written(
         word(library, cell + sizes::HEADING_AT),
