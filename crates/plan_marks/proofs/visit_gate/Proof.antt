@@ -75,7 +75,9 @@ pub visit-gate-spec : {M : Type 1} → statement M
 visit-gate-spec =
     tie.close
     (tie.spec
-    (λ c κs. search needs)
+    (λ c κs.
+    let p = c .before .before .before .before .pre in
+    (p .fits, p .inside, omega arith, omega (arith, p .timed)))
     (λ c. search needs)
     visit-requires-2
     (λ c κs. search needs)
