@@ -18,9 +18,8 @@ use Rattle.plans.specs.Sweep.{at, least, lower}
 use Rattle.plans.specs.Trace.{firstPlace, Mark, Trace, markAt, markOf, traceVisit}
 use Rattle.plans.proofs.Laws.{least-bound}
 use Rattle.netlist_table.specs.Gates.{gateLines}
-use Rattle.sweep_groups.specs.Tables.{byRole, groupVisit, gateVisit}
-use Rattle.plan_marks.specs.Marks.{rowPlace, gateRow, lastPin, writtenRow, askingRow, Noted, Unnoted, NotedAs, AllNoted, Stands}
-use Rattle.plan_marks.proofs.Remembered.{idle-visit}
+use Rattle.plan_marks.specs.Marks.{rowPlace, gateRow, lastPin, writtenRow, askingRow, Noted, NotedAs, AllNoted, Stands}
+use Rattle.plan_marks.proofs.Remembered.{Same, idle-visit}
 
 -- ---- four numbers of a table
 
@@ -97,15 +96,18 @@ module _ (kind : ℕ) (library netlist : List ℕ) where
         last = same 3 (omega arith) ∙ n .last;
       }
 
+  -- What remembers the same stands in the same tables.
+  pub stands-same : {u t : Trace} {numbers table : List ℕ} → Same u t → Stands kind library netlist t numbers table → Stands kind library netlist u numbers table
+  stands-same i s =
+      record {
+        numbersAre = s .numbersAre ∙ sym (i .numbers);
+        long = ap length (i .marks) ∙ s .long;
+        noted = rw (i .marks) (s .noted);
+      }
+
   module _ (t : Trace) (numbers table : List ℕ) (s : Stands kind library netlist t numbers table) (v : Visit) where
     pub stands-still : at numbers (v .node) ≤ least numbers (v .ways) → Stands kind library netlist (traceVisit lower t v) numbers table
-    stands-still h =
-        let i = idle-visit t v (rw (← s .numbersAre) h) in
-        record {
-          numbersAre = s .numbersAre ∙ sym (i .numbers);
-          long = ap length (i .marks) ∙ s .long;
-          noted = rw (i .marks) (s .noted);
-        }
+    stands-still h = stands-same (idle-visit t v (rw (← s .numbersAre) h)) s
 
     module _ (g l e : ℕ) (node : v .node ≡ settingPlace kind l e) (inside : g < getD netlist 0 0) (drives : getD (gateLines netlist g) 0 0 ≡ l)
         (kinds : kind ≤ 1) (least-line : 1 ≤ l) (most-line : l ≤ Size.lines) (value : e ≤ 1) (size : length table ≡ Size.marks)

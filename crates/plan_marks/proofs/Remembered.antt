@@ -1,18 +1,24 @@
 -- Sweeps that remember, one after the other: where they rest, they remember nothing more.
 -- Assumes nothing.
-use mathlib.Core.List.{List, [], _∷_, _++_, List·Memᴰ, List·Memᴰ·head, List·Memᴰ·tail}
-use mathlib.Core.Option.{Option}
+use mathlib.Core.Bool.{Bool, true, false}
+use mathlib.Core.List.{List, [], _∷_, _++_, List·Memᴰ·head, List·Memᴰ·tail}
+use mathlib.Core.Option.{Option, some}
 use mathlib.Core.Path.{_≡_, refl, sym, ap, _∙_}
-use Prim.Native.Nat.{ℕ, zero, suc, _+_, _≤_}
+use Prim.Native.Nat.{ℕ, zero, suc, _+_, _≤_, _<_}
+use native.Mathlib.Decide.{decLt}
 use native.Mathlib.Nat.{le-trans}
 use native.Mathlib.Omega.{arith}
 use borrow.Author.Tests.{le-ltb}
+use lib.Dec.{ltb}
 use lib.ListN.{length}
+use lib.Seq.{set-out}
 use Rattle.reading.specs.Choice.{pick}
+use Rattle.cost.specs.Cost.{lesser, counted}
 use Rattle.plans.specs.System.{Visit}
 use Rattle.plans.specs.Sweep.{at, least, Rule, lower, Rests, Inside}
-use Rattle.plans.specs.Trace.{Mark, Trace, traceVisit, traceSweep, traceSweeps}
-use Rattle.plans.proofs.Laws.{least-bound, lower-still, rests-least}
+use Rattle.plans.specs.Idle.{Idles}
+use Rattle.plans.specs.Trace.{Mark, Trace, markOf, traceVisit, traceSweep, traceSweeps}
+use Rattle.plans.proofs.Laws.{at-set-same, least-bound, lower-still, rests-least}
 
 pub trace-append : (rule : Rule) (us vs : List Visit) (t : Trace) → traceSweep rule (us ++ vs) t ≡ traceSweep rule vs (traceSweep rule us t)
 unfolding traceSweep
@@ -44,10 +50,7 @@ pub record Same (s t : Trace) : Type 0 where
   pub numbers : s .numbers ≡ t .numbers
   pub marks : s .marks ≡ t .marks
 
--- No visit of the list lowers its number.
-abbrev Idle : List ℕ → List Visit → Type 0
-Idle xs vs = (v : Visit) → List·Memᴰ v vs → at xs (v .node) ≤ least xs (v .ways)
-
+-- A visit whose number is not above its least sum,
 pub idle-visit : (t : Trace) (v : Visit) → at (t .numbers) (v .node) ≤ least (t .numbers) (v .ways) → Same (traceVisit lower t v) t
 unfolding traceVisit pick
 idle-visit t v h =
@@ -56,22 +59,51 @@ idle-visit t v h =
       marks = rw (le-ltb (least (t .numbers) (v .ways)) (at (t .numbers) (v .node)) h);
     }
 
-idle-sweep : (xs : List ℕ) (vs : List Visit) (t : Trace) → t .numbers ≡ xs → Idle xs vs → Same (traceSweep lower vs t) t
+-- and one that changes nothing: of a node past the table's end there is no mark either.
+unchanged-visit : (t : Trace) (v : Visit) → length (t .marks) ≡ length (t .numbers) → lower (t .numbers) v ≡ t .numbers → Same (traceVisit lower t v) t
+unfolding traceVisit pick lower lesser counted
+unchanged-visit t v long e = place (decLt (v .node) (length (t .numbers)))
+  where
+    either-way : (b : Bool) {xs ys : List (Option Mark)} → xs ≡ ys → pick b xs ys ≡ ys
+    either-way true q = q
+    either-way false q = refl
+
+    place : Dec (v .node < length (t .numbers)) → Same (traceVisit lower t v) t
+    place (yes b) =
+        let xs = t .numbers in
+        let kept : at xs (v .node) ≡ lesser (at xs (v .node)) (least xs (v .ways)) =
+        ap (λ (zs : List ℕ). at zs (v .node)) (sym e) ∙ at-set-same xs (v .node) (lesser (at xs (v .node)) (least xs (v .ways))) b in
+        idle-visit t v (omega (arith, kept, least-bound xs (v .ways)))
+    place (no b) =
+        record {
+          numbers = e;
+          marks = either-way (ltb (least (t .numbers) (v .ways)) (at (t .numbers) (v .node))) (set-out (t .marks) (v .node) (some (markOf (t .numbers) (t .time) v)) (omega arith));
+        }
+
+pub idle-sweep : (vs : List Visit) (t : Trace) → length (t .marks) ≡ length (t .numbers) → Idles lower (t .numbers) vs → Same (traceSweep lower vs t) t
 unfolding traceSweep
-idle-sweep xs [] t e h = record { numbers = refl; marks = refl }
-idle-sweep xs (v ∷ vs) t e h =
-    let one = idle-visit t v (rw e (h v (List·Memᴰ·head refl))) in
-    let rest = idle-sweep xs vs (traceVisit lower t v) (one .numbers ∙ e) (λ u m. h u (List·Memᴰ·tail m)) in
+idle-sweep [] t long h = record { numbers = refl; marks = refl }
+idle-sweep (v ∷ vs) t long h =
+    let one = unchanged-visit t v long (h v (List·Memᴰ·head refl)) in
+    let rest =
+    idle-sweep vs (traceVisit lower t v) (ap length (one .marks) ∙ long ∙ ap length (sym (one .numbers)))
+    (rw (one .numbers) (λ u m. h u (List·Memᴰ·tail m))) in
     record { numbers = rest .numbers ∙ one .numbers; marks = rest .marks ∙ one .marks }
 
-idle-sweeps : (xs : List ℕ) (vs : List Visit) (k : ℕ) (t : Trace) → t .numbers ≡ xs → Idle xs vs → Same (traceSweeps lower vs k t) t
+idle-sweeps : (vs : List Visit) (k : ℕ) (t : Trace) → length (t .marks) ≡ length (t .numbers) → Idles lower (t .numbers) vs → Same (traceSweeps lower vs k t) t
 unfolding traceSweeps
-idle-sweeps xs vs zero t e h = record { numbers = refl; marks = refl }
-idle-sweeps xs vs (suc k) t e h =
-    let one = idle-sweep xs vs t e h in
-    let rest = idle-sweeps xs vs k (traceSweep lower vs t) (one .numbers ∙ e) h in
+idle-sweeps vs zero t long h = record { numbers = refl; marks = refl }
+idle-sweeps vs (suc k) t long h =
+    let one = idle-sweep vs t long h in
+    let rest =
+    idle-sweeps vs k (traceSweep lower vs t) (ap length (one .marks) ∙ long ∙ ap length (sym (one .numbers)))
+    (rw (one .numbers) h) in
     record { numbers = rest .numbers ∙ one .numbers; marks = rest .marks ∙ one .marks }
 
 -- Sweeps after one that changes nothing remember nothing more.
-pub resting : (vs : List Visit) (k : ℕ) (t : Trace) → Inside vs (t .numbers) → Rests lower vs (t .numbers) → Same (traceSweeps lower vs k t) t
-resting vs k t inside rests = idle-sweeps (t .numbers) vs k t refl (rests-least vs (t .numbers) inside rests)
+pub resting : (vs : List Visit) (k : ℕ) (t : Trace) → length (t .marks) ≡ length (t .numbers) → Inside vs (t .numbers) → Rests lower vs (t .numbers) → Same (traceSweeps lower vs k t) t
+resting vs k t long inside rests =
+    idle-sweeps vs k t long
+    (λ v m.
+    let h = rests-least vs (t .numbers) inside rests v m in
+    lower-still (t .numbers) v (le-trans h (least-bound (t .numbers) (v .ways))) h)

@@ -1,15 +1,14 @@
--- The first of the rows that come to the least sum, the rows taken from the last to the first, and the same over the costs of
--- the columns and over the numbers.
+-- The first of the rows that come to the least sum, and the same over the costs of the columns and over the numbers.
 -- Assumes nothing.
 use mathlib.Core.Bool.{Bool, true, false}
 use mathlib.Core.List.{List, []}
 use mathlib.Core.Option.{Option, none, some}
-use mathlib.Core.Path.{_≡_, refl, sym, ap, _∙_}
+use mathlib.Core.Path.{_≡_, refl, sym, _∙_}
 use Prim.Native.Nat.{ℕ, zero, suc, _+_, _*_, _-_, _^_, _≤_, _<_}
 use native.Mathlib.Omega.{arith}
 use borrow.Author.Tests.{le-leb, lt-leb, ltb-true, ltb-false}
 use lib.Dec.{ltb}
-use lib.ListN.{length, getD}
+use lib.ListN.{getD}
 use Rattle.sizes.specs.Sizes as Size
 use Rattle.reading.specs.Choice.{pick}
 use Rattle.cost.specs.Cost.{over, capped, never, lesser, counted, _⊕_}
@@ -27,7 +26,7 @@ use Rattle.sweep_groups.specs.Sums.{lesserRow}
 use Rattle.sweep_groups.proofs.Gathered.{row-same, rows-same}
 use Rattle.sweep_groups.proofs.Rows.{leastFrom, rows-none, rows-more, rows-all}
 use Rattle.plan_marks.specs.Marks.{stepRow, wayRow}
-use Rattle.plan_marks.specs.Runs.{LeastOf}
+use Rattle.plan_marks.specs.Runs.{FirstOf}
 
 -- ---- one row before others
 
@@ -73,56 +72,56 @@ module _ (read : ℕ → Option ℕ) (library costs : List ℕ) (group : ℕ) wh
   abbrev firstFrom : ℕ → ℕ
   firstFrom row = row + wayRow read library (getD library group 0 - row) (group + 1 + Size.rowWords * row) (firstPlace costs (rowsFrom row))
 
-  module _ (row : ℕ) (some : 0 < row) (within : row ≤ getD library group 0) (fit : GroupFits library group Size.columns) where
+  module _ (row : ℕ) (within : row < getD library group 0) (fit : GroupFits library group Size.columns) where
     abbrev place : ℕ
-    place = group + 1 + Size.rowWords * (row - 1)
+    place = group + 1 + Size.rowWords * row
 
     abbrev sum : ℕ
     sum = lesserRow costs (getD library place 0) (read (getD library (place + 1) 0)) never
 
-    more : getD library group 0 - (row - 1) ≡ suc (getD library group 0 - row)
+    more : getD library group 0 - row ≡ suc (getD library group 0 - (row + 1))
     more = omega arith
 
-    next : place + Size.rowWords ≡ group + 1 + Size.rowWords * row
+    next : place + Size.rowWords ≡ group + 1 + Size.rowWords * (row + 1)
     next = omega arith
 
     deep : getD library place 0 ≤ over
-    deep = fit .depth (row - 1) (omega arith)
+    deep = fit .depth row within
 
-    first-here : sum ≤ leastFrom read library costs group row → hasWay (read (getD library (place + 1) 0)) ≡ true → row - 1 ≡ firstFrom (row - 1)
+    abbrev behind : ℕ → ℕ
+    behind = wayRow read library (getD library group 0 - (row + 1)) (group + 1 + Size.rowWords * (row + 1))
+
+    first-here : sum ≤ leastFrom read library costs group (row + 1) → hasWay (read (getD library (place + 1) 0)) ≡ true → row ≡ firstFrom row
     unfolding rowWays wayRow
     first-here h b =
-        let e = here costs (getD library place 0) deep (read (getD library (place + 1) 0)) (rowsFrom row) (wayRow read library (getD library group 0 - row) (group + 1 + Size.rowWords * row)) b h in
+        let e = here costs (getD library place 0) deep (read (getD library (place + 1) 0)) (rowsFrom (row + 1)) behind b h in
         rw (more, next) (omega (arith, e))
 
-    first-later : leastFrom read library costs group row < sum → firstFrom row ≡ firstFrom (row - 1)
+    first-later : leastFrom read library costs group (row + 1) < sum → firstFrom (row + 1) ≡ firstFrom row
     unfolding rowWays wayRow
     first-later h =
-        let e = later costs (getD library place 0) deep (read (getD library (place + 1) 0)) (rowsFrom row) (wayRow read library (getD library group 0 - row) (group + 1 + Size.rowWords * row)) h in
+        let e = later costs (getD library place 0) deep (read (getD library (place + 1) 0)) (rowsFrom (row + 1)) behind h in
         rw (more, next) (omega (arith, e))
-
-    lesser-is : lesser sum (leastFrom read library costs group row) ≡ leastFrom read library costs group (row - 1)
-    lesser-is =
-        sym (joined costs (getD library place 0) deep (read (getD library (place + 1) 0)) (leastFrom read library costs group row) (least-bound costs (rowsFrom row)))
-        ∙ rows-more read library costs group row Size.columns some within fit
-
-    least-here : sum ≤ leastFrom read library costs group row → sum ≡ leastFrom read library costs group (row - 1)
-    unfolding lesser counted
-    least-here h = omega (arith, lesser-is, least-bound costs (rowsFrom row))
-
-    least-later : leastFrom read library costs group row < sum → leastFrom read library costs group row ≡ leastFrom read library costs group (row - 1)
-    unfolding lesser counted
-    least-later h = omega (arith, lesser-is, least-bound costs (rowsFrom row))
 
     -- A row that is no way is passed over.
-    first-past : hasWay (read (getD library (place + 1) 0)) ≡ false → firstFrom row ≡ firstFrom (row - 1)
+    first-past : hasWay (read (getD library (place + 1) 0)) ≡ false → firstFrom (row + 1) ≡ firstFrom row
     unfolding rowWays wayRow
     first-past b =
-        let e = past costs (getD library place 0) deep (read (getD library (place + 1) 0)) (rowsFrom row) (wayRow read library (getD library group 0 - row) (group + 1 + Size.rowWords * row)) b in
+        let e = past costs (getD library place 0) deep (read (getD library (place + 1) 0)) (rowsFrom (row + 1)) behind b in
         rw (more, next) (omega (arith, e))
 
-    least-past : hasWay (read (getD library (place + 1) 0)) ≡ false → leastFrom read library costs group row ≡ leastFrom read library costs group (row - 1)
-    least-past b = sym (unread costs (getD library place 0) deep (read (getD library (place + 1) 0)) (leastFrom read library costs group row) b) ∙ rows-more read library costs group row Size.columns some within fit
+    least-is : lesserRow costs (getD library place 0) (read (getD library (place + 1) 0)) (leastFrom read library costs group (row + 1)) ≡ leastFrom read library costs group row
+    least-is =
+        let z : row + 1 - 1 ≡ row = omega arith in
+        rw z at (rows-more read library costs group (row + 1) Size.columns (omega arith) (omega arith) fit)
+
+    lesser-is : lesser sum (leastFrom read library costs group (row + 1)) ≡ leastFrom read library costs group row
+    lesser-is =
+        sym (joined costs (getD library place 0) deep (read (getD library (place + 1) 0)) (leastFrom read library costs group (row + 1)) (least-bound costs (rowsFrom (row + 1))))
+        ∙ least-is
+
+    least-past : hasWay (read (getD library (place + 1) 0)) ≡ false → leastFrom read library costs group (row + 1) ≡ leastFrom read library costs group row
+    least-past b = sym (unread costs (getD library place 0) deep (read (getD library (place + 1) 0)) (leastFrom read library costs group (row + 1)) b) ∙ least-is
 
   first-none : (row : ℕ) → row ≡ getD library group 0 → row ≡ firstFrom row
   unfolding wayRow
@@ -136,88 +135,86 @@ module _ (read : ℕ → Option ℕ) (library costs : List ℕ) (group : ℕ) wh
       let m : group + 1 + Size.rowWords * 0 ≡ group + 1 = omega arith in
       rw (e, n, m) (omega arith)
 
--- ---- what is kept of the rows from `row` on
+-- ---- the rows before `row` do not come to the least sum
 
-pub record Kept (read : ℕ → Option ℕ) (kind : ℕ) (library costs : List ℕ) (group row : ℕ) (best : Sum) (first : ℕ) : Type 0 where
+pub record Sought (read : ℕ → Option ℕ) (library costs : List ℕ) (group row : ℕ) : Type 0 where
   pub within : row ≤ getD library group 0
-  pub few : first ≤ getD library group 0
-  pub some : leastFrom read library costs group row < never → first < getD library group 0
-  pub summed : Summed kind (leastFrom read library costs group row) best
-  pub firstIs : first ≡ firstFrom read library costs group row
+  pub leastIs : leastFrom read library costs group row ≡ least costs (groupColumns read library group)
+  pub firstIs : firstFrom read library costs group row ≡ wayRow read library (getD library group 0) (group + 1) (firstPlace costs (groupColumns read library group))
 
 row-bound : (costs : List ℕ) (d : ℕ) (o : Option ℕ) → lesserRow costs d o never ≤ never
 unfolding lesserRow lesser counted
 row-bound costs d none = omega arith
 row-bound costs d (some x) = omega arith
 
-module _ {read : ℕ → Option ℕ} {kind : ℕ} {library costs : List ℕ} {group : ℕ} where
-  pub kept-none : {row : ℕ} {best : Sum} → row ≡ getD library group 0 → Summed kind never best → Kept read kind library costs group row best row
-  kept-none {row} e s =
+module _ {read : ℕ → Option ℕ} {library costs : List ℕ} {group : ℕ} where
+  pub sought-none : Sought read library costs group 0
+  sought-none =
       record {
-        within = omega (arith, e);
-        few = omega (arith, e);
-        some = λ l. absurd (omega (arith, rows-none read library costs group row e));
-        summed = record { ofKind = s .ofKind; comesTo = s .comesTo ∙ rows-none read library costs group row e };
-        firstIs = first-none read library costs group row e;
+        within = omega arith;
+        leastIs = rows-all read library costs group 0 (omega arith);
+        firstIs = first-all read library costs group 0 (omega arith);
       }
 
-  module _ {row first : ℕ} {best : Sum} (k : Kept read kind library costs group row best first) (b : 0 < row) (fit : GroupFits library group Size.columns) where
+  module _ {row : ℕ} (k : Sought read library costs group row) (b : row < getD library group 0) (fit : GroupFits library group Size.columns) where
     abbrev rowAt : ℕ
-    rowAt = group + 1 + Size.rowWords * (row - 1)
+    rowAt = group + 1 + Size.rowWords * row
 
     abbrev comesTo : ℕ
     comesTo = lesserRow costs (getD library rowAt 0) (read (getD library (rowAt + 1) 0)) never
 
-    -- How the row's sum stands to the best so far.
-    module _ {sum : Sum} {lower : Bool} (s : Summed kind comesTo sum) (e : lower ≡ ltb (counted (sumNumber best)) (counted (sumNumber sum))) where
+    -- How the row's sum stands to the least.
+    module _ {kind : ℕ} {sum lowest : Sum} {lower : Bool} (s : Summed kind comesTo sum) (l : Summed kind (least costs (groupColumns read library group)) lowest)
+        (e : lower ≡ ltb (counted (sumNumber lowest)) (counted (sumNumber sum))) where
       test : lower ≡ ltb (counted (leastFrom read library costs group row)) (counted comesTo)
-      test = e ∙ rw (k .summed .comesTo, s .comesTo)
+      test = e ∙ rw (l .comesTo, s .comesTo, k .leastIs)
 
-      abbrev bounds : (leastFrom read library costs group row ≤ never) × (comesTo ≤ never)
-      bounds = (least-bound costs (rowsFrom read library costs group row), row-bound costs (getD library rowAt 0) (read (getD library (rowAt + 1) 0)))
+      abbrev bounds : (leastFrom read library costs group row ≤ never) × (leastFrom read library costs group (row + 1) ≤ never) × (comesTo ≤ never)
+      bounds = (
+        least-bound costs (rowsFrom read library costs group row),
+        least-bound costs (rowsFrom read library costs group (row + 1)),
+        row-bound costs (getD library rowAt 0) (read (getD library (rowAt + 1) 0)),
+      )
 
-      pub kept-here : {way : Bool} → way ≡ hasWay (read (getD library (rowAt + 1) 0)) → way ≡ true → lower ≡ false
-          → Kept read kind library costs group (row - 1) sum (row - 1)
-      unfolding counted
-      kept-here w t h =
-          let l : comesTo ≤ leastFrom read library costs group row = omega (arith, bounds, ltb-false (counted (leastFrom read library costs group row)) (counted comesTo) (sym test ∙ h)) in
+      pub sought-here : {way : Bool} → way ≡ hasWay (read (getD library (rowAt + 1) 0)) → way ≡ true → lower ≡ false
+          → FirstOf read library group costs row
+      unfolding lesser counted
+      sought-here w t h =
+          let f : comesTo ≤ leastFrom read library costs group (row + 1) =
+          omega (arith, bounds, lesser-is read library costs group row b fit, ltb-false (counted (leastFrom read library costs group row)) (counted comesTo) (sym test ∙ h)) in
           record {
-            within = omega (arith, k .within);
-            few = omega (arith, k .within);
-            some = λ j. omega (arith, k .within);
-            summed = record { ofKind = s .ofKind; comesTo = s .comesTo ∙ least-here read library costs group row b (k .within) fit l };
-            firstIs = first-here read library costs group row b (k .within) fit l (sym w ∙ t);
+            row = first-here read library costs group row b fit f (sym w ∙ t) ∙ k .firstIs;
+            few = omega arith;
+            some = λ j. b;
           }
 
-      pub kept-later : lower ≡ true → Kept read kind library costs group (row - 1) best first
-      unfolding counted
-      kept-later h =
-          let l : leastFrom read library costs group row < comesTo = omega (arith, bounds, ltb-true (counted (leastFrom read library costs group row)) (counted comesTo) (sym test ∙ h)) in
+      pub sought-later : lower ≡ true → Sought read library costs group (row + 1)
+      unfolding lesser counted
+      sought-later h =
+          let g = ltb-true (counted (leastFrom read library costs group row)) (counted comesTo) (sym test ∙ h) in
+          let f : leastFrom read library costs group (row + 1) < comesTo = omega (arith, bounds, lesser-is read library costs group row b fit, g) in
+          let same : leastFrom read library costs group (row + 1) ≡ leastFrom read library costs group row = omega (arith, bounds, lesser-is read library costs group row b fit, g) in
           record {
-            within = omega (arith, k .within);
-            few = k .few;
-            some = rw (← least-later read library costs group row b (k .within) fit l) (k .some);
-            summed = record { ofKind = k .summed .ofKind; comesTo = k .summed .comesTo ∙ least-later read library costs group row b (k .within) fit l };
-            firstIs = k .firstIs ∙ first-later read library costs group row b (k .within) fit l;
+            within = omega arith;
+            leastIs = same ∙ k .leastIs;
+            firstIs = first-later read library costs group row b fit f ∙ k .firstIs;
           }
 
-    pub kept-past : {way : Bool} → way ≡ hasWay (read (getD library (rowAt + 1) 0)) → way ≡ false → Kept read kind library costs group (row - 1) best first
-    kept-past w t =
+    pub sought-past : {way : Bool} → way ≡ hasWay (read (getD library (rowAt + 1) 0)) → way ≡ false → Sought read library costs group (row + 1)
+    sought-past w t =
         record {
-          within = omega (arith, k .within);
-          few = k .few;
-          some = rw (← least-past read library costs group row b (k .within) fit (sym w ∙ t)) (k .some);
-          summed = record { ofKind = k .summed .ofKind; comesTo = k .summed .comesTo ∙ least-past read library costs group row b (k .within) fit (sym w ∙ t) };
-          firstIs = k .firstIs ∙ first-past read library costs group row b (k .within) fit (sym w ∙ t);
+          within = omega arith;
+          leastIs = least-past read library costs group row b fit (sym w ∙ t) ∙ k .leastIs;
+          firstIs = first-past read library costs group row b fit (sym w ∙ t) ∙ k .firstIs;
         }
 
-  pub kept-all : {row first : ℕ} {best : Sum} → row ≤ 0 → Kept read kind library costs group row best first → LeastOf read kind library group costs (record { sum = best; row = first })
-  kept-all {row} h k =
+  -- Where no row does, there is no sum below never.
+  pub sought-all : {row : ℕ} → row ≡ getD library group 0 → Sought read library costs group row → FirstOf read library group costs row
+  sought-all {row} e k =
       record {
-        sum = record { ofKind = k .summed .ofKind; comesTo = k .summed .comesTo ∙ rows-all read library costs group row h };
-        row = k .firstIs ∙ first-all read library costs group row h;
-        few = k .few;
-        some = rw (k .summed .comesTo) (k .some);
+        row = first-none read library costs group row e ∙ k .firstIs;
+        few = k .within;
+        some = λ j. absurd (omega (arith, rows-none read library costs group row e, k .leastIs));
       }
 
 -- ---- the same over the numbers

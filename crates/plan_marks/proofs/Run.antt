@@ -4,7 +4,7 @@ use mathlib.Core.Bool.{false}
 use mathlib.Core.List.{List}
 use mathlib.Core.Option.{Option, none}
 use mathlib.Core.Path.{_≡_, refl, sym, ap, subst, _∙_}
-use Prim.Native.Nat.{ℕ, suc, _+_, _*_, _-_, _≤_, _<_}
+use Prim.Native.Nat.{ℕ, zero, suc, _+_, _*_, _-_, _≤_, _<_}
 use native.Mathlib.Omega.{arith}
 use lib.ListN.{length, getD, getD-replicate, replicate, length-replicate, List·getD-eq-default}
 use native.Mathlib.Decide.{decLt}
@@ -12,29 +12,37 @@ use Rattle.sizes.specs.Sizes as Size
 use Rattle.sizes.specs.Places.{settingPlace, markPlace}
 use Rattle.plans.specs.System.{Visit}
 use Rattle.plans.specs.Sweep.{lower, sweep, Rests, Inside, Bounded}
-use Rattle.plans.specs.Trace.{Mark, Trace, markAt, traceSweep, traceSweeps, untraced}
-use Rattle.plans.proofs.Laws.{sweep-numbers, traced-numbers}
+use Rattle.plans.specs.Trace.{Mark, Trace, markAt, traceSweeps, untraced}
+use Rattle.plans.proofs.Laws.{sweep-numbers}
 use Rattle.library_table.specs.Cells.{Cell}
 use Rattle.netlist_table.specs.Netlist.{Statement, gatesOf}
 use Rattle.netlist_table.proofs.Places.{netlist-count}
 use Rattle.calculation.specs.Prices.{pricesOf}
-use Rattle.calculation.specs.Nodes.{Kind, kindNumber}
+use Rattle.calculation.specs.Nodes.{Kind, combinational, sequential, kindNumber}
 use Rattle.calculation.specs.Calculation.{start}
 use Rattle.calculation.proofs.Places.{start-length, start-bounded}
 use Rattle.calculation.proofs.Prices.{own-figures}
-use Rattle.sweep_groups.proofs.Bridge.{tables-fit}
-use Rattle.sweep_groups.specs.Fits.{TablesFit}
+use Rattle.sweep_links.specs.Lines.{Links}
+use Rattle.sweep_turns.specs.Fits.{LinksFit}
 use Rattle.sweep_runs.specs.Order.{sweepVisits}
 use Rattle.calculation.specs.Stored.{Holds}
 use Rattle.sweep_start.specs.Start.{linesStart}
 use Rattle.sweep_runs.proofs.Bridge.{setting-sweep, start-is}
+use Rattle.sweep_runs.proofs.FourRuns.{set-fits}
 use Rattle.sweep_start.proofs.StartLines.{laid-length}
 use Rattle.plan_marks.specs.Lowered.{settingTrace}
 use Rattle.plan_marks.specs.Marks.{NotedAs, AllNoted, Stands}
 use Rattle.plan_marks.specs.Runs.{Traced}
-use Rattle.plan_marks.proofs.Sweeps.{turns, turns-length, all-turns}
+use Rattle.plan_marks.proofs.Sweeps.{gates-length}
 use Rattle.plan_marks.proofs.Remembered.{trace-time, traces-last, traces-add, resting}
 use Rattle.plan_marks.proofs.Rest.{visits, trace-lower, visits-inside}
+
+-- The links of accepted cells and statements, for the sweeps that set lines.
+pub links-fit : {library netlist links : List ℕ} {cells : List Cell} {ss : List Statement} → Holds library netlist cells ss → Links library netlist links
+    → (xs : List ℕ) → length xs ≡ Size.numbers → Bounded xs → (kind : ℕ) → kind ≤ 1 → LinksFit 0 kind library netlist links
+links-fit h linked xs n b zero f = set-fits h linked combinational n b .linksFit
+links-fit h linked xs n b (suc zero) f = set-fits h linked sequential n b .linksFit
+links-fit h linked xs n b (suc (suc kind)) f = absurd (omega arith)
 
 module _ (kind : ℕ) (library netlist : List ℕ) where
   abbrev pub run-visits : List Visit
@@ -45,7 +53,7 @@ module _ (kind : ℕ) (library netlist : List ℕ) where
   after done = traceSweeps lower run-visits done (untraced (linesStart false netlist Size.lines 1))
 
   visits-count : length run-visits ≡ 2 * getD netlist 0 0
-  visits-count = ap length (sym (all-turns kind library netlist)) ∙ turns-length kind library netlist (2 * getD netlist 0 0)
+  visits-count = gates-length kind library netlist (getD netlist 0 0)
 
   -- At the start nothing is marked.
   abbrev no-marks : List (Option Mark)
@@ -88,9 +96,6 @@ module _ (kind : ℕ) (library netlist : List ℕ) where
   -- ---- at accepted cells and statements
 
   module _ (cells : List Cell) (ss : List Statement) (h : Holds library netlist cells ss) where
-    pub tables : TablesFit library netlist
-    tables = rw (h .cellsStand, h .statementsStand) (tables-fit cells ss (h .sound) (h .behind) (h .past))
-
     pub few-gates : getD netlist 0 0 ≤ Size.gates
     few-gates = rw (h .statementsStand, netlist-count ss (h .past)) (h .sound .netlist .few)
 
@@ -130,6 +135,7 @@ module _ (kind : ℕ) (library netlist : List ℕ) where
         let same : last .numbers ≡ after done .numbers = sym (s′ .numbersAre) ∙ still ∙ s .numbersAre in
         let swept : last .numbers ≡ sweep lower run-visits (after done .numbers) = ap (λ (x : Trace). x .numbers) (traces-last lower run-visits done t) ∙ sweep-numbers lower run-visits (after done) in
         let rests : Rests lower run-visits (last .numbers) = rw same (sym swept ∙ same) in
-        let r = resting run-visits more last (inside (last .numbers) (ap length (sym (s′ .numbersAre)) ∙ long)) rests in
+        let size : length (last .numbers) ≡ Size.numbers = ap length (sym (s′ .numbersAre)) ∙ long in
+        let r = resting run-visits more last (s′ .long ∙ sym size) (inside (last .numbers) size) rests in
         let whole : traceSweeps lower run-visits more last ≡ settingTrace k cells ss = sym (traces-add lower run-visits (suc done) more t) ∙ ap after all ∙ all-is in
         subst (λ (ms : List (Option Mark)). AllNoted kind library netlist ms marks′) (sym (r .marks) ∙ ap (λ (x : Trace). x .marks) whole) (s′ .noted)

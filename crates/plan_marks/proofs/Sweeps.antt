@@ -1,77 +1,90 @@
--- Visits with their marks one after the other, a sweep, and the run.
+-- Visits with their marks one after the other, and those that are passed over.
 -- Assumes nothing.
-use mathlib.Core.Bool.{Bool, true, false, _||_}
-use mathlib.Core.List.{List, [], _∷_, _++_, append-assoc}
-use mathlib.Core.Path.{_≡_, refl, sym, ap, ap₂, subst, _∙_}
-use Prim.Native.Nat.{ℕ, zero, suc, _+_, _*_, _-_, _/_, _%_, _≤_, _<_}
+use mathlib.Core.Bool.{Bool, false, _||_}
+use mathlib.Core.List.{List, [], _∷_}
+use mathlib.Core.Path.{_≡_, refl, sym, ap, _∙_}
+use Prim.Native.Nat.{ℕ, zero, suc, _+_, _*_}
+use native.Mathlib.Nat.{le-trans}
 use native.Mathlib.Numerals.{add-one}
 use native.Mathlib.Omega.{arith}
-use lib.ListN.{length, getD, length-append}
+use lib.ListN.{length, length-append}
+use Rattle.sizes.specs.Sizes as Size
 use Rattle.reading.specs.Choice.{pick}
 use Rattle.plans.specs.System.{Visit}
-use Rattle.plans.specs.Sweep.{lower}
-use Rattle.plans.specs.Idle.{inTurn}
+use Rattle.plans.specs.Sweep.{lower, Bounded}
+use Rattle.plans.specs.Idle.{inTurn, Skipped}
 use Rattle.plans.specs.Trace.{Trace, traceSweep}
-use Rattle.sweep_groups.specs.Tables.{byRole, gatePins, gateVisit}
+use Rattle.plans.proofs.Laws.{numbers-fall, lower-stores}
+use Rattle.calculation.proofs.Sweeps.{unchanged}
+use Rattle.sweep_groups.specs.Tables.{byRole}
 use Rattle.sweep_turns.specs.Order.{gateVisits}
-use Rattle.sweep_runs.specs.Order.{sweepVisits}
+use Rattle.sweep_turns.specs.Renewed.{Swept}
+use Rattle.sweep_turns.proofs.Visits.{swept-none, next-turn}
+use Rattle.sweep_runs.specs.Order.{firstGates}
+use Rattle.sweep_runs.proofs.Asleep.{skipped-swept}
 use Rattle.plan_marks.specs.Marks.{Stands}
 use Rattle.plan_marks.specs.Runs.{turnVisit, Traced}
-use Rattle.plan_marks.proofs.Remembered.{trace-append, trace-time}
+use Rattle.plan_marks.proofs.Remembered.{trace-append, trace-time, idle-sweep}
+use Rattle.plan_marks.proofs.Marks.{stands-same}
+
+-- ---- what a sweep leaves of the numbers
+
+pub swept-still : {vs : List Visit} {xs ys : List ℕ} {changed : Bool} → changed ≡ false → Swept vs xs ys changed → ys ≡ xs
+swept-still {vs} {xs} e w = w .numbers ∙ unchanged lower lower-stores vs xs (sym (w .flag) ∙ e)
+
+pub swept-bounded : {vs : List Visit} {xs ys : List ℕ} {changed : Bool} → Swept vs xs ys changed → Bounded xs → Bounded ys
+swept-bounded {vs} {xs} w b n = rw (w .numbers) (le-trans (numbers-fall vs xs n) (b n))
 
 module _ (kind : ℕ) (library netlist : List ℕ) where
+  -- ---- one turn after the other
+
   pub traced-none : (clock : ℕ) (numbers marks : List ℕ) → Traced kind library netlist [] clock numbers marks numbers marks false
   unfolding traceSweep
-  traced-none clock numbers marks = record { stands = λ t q s. s; still = λ q. refl; long = refl; bounded = λ b. b; marksLong = refl }
+  traced-none clock numbers marks = record { stands = λ t q s. s; swept = swept-none numbers; marksLong = refl }
 
-  both-still : (a b : Bool) {xs ys zs : List ℕ} → (a ≡ false → ys ≡ xs) → (b ≡ false → zs ≡ ys) → (a || b) ≡ false → zs ≡ xs
-  both-still true b f g e = let z : _≡_ {A = ℕ} 0 1 = cc in absurd (omega arith)
-  both-still false b f g e = g e ∙ f refl
-
-  traced-append : {us vs : List Visit} {clock next : ℕ} {n0 m0 n1 m1 n2 m2 : List ℕ} {a b : Bool} → next ≡ clock + length us
-      → Traced kind library netlist us clock n0 m0 n1 m1 a → Traced kind library netlist vs next n1 m1 n2 m2 b
-      → Traced kind library netlist (us ++ vs) clock n0 m0 n2 m2 (a || b)
-  traced-append {us} {vs} {clock} {next} {a = a} {b = b} e f g =
+  pub traced-next : (visits : ℕ → List Visit) (i : ℕ) {clock time : ℕ} {n0 m0 n1 m1 n2 m2 : List ℕ} {a b : Bool} → time ≡ clock + length (inTurn visits i)
+      → Traced kind library netlist (inTurn visits i) clock n0 m0 n1 m1 a → Traced kind library netlist (visits i) time n1 m1 n2 m2 b
+      → Traced kind library netlist (inTurn visits (i + 1)) clock n0 m0 n2 m2 (a || b)
+  unfolding inTurn
+  traced-next visits i e f g =
       record {
         stands = λ t q s.
-            rw (trace-append lower us vs t)
-            (g .stands (traceSweep lower us t) (trace-time lower us t ∙ ap (λ (x : ℕ). x + length us) q ∙ sym e) (f .stands t q s));
-        still = both-still a b (f .still) (g .still);
-        long = g .long ∙ f .long;
-        bounded = λ b. g .bounded (f .bounded b);
+            rw (add-one i, trace-append lower (inTurn visits i) (visits i) t)
+            (g .stands (traceSweep lower (inTurn visits i) t) (trace-time lower (inTurn visits i) t ∙ ap (λ (x : ℕ). x + length (inTurn visits i)) q ∙ sym e) (f .stands t q s));
+        swept = next-turn visits i (f .swept) (g .swept);
         marksLong = g .marksLong ∙ f .marksLong;
       }
 
-  -- The visits of the first so many turns, each of one value of one gate.
-  abbrev pub turns : ℕ → List Visit
-  turns count = inTurn (λ h. turnVisit kind library netlist (h / 2) (h % 2) ∷ []) count
+  -- Visits that are passed over change no number, and so leave no mark.
+  pub traced-skipped : {visits : ℕ → List Visit} {from to clock : ℕ} {n0 m0 n1 m1 : List ℕ} {a : Bool} → length n1 ≡ Size.numbers → Skipped lower visits from to n1
+      → Traced kind library netlist (inTurn visits from) clock n0 m0 n1 m1 a
+      → Traced kind library netlist (inTurn visits to) clock n0 m0 n1 m1 a
+  traced-skipped {visits} {from} {to} {n1 = n1} {m1 = m1} long k f =
+      record {
+        stands = λ t q s. past t (f .stands t q s);
+        swept = skipped-swept k (f .swept);
+        marksLong = f .marksLong;
+      }
+    where
+      past : (t : Trace) → Stands kind library netlist (traceSweep lower (inTurn visits from) t) n1 m1 → Stands kind library netlist (traceSweep lower (inTurn visits to) t) n1 m1
+      past t s =
+          let u = traceSweep lower (inTurn visits from) t in
+          rw (k .split, trace-append lower (inTurn visits from) (k .between) t)
+          (stands-same kind library netlist
+          (idle-sweep (k .between) u (s .long ∙ sym long ∙ ap length (s .numbersAre)) (rw (← s .numbersAre) (k .idle)))
+          s)
 
-  pub turns-length : (count : ℕ) → length (turns count) ≡ count
-  unfolding inTurn
-  turns-length zero = refl
-  turns-length (suc count) = length-append (turns count) (turnVisit kind library netlist (count / 2) (count % 2) ∷ []) ∙ omega (arith, turns-length count)
+  -- ---- a gate and a sweep
 
-  pub traced-next : {clock : ℕ} (turn : ℕ) {n0 m0 n1 m1 n2 m2 : List ℕ} {a b : Bool}
-      → Traced kind library netlist (turns turn) clock n0 m0 n1 m1 a
-      → Traced kind library netlist (turnVisit kind library netlist (turn / 2) (turn % 2) ∷ []) (clock + turn) n1 m1 n2 m2 b
-      → Traced kind library netlist (turns (turn + 1)) clock n0 m0 n2 m2 (a || b)
-  unfolding inTurn
-  traced-next {clock} turn f g = rw (add-one turn) (traced-append (omega (arith, turns-length turn)) f g)
-
-  -- Two turns to a gate.
-  pub turns-sweep : (count : ℕ) → turns (2 * count) ≡ inTurn (λ g. gateVisits 0 kind library netlist g) count
+  -- A gate has two visits.
+  pub gates-length : (count : ℕ) → length (firstGates 0 kind library netlist count) ≡ 2 * count
   unfolding inTurn byRole pick
-  turns-sweep zero = refl
-  turns-sweep (suc count) =
-      let e : 2 * suc count ≡ suc (suc (2 * count)) = omega arith in
-      let g0 : 2 * count / 2 ≡ count = omega arith in
-      let v0 : 2 * count % 2 ≡ 0 = omega arith in
-      let g1 : suc (2 * count) / 2 ≡ count = omega arith in
-      let v1 : suc (2 * count) % 2 ≡ 1 = omega arith in
-      rw (e, g0, v0, g1, v1)
-      (append-assoc (turns (2 * count)) (turnVisit kind library netlist count 0 ∷ []) (turnVisit kind library netlist count 1 ∷ [])
-      ∙ ap (λ (l : List Visit). l ++ (turnVisit kind library netlist count 0 ∷ turnVisit kind library netlist count 1 ∷ [])) (turns-sweep count))
+  gates-length zero = refl
+  gates-length (suc count) = length-append (firstGates 0 kind library netlist count) (gateVisits 0 kind library netlist count) ∙ omega (arith, gates-length count)
 
-  pub all-turns : turns (2 * getD netlist 0 0) ≡ sweepVisits 0 kind library netlist
-  unfolding byRole pick
-  all-turns = turns-sweep (getD netlist 0 0)
+  pub traced-gate : (g : ℕ) {clock : ℕ} {n0 m0 n1 m1 n2 m2 : List ℕ} {a b : Bool}
+      → Traced kind library netlist (turnVisit kind library netlist g 0 ∷ []) clock n0 m0 n1 m1 a
+      → Traced kind library netlist (turnVisit kind library netlist g 1 ∷ []) (clock + 1) n1 m1 n2 m2 b
+      → Traced kind library netlist (gateVisits 0 kind library netlist g) clock n0 m0 n2 m2 (a || b)
+  unfolding inTurn byRole pick
+  traced-gate g f s = traced-next (λ i. turnVisit kind library netlist g i ∷ []) 1 refl f s

@@ -4,14 +4,22 @@
 // For the crates above: `trace`, over the library and the netlist table of accepted texts. specs/Lowered.antt has what
 // the sweeps remember, specs/Marks.antt how it stands in the table of marks.
 //
-// This run stands by itself, so that the sweeps of an analysis, which need no marks, pay nothing for them. It goes gate
-// by gate in netlist order. A visit that does not lower its number leaves it: where lines are set that comes to the same
-// as "becomes the least row sum" (`traces-agree` of crate `plans`).
+// This run stands by itself, so that the sweeps of an analysis, which need no marks, pay nothing for them. Its sweeps go
+// in netlist order from one gate that is awake to the next, as those of crate `sweep_runs` do: the visits of a gate that
+// is asleep lower nothing, so that numbers, marks and times are those of the whole sweep. A visit that does not lower its
+// number leaves it: where lines are set that comes to the same as "becomes the least row sum" (`traces-agree` of crate
+// `plans`).
 use netlist_table::gates::place_of;
 use netlist_table::gates::unchecked;
+use sweep_awake::all_awake;
+use sweep_awake::next_awake;
+use sweep_awake::rest;
+use sweep_awake::wake_readers;
 use sweep_groups::cell_place;
 use sweep_groups::gather::column_costs;
 use sweep_groups::is_way;
+use sweep_groups::least_sum;
+use sweep_groups::least_wired;
 use sweep_groups::read_sum;
 use sweep_groups::turns::SETTING;
 use sweep_groups::turns::visit_group;
@@ -24,36 +32,35 @@ use sweep_sums::Sum;
 use sweep_sums::is_lower;
 use sweep_sums::kinds::wide;
 use sweep_sums::lesser_of;
-use sweep_sums::no_sum;
+use sweep_turns::either;
 use sweep_turns::store;
 use sweep_wires::once;
 use table::word;
 ghost use mathlib.Core.List.{List, [], _∷_};
 ghost use mathlib.Core.Path.{_≡_};
 ghost use Prim.Native.Nat.{_+_, _*_, _^_, _≤_, _<_};
-ghost use lib.ListN.{length, getD, replicate};
+ghost use lib.ListN.{length, getD};
 ghost use lib.Seq.{sets};
 ghost use Rattle.sizes.specs.Sizes as Size;
 ghost use Rattle.sizes.specs.Places.{markPlace};
 ghost use Rattle.library_table.specs.Cells.{Cell};
 ghost use Rattle.netlist_table.specs.Netlist.{Statement};
 ghost use Rattle.calculation.specs.Nodes.{Kind, kindNumber};
+ghost use Rattle.plans.specs.Sweep.{least};
+ghost use Rattle.sweep_sums.specs.Sums.{Summed};
 ghost use Rattle.sweep_groups.specs.Fits.{ReadFits, LeastFits};
-ghost use Rattle.sweep_groups.specs.Tables.{readRow};
+ghost use Rattle.sweep_groups.specs.Tables.{readRow, groupColumns};
+ghost use Rattle.sweep_turns.specs.Order.{gateVisits};
+ghost use Rattle.sweep_turns.specs.Wakes.{ChangesWoken};
+ghost use Rattle.sweep_runs.specs.Asleep.{Resting};
 ghost use Rattle.sweep_runs.specs.Order.{sweepVisits};
 ghost use Rattle.calculation.specs.Stored.{Holds};
 ghost use Rattle.plan_marks.specs.Lowered.{settingTrace};
 ghost use Rattle.plan_marks.specs.Marks.{asWritten, askingColumns, AllNoted};
-ghost use Rattle.plan_marks.specs.Runs.{LeastOf, Fits, turnVisit, Traced, Traceable};
+ghost use Rattle.plan_marks.specs.Runs.{FirstOf, Fits, GateFits, SweepFits, turnVisit, Traced, Traceable};
 
-// The least row sum of a group, in its kind, and the first of its rows, from 0, that comes to it.
-pub struct Least {
-    pub sum: Sum,
-    pub row: usize,
-}
-
-// From the last row to the first, so that the first among equals stays.
-fn least_row(
+// The least row sum of a group, as `least_of` of crate `sweep_groups` has it, which the sweeps of an analysis alone call.
+fn least_in(
     wired: bool,
     kind: usize,
     library: &[u32],
@@ -61,32 +68,51 @@ fn least_row(
     lines: &[u32; sizes::GATE_LINES],
     pins: usize,
     costs: &[u32; sizes::COLUMNS],
-) -> Least
+) -> Sum
     requires { ⌜ LeastFits wired kind (now library) group pins (now costs) ⌝ }
     ensures { λ r.
-        ⌜ LeastOf (readRow wired (now (lines .entry)) pins) kind (now (library .entry)) group
+        ⌜ Summed kind (least (now (costs .entry)) (groupColumns
+        (readRow wired (now (lines .entry)) pins) (now (library .entry)) group)) r ⌝ }
+{
+    if wired {
+        return least_wired(kind, library, group, lines, pins, costs);
+    }
+    least_sum(kind, library, group, costs)
+}
+
+// The first row of a group, from 0, that comes to the least row sum.
+fn first_row(
+    wired: bool,
+    kind: usize,
+    library: &[u32],
+    group: usize,
+    lines: &[u32; sizes::GATE_LINES],
+    pins: usize,
+    costs: &[u32; sizes::COLUMNS],
+    lowest: Sum,
+) -> usize
+    requires { ⌜ LeastFits wired kind (now library) group pins (now costs)
+        × Summed kind (least (now costs) (groupColumns (readRow wired (now lines) pins) (now library) group))
+        lowest ⌝ }
+    ensures { λ r.
+        ⌜ FirstOf (readRow wired (now (lines .entry)) pins) (now (library .entry)) group
         (now (costs .entry)) r ⌝ }
 {
-    let mut best = no_sum(kind);
-    let mut first = wide(library[group]);
-    let mut row = first;
-    while 0 < row {
-        row -= 1;
+    let rows = wide(library[group]);
+    let mut row = 0;
+    while row < rows {
         let at = group + 1 + sizes::ROW_WORDS * row;
         let depth = library[at];
         let columns = library[at + 1];
         if is_way(wired, lines, pins, columns) {
             let sum = read_sum(wired, kind, lines, pins, costs, depth, columns);
-            if !is_lower(best, sum) {
-                best = sum;
-                first = row;
+            if !is_lower(lowest, sum) {
+                return row;
             }
         }
+        row += 1;
     }
-    Least {
-        sum: best,
-        row: first,
-    }
+    row
 }
 
 // Notes the visit of a line at a value, with the row that it took as it is written, the columns by which
@@ -135,7 +161,7 @@ fn asking_columns(wired: bool, lines: &[u32; sizes::GATE_LINES], pins: usize, co
 }
 
 // A visit to a gate's output at a value, at a time: lowers its number to the least row sum, and notes
-// the row. Whether it was lowered.
+// the row, which is looked for only then. Whether it was lowered.
 fn visit(
     kind: usize,
     library: &[u32],
@@ -162,13 +188,13 @@ fn visit(
     let group = cell + sizes::GROUPS_AT + visit_group(SETTING, kind, value) * sizes::GROUP_WORDS;
     let place = visit_place(SETTING, kind, &lines, pins, value);
     let wired = is_tied(links, gate);
-    let least = least_row(wired, kind, library, group, &lines, pins, &costs);
-    let lowest = least.sum;
+    let lowest = least_in(wired, kind, library, group, &lines, pins, &costs);
     let sum = lesser_of(numbers[place], lowest);
     if !store(numbers, place, sum) {
         return false;
     }
-    let row = group + 1 + sizes::ROW_WORDS * least.row;
+    let first = first_row(wired, kind, library, group, &lines, pins, &costs, lowest);
+    let row = group + 1 + sizes::ROW_WORDS * first;
     let columns = word(library, row + 1);
     let written = as_written(
         word(library, cell + sizes::HEADING_AT),
@@ -188,7 +214,59 @@ fn visit(
     true
 }
 
-// One sweep that begins at a time, "for each the output's 0 before its 1"; whether a number changed.
+// A gate's two visits from a time on, "the output's 0 before its 1"; where one lowers its number, the gates that read
+// the line are woken. Whether one did.
+fn visit_gate(
+    kind: usize,
+    library: &[u32],
+    netlist: &[u32],
+    links: &[u16; sizes::LINKS],
+    gate: usize,
+    clock: u32,
+    numbers: &mut [u32; sizes::NUMBERS],
+    marks: &mut [u32; sizes::MARKS],
+    awake: &mut [u64; sizes::AWAKE_WORDS],
+) -> bool
+    requires { ⌜ GateFits kind (now library) (now netlist) (now links) (now numbers) (now marks)
+        (now awake) gate clock ⌝ }
+    ensures traced { λ r.
+        ⌜ Traced kind (now (library .entry)) (now (netlist .entry))
+        (gateVisits 0 kind (now (library .entry)) (now (netlist .entry)) gate) clock
+        (now (numbers .entry)) (now (marks .entry)) (now (numbers .exit)) (now (marks .exit)) r ⌝ }
+    ensures wakes { λ _.
+        ⌜ ChangesWoken 0 kind (now (library .entry)) (now (netlist .entry)) (now (awake .entry))
+        (now (numbers .entry)) (now (awake .exit)) (now (numbers .exit)) ⌝ }
+{
+    let at_zero = visit(
+        kind,
+        library,
+        netlist,
+        links,
+        gate,
+        0,
+        clock,
+        numbers,
+        marks,
+    );
+    let at_one = visit(
+        kind,
+        library,
+        netlist,
+        links,
+        gate,
+        1,
+        clock + 1,
+        numbers,
+        marks,
+    );
+    if !either(at_zero, at_one) {
+        return false;
+    }
+    wake_readers(awake, links, unchecked::line_of(netlist, gate, 0));
+    true
+}
+
+// One sweep that begins at a time, from one gate that is awake to the next; whether a number changed.
 fn one_sweep(
     kind: usize,
     library: &[u32],
@@ -197,32 +275,37 @@ fn one_sweep(
     clock: u32,
     numbers: &mut [u32; sizes::NUMBERS],
     marks: &mut [u32; sizes::MARKS],
+    awake: &mut [u64; sizes::AWAKE_WORDS],
 ) -> bool
-    requires { ⌜ Fits kind (now library) (now netlist) (now links) (now numbers) (now marks)
-        × (clock + 2 * Size.gates < 2 ^ 32) ⌝ }
-    ensures { λ r.
+    requires { ⌜ SweepFits kind (now library) (now netlist) (now links) (now numbers) (now marks)
+        (now awake) clock ⌝ }
+    ensures traced { λ r.
         ⌜ Traced kind (now (library .entry)) (now (netlist .entry))
         (sweepVisits 0 kind (now (library .entry)) (now (netlist .entry))) clock
         (now (numbers .entry)) (now (marks .entry)) (now (numbers .exit)) (now (marks .exit)) r ⌝ }
+    ensures rests { λ _.
+        ⌜ Resting 0 kind (now (library .entry)) (now (netlist .entry)) (now (awake .exit))
+        (now (numbers .exit)) ⌝ }
 {
-    let turns = sizes::VALUES * unchecked::count(netlist);
+    let gates = unchecked::count(netlist);
     let mut changed = false;
-    let mut turn = 0;
-    while turn < turns {
-        let time = clock + turn as u32;
-        let lowered = visit(
+    let mut gate = next_awake(awake, 0, gates);
+    while gate < gates {
+        rest(awake, gate);
+        let time = clock + 2 * gate as u32;
+        let lowered = visit_gate(
             kind,
             library,
             netlist,
             links,
-            turn / 2,
-            turn % 2,
+            gate,
             time,
             numbers,
             marks,
+            awake,
         );
-        changed = changed | lowered;
-        turn += 1;
+        changed = either(changed, lowered);
+        gate = next_awake(awake, gate + 1, gates);
     }
     changed
 }
@@ -241,10 +324,20 @@ pub fn trace(kind: usize, library: &[u32], netlist: &[u32], marks: &mut [u32; si
     link(library, netlist, &mut links);
     let mut numbers = [0u32; sizes::NUMBERS];
     start(netlist, &mut numbers, LOW);
+    let mut awake = all_awake();
     let mut clock: u32 = 0;
     let mut left = 2 * gates + 1;
     while 0 < left {
-        let changed = one_sweep(kind, library, netlist, &links, clock, &mut numbers, marks);
+        let changed = one_sweep(
+            kind,
+            library,
+            netlist,
+            &links,
+            clock,
+            &mut numbers,
+            marks,
+            &mut awake,
+        );
         if !changed {
             return;
         }

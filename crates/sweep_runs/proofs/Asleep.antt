@@ -34,7 +34,7 @@ skipped-flag {us} {vs} {between} {xs} {ys} split idle w =
     let none : changes lower between (sweep lower us xs) ≡ false = rw (← w .numbers) (idle-flag between ys idle) in
     w .flag ∙ sym (rw (split, changes-append lower us between xs, none) (or-false (changes lower us xs)))
 
-skipped-swept : {visits : ℕ → List Visit} {from to : ℕ} {xs ys : List ℕ} {changed : Bool} → Skipped lower visits from to ys
+pub skipped-swept : {visits : ℕ → List Visit} {from to : ℕ} {xs ys : List ℕ} {changed : Bool} → Skipped lower visits from to ys
     → Swept (inTurn visits from) xs ys changed → Swept (inTurn visits to) xs ys changed
 skipped-swept {xs = xs} k w = record { numbers = skipped-sweep k xs (w .numbers); flag = skipped-flag (k .split) (k .idle) w }
 
@@ -66,15 +66,19 @@ module _ (role kind : ℕ) (library netlist : List ℕ) where
   abbrev pub come : ℕ → ℕ
   come turn = gates - (gates - turn)
 
+  pub skipped : {awake ys : List ℕ} {from next end : ℕ} → from ≤ gates
+      → Resting role kind library netlist awake ys
+      → NextAwake awake from end next
+      → Skipped lower (turnVisits role kind library netlist) from (come next) ys
+  skipped {awake} {ys} {from} {next} {end} b s n =
+      asleep-skipped (s .watched) from (come next) (omega (arith, n .least)) (omega arith) (λ h p q. n .asleep h p (omega arith))
+
   pub skips : {awake xs ys : List ℕ} {changed : Bool} {from next end : ℕ} → from ≤ gates
       → Resting role kind library netlist awake ys
       → NextAwake awake from end next
       → Swept (firstGates role kind library netlist from) xs ys changed
       → Swept (firstGates role kind library netlist (come next)) xs ys changed
-  skips {awake} {xs} {ys} {changed} {from} {next} {end} b s n w =
-      skipped-swept
-      (asleep-skipped (s .watched) from (come next) (omega (arith, n .least)) (omega arith) (λ h p q. n .asleep h p (omega arith)))
-      w
+  skips b s n w = skipped-swept (skipped b s n) w
 
   -- ---- with all turns awake
 

@@ -8,15 +8,19 @@ use borrow.Author.Needs.{needs}
 use borrow.Author.Tests.{not-true}
 use Rattle.sizes.specs.Sizes as Size
 use Rattle.plans.specs.Sweep.{Bounded}
+use Rattle.sweep_turns.proofs.Visits.{swept-length}
+use Rattle.sweep_runs.specs.Asleep.{Resting}
+use Rattle.sweep_runs.proofs.Asleep.{all-rest}
 use Rattle.sweep_runs.proofs.FourRuns.{room, link-fits}
 use Rattle.sweep_start.proofs.StartLines.{laid-length}
 use Rattle.plan_marks.specs.Marks.{Stands}
-use Rattle.plan_marks.proofs.Run.{after, begins, starts-bounded, one-more, tables, few-gates, ends-all, ends-early}
+use Rattle.plan_marks.proofs.Run.{links-fit, after, begins, starts-bounded, one-more, few-gates, ends-all, ends-early}
+use Rattle.plan_marks.proofs.Sweeps.{swept-still, swept-bounded}
 use Rattle.plan_marks.proofs.trace.Statement.{statement}
 use Rattle.plan_marks.proofs.trace.Tie as tie
 
 abbrev Inv-loop : tie.InvT-loop
-Inv-loop kind library netlist marks₀ gates links numbers₀ clock₀ left₀ marks numbers clock left =
+Inv-loop kind library netlist marks₀ gates links numbers₀ awake₀ clock₀ left₀ marks numbers awake clock left =
     (left ≤ 2 * gates + 1)
     × (clock + 2 * Size.gates * left ≤ 2 * Size.gates * (2 * gates + 1))
     × (after kind library netlist (2 * gates + 1 - left) .time ≡ clock)
@@ -24,9 +28,10 @@ Inv-loop kind library netlist marks₀ gates links numbers₀ clock₀ left₀ m
     × (length numbers ≡ Size.numbers)
     × (length marks ≡ Size.marks)
     × Bounded numbers
+    × Resting 0 kind library netlist awake numbers
 
 abbrev μ-loop : tie.MeasureT-loop
-μ-loop kind library netlist marks₀ gates links numbers₀ clock₀ left₀ marks numbers clock left = left
+μ-loop kind library netlist marks₀ gates links numbers₀ awake₀ clock₀ left₀ marks numbers awake clock left = left
 
 -- ---- places
 
@@ -43,7 +48,7 @@ abbrev started : tie.In-loop Inv-loop μ-loop → tie.After-start Inv-loop μ-lo
 started c = c .before .before .before
 
 abbrev looping : tie.After-one-sweep Inv-loop μ-loop → tie.In-loop Inv-loop μ-loop
-looping c = c .before .before .before .before
+looping c = c .before .before .before .before .before
 
 few : (c : tie.After-start Inv-loop μ-loop) → counted c .count .result ≤ Size.gates
 few c =
@@ -68,20 +73,20 @@ loop-holds c =
 
 one-sweep-requires : tie.Need-one-sweep-requires Inv-loop μ-loop
 one-sweep-requires c κs =
-    let l = c .before .before .before in
+    let l = c .before .before .before .before in
     let s = began (started l) in
-    let a = s .args in
-    let i = l .before .loop .inv in (
-      record {
-        kindFits = s .pre .kindFits;
-        tablesFit = tables (a .kind) (a .library .now) (a .netlist .now) (s .pre .cells) (s .pre .statements) (s .pre .holds);
-        linked = linked (started l) .link .ensures;
-        size = i .4;
-        bounded = i .6;
-        marksSize = i .5;
-      },
-      omega (arith, few (started l)),
-    )
+    let i = l .before .loop .inv in
+    record {
+      fits =
+          record {
+            linksFit = links-fit (s .pre .holds) (linked (started l) .link .ensures) (l .before .loop .numbers) (i .4) (i .6) (s .args .kind) (s .pre .kindFits);
+            size = i .4;
+            bounded = i .6;
+            marksSize = i .5;
+          };
+      timed = omega (arith, few (started l));
+      resting = i .7;
+    }
 
 -- What one sweep more leaves.
 more : (c : tie.After-one-sweep Inv-loop μ-loop)
@@ -96,7 +101,7 @@ more c =
     let b = started l in
     let a = began b .args in
     let i = l .before .loop .inv in
-    one-more (a .kind) (a .library .now) (a .netlist .now) _ _ _ _ _ _ (i .3) (i .2) (c .one-sweep .ensures)
+    one-more (a .kind) (a .library .now) (a .netlist .now) _ _ _ _ _ _ (i .3) (i .2) (c .one-sweep .ensures .0)
 
 loop-again : tie.Need-loop-again Inv-loop μ-loop
 loop-again c =
@@ -105,8 +110,9 @@ loop-again c =
     let b = started l in
     let i = l .before .loop .inv in
     let m = more o in
+    let t = o .one-sweep .ensures .0 in
     let n : 2 * counted b .count .result + 1 - (l .before .loop .left - 1) ≡ suc (2 * counted b .count .result + 1 - l .before .loop .left) = omega arith in
-    (omega arith, omega (arith, few b), rw n (m .1 ∙ omega (arith, counted b .count .ensures)), rw n (m .0), o .one-sweep .ensures .long ∙ i .4, o .one-sweep .ensures .marksLong ∙ i .5, o .one-sweep .ensures .bounded (i .6))
+    (omega arith, omega (arith, few b), rw n (m .1 ∙ omega (arith, counted b .count .ensures)), rw n (m .0), swept-length (t .swept) ∙ i .4, t .marksLong ∙ i .5, swept-bounded (t .swept) (i .6), o .one-sweep .ensures .1)
 
 returns : tie.Need-returns Inv-loop μ-loop
 returns c k cells ss e h =
@@ -115,8 +121,9 @@ returns c k cells ss e h =
     let b = started l in
     let a = began b .args in
     let i = l .before .loop .inv in
+    let t = o .one-sweep .ensures .0 in
     ends-early (a .kind) (a .library .now) (a .netlist .now) k cells ss e h (2 * counted b .count .result + 1 - l .before .loop .left) (l .before .loop .left - 1)
-    (omega (arith, counted b .count .ensures)) _ _ _ _ (o .one-sweep .ensures .long ∙ i .4) (o .one-sweep .ensures .still (not-true (o .one-sweep .result) (c .if1 .taken))) (i .3) (more o .0)
+    (omega (arith, counted b .count .ensures)) _ _ _ _ (swept-length (t .swept) ∙ i .4) (swept-still (not-true (o .one-sweep .result) (c .if1 .taken)) (t .swept)) (i .3) (more o .0)
 
 returns-2 : tie.Need-returns-2 Inv-loop μ-loop
 returns-2 c k cells ss e h =
