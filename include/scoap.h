@@ -46,14 +46,14 @@ extern "C" {
  * analysis (report, stand, change, advise, rank) had an array of 24 bytes a line more:
  *   lines                1000     2000     4000     8000
  *   scoap_report       217616   394280   694568  1295016
- *   scoap_plan         504648   918760  1746760  3402760
+ *   scoap_plan         504552   918760  1746760  3402760
  *   scoap_cell           5008     5056     5056     5056
  *   scoap_built_in       6464     6496     6496     6496
  *   scoap_qualifies    150892   210940   330940   570940
  *   scoap_stand        217648   391888   692144  1292640
  *   scoap_ask          193568   295776   500032   908528
  *   scoap_commit       193488   295712   499968   908464
- *   scoap_change       301568   473936   770432  1363440
+ *   scoap_change       301600   473936   770432  1363440
  *   scoap_best         256944   423024   755024  1419024
  *   scoap_advise       240560   437952   784448  1477456
  *   scoap_rank         240560   437920   784416  1477424

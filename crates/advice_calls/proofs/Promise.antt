@@ -37,10 +37,11 @@ use Rattle.demands.proofs.Acceptance.{read-as}
 use Rattle.demands.proofs.Given.{Checked}
 use Rattle.demands.proofs.Room.{pair-number}
 use Rattle.advice_calls.specs.Calls.{entered, comes, leftLater, leftFrom, adviceSize, advising, adviceInto, adviceLeft, ranking, ranksLeft}
-use Rattle.advice_calls.specs.Parts.{Holding, AllRanked, TextsRead}
+use Rattle.advice_lines.specs.Parts.{Holding, AllRanked}
+use Rattle.advice_calls.specs.Texts.{TextsRead}
 use Rattle.advice_calls.specs.Promise.{HandedOn, AdviceMeans, AdvicePromised, rankAt, RanksMean, RankPromised}
-use Rattle.advice_calls.proofs.Lines.{allowed-few}
-use Rattle.advice_calls.proofs.Ranks.{four, rank-at, rank-past}
+use Rattle.advice_lines.proofs.Lines.{allowed-few}
+use Rattle.advice_lines.proofs.Ranks.{four, rank-at, rank-past}
 
 pad-same : (k y l x : ℕ) → _≡_ {A = Read Advice} (read (Pad k y)) (read (Pad l x)) → (k ≡ l) × (y ≡ x)
 pad-same k y l x e = (cc, cc)

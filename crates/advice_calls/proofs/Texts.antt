@@ -23,7 +23,7 @@ use Rattle.analysis_texts.specs.Progress.{Reached}
 use Rattle.analysis_texts.specs.Tables.{Zero}
 use Rattle.analysis_texts.proofs.Reached.{stands-hold}
 use Rattle.advice_calls.specs.Calls.{entered, comes, leftLater, leftFrom}
-use Rattle.advice_calls.specs.Parts.{TextsRead}
+use Rattle.advice_calls.specs.Texts.{TextsRead}
 
 module _ (size : ℕ) (lib net before : List ℕ) where
   abbrev g : Given

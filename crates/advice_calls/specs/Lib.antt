@@ -1,3 +1,3 @@
 pub mod Calls
-pub mod Parts
+pub mod Texts
 pub mod Promise

@@ -47,8 +47,8 @@ pub fn analyse_into(
     finish(library, netlist, numbers, report, progress)
 }
 
-// As `analyse_into` for a caller whose tables are its own, and who needs the report alone: nobody sees the tables afterwards, so
-// that a refusal does not clear them.
+// As `analyse_into` for a caller whose tables are its own, and who needs the report alone: nobody sees the tables afterwards,
+// so that a refusal does not clear them.
 pub fn report_into(
     lib: &[u8],
     net: &[u8],

@@ -19,8 +19,9 @@ unfoldable pub shownOf : Read Summary → List ℕ → List ℕ
 shownOf (refused number line) report = refusalBytes number line
 shownOf (read s) report = take (s .length) report
 
--- What `put_analysis` promises: what is printed stands in the buffer's front, behind it what the analysis left; and it is that of
--- an analysis on tables of its own, whose numbers and report keep the whole promise of `analyse`, the three demands among it.
+-- What `put_analysis` promises: what is printed stands in the buffer's front, behind it what the analysis left; and it is that
+-- of an analysis on tables of its own, whose numbers and report keep the whole promise of `analyse`, the three demands among
+-- it.
 pub record Printed (lib net before after : List ℕ) (said : ℕ) : Type 0 where
   pub bytes : Prints Size.reportBytes (printed lib net) (left (givenTexts lib net) (ownTables before) .report) after said
   pub tables : Lent

@@ -1,5 +1,5 @@
 // The netlist as a list of records: each is taken apart into plain numbers, and checked and stored by
-// `netlist_table::admit`, as the lines of a text are.
+// `netlist_admission::admit`, as the lines of a text are.
 //
 // Open to others: the type `Record`, and `analyse_records`, which has the answer and the promises of
 // `analysis_call::analyse` over a list of records. It has no condition on its input.
@@ -8,10 +8,10 @@ use analysis_texts::Progress;
 use analysis_texts::Tables;
 use analysis_texts::begin;
 use demands::Answer;
+use netlist_admission::admit;
+use netlist_admission::some_undeclared;
 use netlist_table::RawStatement;
-use netlist_table::admit;
 use netlist_table::line_bad;
-use netlist_table::some_undeclared;
 use reading::Refusal;
 use table::clear;
 ghost use mathlib.Core.Path.{_≡_};

@@ -20,8 +20,8 @@ pub use Rattle.calculation.proofs.Bounds.{within, settled, few-sweeps, 
 pub use Rattle.calculation.proofs.Exactness.{exact, unmentioned, entry-bounded}
 pub use Rattle.calculation.proofs.Between.{kinds-apart, analysis-at, between}
 pub use Rattle.calculation.proofs.Budget.{within-budget}
--- ---- runs from numbers that stand: the halves from whatever costs; `last-runs`, rows added and outputs added, which requests K11
--- and K14 are to cite
+-- ---- runs from numbers that stand: the halves from whatever costs; `last-runs`, rows added and outputs added, which requests
+-- K11 and K14 are to cite
 pub use Rattle.calculation.proofs.AnyNumbers.{setting-within, observing-within, last-runs}
 pub use Rattle.calculation.proofs.Rows.{ways-added, on-settled, on-few, on-numbers, goes-on-lower}
 pub use Rattle.calculation.proofs.Outputs.{analysed-runs, outputs-analysed, outputs-lower}

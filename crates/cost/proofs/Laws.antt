@@ -9,8 +9,8 @@ use native.Mathlib.Omega.{arith}
 use lib.Dec.{leb}
 use borrow.Author.Tests.{le-leb, lt-leb, lt-ltb, le-ltb, eq-eqb, ne-eqb}
 use Rattle.reading.specs.Choice.{pick}
-use Rattle.cost.specs.Order.{standing}
-use Rattle.cost.specs.declared.Standing.the-variants as Standing
+use Rattle.cost.specs.Order.{order}
+use Rattle.cost.specs.declared.Order.the-variants as Order
 use Rattle.cost.specs.Cost.{most, over, never, counted, isNever, isOver, _⊕_, capped}
 
 -- ---- document 01's three cases of the sum
@@ -89,15 +89,15 @@ capped-sum a b = sym (sum-below (min a over) (min b over) (omega arith) (omega a
 
 -- ---- how a cost stands to another, from the test that tells
 
-pub stands-lower : (a b : ℕ) → counted a < counted b → Standing.Lower ≡ standing a b
-unfolding standing pick
-stands-lower a b h = rw (lt-ltb (counted a) (counted b) h)
+pub order-lower : (a b : ℕ) → counted a < counted b → Order.Lower ≡ order a b
+unfolding order pick
+order-lower a b h = rw (lt-ltb (counted a) (counted b) h)
 
-pub stands-same : (a b : ℕ) → counted a ≡ counted b → Standing.Same ≡ standing a b
-unfolding standing pick
-stands-same a b h = rw (le-ltb (counted a) (counted b) (omega arith), eq-eqb (counted a) (counted b) h)
+pub order-same : (a b : ℕ) → counted a ≡ counted b → Order.Same ≡ order a b
+unfolding order pick
+order-same a b h = rw (le-ltb (counted a) (counted b) (omega arith), eq-eqb (counted a) (counted b) h)
 
-pub stands-higher : (a b : ℕ) → counted b < counted a → Standing.Higher ≡ standing a b
-unfolding standing pick
-stands-higher a b h =
+pub order-higher : (a b : ℕ) → counted b < counted a → Order.Higher ≡ order a b
+unfolding order pick
+order-higher a b h =
     rw (le-ltb (counted a) (counted b) (omega arith), ne-eqb (counted a) (counted b) (omega arith))

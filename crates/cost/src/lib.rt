@@ -8,7 +8,7 @@
 // is in specs/Cost.antt, the laws are in proofs/Laws.antt.
 ghost use mathlib.Core.Path.{_≡_};
 ghost use Rattle.cost.specs.Cost.{_⊕_, counted, lesser};
-ghost use Rattle.cost.specs.Order.{standing, spatialOrder, temporalOrder, compared};
+ghost use Rattle.cost.specs.Order.{order, spatialOrder, temporalOrder, compared};
 
 pub const MOST: u32 = 999_999_999;
 
@@ -23,7 +23,7 @@ pub struct Spatial(pub u32);
 pub struct Temporal(pub u32);
 
 // How one cost stands to another.
-pub enum Standing {
+pub enum Order {
     Lower,
     Same,
     Higher,
@@ -77,18 +77,18 @@ fn least(a: u32, b: u32) -> u32
 }
 
 // How a stands to b, for both kinds.
-fn stands(a: u32, b: u32) -> Standing
-    ensures { λ r. ⌜ r ≡ standing a b ⌝ }
+fn order_of(a: u32, b: u32) -> Order
+    ensures { λ r. ⌜ r ≡ order a b ⌝ }
 {
     let x = count(a);
     let y = count(b);
     if x < y {
-        return Standing::Lower;
+        return Order::Lower;
     }
     if x == y {
-        return Standing::Same;
+        return Order::Same;
     }
-    Standing::Higher
+    Order::Higher
 }
 
 impl Spatial {
@@ -108,11 +108,11 @@ impl Spatial {
         ensures { λ r. ⌜ spatialOrder r ≡ compared (self .0) (other .0) ⌝ }
     {
         let low = Spatial(least(self.0, other.0));
-        let s = stands(self.0, other.0);
+        let s = order_of(self.0, other.0);
         match s {
-            Standing::Lower => SpatialOrder::Lower(low),
-            Standing::Same => SpatialOrder::Same(low),
-            Standing::Higher => SpatialOrder::Higher(low),
+            Order::Lower => SpatialOrder::Lower(low),
+            Order::Same => SpatialOrder::Same(low),
+            Order::Higher => SpatialOrder::Higher(low),
         }
     }
 }
@@ -134,11 +134,11 @@ impl Temporal {
         ensures { λ r. ⌜ temporalOrder r ≡ compared (self .0) (other .0) ⌝ }
     {
         let low = Temporal(least(self.0, other.0));
-        let s = stands(self.0, other.0);
+        let s = order_of(self.0, other.0);
         match s {
-            Standing::Lower => TemporalOrder::Lower(low),
-            Standing::Same => TemporalOrder::Same(low),
-            Standing::Higher => TemporalOrder::Higher(low),
+            Order::Lower => TemporalOrder::Lower(low),
+            Order::Same => TemporalOrder::Same(low),
+            Order::Higher => TemporalOrder::Higher(low),
         }
     }
 }

@@ -6,8 +6,8 @@
 use analysis_texts::Progress;
 use analysis_texts::Tables;
 use analysis_texts::read_texts;
+use netlist_admission::undeclared;
 use netlist_table::Rules;
-use netlist_table::undeclared;
 ghost use mathlib.Core.Path.{_≡_};
 ghost use mathlib.Core.List.{[], _++_};
 ghost use Prim.Native.Nat.{_≤_};

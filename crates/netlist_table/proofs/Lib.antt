@@ -7,7 +7,6 @@ pub mod HeldGates
 pub mod HeldLines
 pub mod Laws
 pub mod OpenLines
-pub mod Outcomes
 pub mod Pad
 pub mod Places
 pub mod Reread

@@ -135,8 +135,8 @@ gateAdded g s table =
 
 -- ---- the lines that are not declared
 
--- Whether the table says of a line that it is mentioned, and nothing that claims it: of a table that holds statements just where
--- it is undeclared.
+-- Whether the table says of a line that it is mentioned, and nothing that claims it: of a table that holds statements just
+-- where it is undeclared.
 abbrev pub wordsUndeclared : List ℕ → ℕ → Bool
 wordsUndeclared table l = mentionAt table l && eqb (getD table (driverPlace l) 0) 0
 

@@ -1,4 +1,3 @@
 pub mod Declared
 pub mod EntryChecks
-pub mod Forms
 pub mod Walk

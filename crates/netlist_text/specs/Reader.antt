@@ -1,14 +1,12 @@
--- The reader of a netlist text: the pins of a line as they are gathered, and what reading a text answers and leaves.
+-- The reader of a netlist text: what reading one answers and leaves.
 -- Assumes nothing.
 use mathlib.Core.Bool.{true, false, _||_}
 use mathlib.Core.List.{List, [], _∷_, _++_}
-use mathlib.Core.Option.{Option, none, some}
 use mathlib.Core.Path.{_≡_}
 use Prim.Native.Nat.{ℕ}
 use lib.Dec.{ltb}
 use lib.ListN.{length, drop}
 use Rattle.sizes.specs.Sizes as Size
-use Rattle.table.specs.Blocks.{fitted}
 use Rattle.reading.specs.Numbers as No
 use Rattle.reading.specs.Refusal.{Read, refused, read, weigh}
 use Rattle.reading.specs.Verdict.{verdictRead, doneRead}
@@ -16,25 +14,8 @@ use Rattle.reading.specs.declared.Verdict.{Verdict}
 use Rattle.library_table.specs.Cells.{Cell}
 use Rattle.library_table.specs.Layout.{LibraryHolds, cellsIn}
 use Rattle.netlist_table.specs.declared.Rules.{Rules}
-use Rattle.netlist_table.specs.Netlist.{Statement, anyLineBad, netlist}
+use Rattle.netlist_table.specs.Netlist.{Statement, netlist}
 use Rattle.netlist_table.specs.Layout.{netlistWords, netlistAfter}
-use Rattle.netlist_text.specs.declared.Pins.{Pins}
-
--- ---- pins
-
--- Pins that were gathered are those of a list of lines: as many as a gate has at most, 0 after the last, the list's length,
--- and whether one of all of them is out of range.
-pub record PinsAre (ls : List ℕ) (p : Pins) : Type 0 where
-  pub pins : p .pins ≡ fitted 0 Size.pins ls
-  pub count : p .count ≡ length ls
-  pub bad : p .bad ≡ anyLineBad ls
-
--- What gathering the pins of a line's fields comes to; none is bad form.
-unfoldable pub PinsRead : Option (List ℕ) → Pins → Type 0
-PinsRead none p = p .form ≡ false
-PinsRead (some ls) p = (p .form ≡ true) × PinsAre ls p
-
--- ---- the text
 
 -- "entry (line 0)": "1 a lent table below its published size; 2 a text above 65,535 bytes". By the lengths of the text, of the
 -- library table and of the netlist table.

@@ -15,8 +15,9 @@ use Rattle.plan_calls.specs.Promise.{planOutcome, planLeft, PlanSeen, Pl
 unfoldable pub planPrinted : List ℕ → List ℕ → ℕ → ℕ → ℕ → List ℕ → List ℕ
 planPrinted lib net l v kind before = shown (planOutcome (givenTexts lib net) (ownTables before) l v kind)
 
--- What `put_plan` promises: what is printed, and the whole buffer afterwards, by equation; and it is the text, or the refusal, of
--- `write_plan` on tables of its own, with the whole promise of that call: the plan, its cost, its rows and the three demands.
+-- What `put_plan` promises: what is printed, and the whole buffer afterwards, by equation; and it is the text, or the refusal,
+-- of `write_plan` on tables of its own, with the whole promise of that call: the plan, its cost, its rows and the three
+-- demands.
 pub record PlanPrinted (lib net : List ℕ) (l v kind : ℕ) (before after : List ℕ) (said : ℕ) : Type 0 where
   pub bytes : Prints Size.reportBytes (planPrinted lib net l v kind before) (planLeft (givenTexts lib net) (ownTables before) l v kind .report) after said
   pub tables : Lent

@@ -92,9 +92,9 @@ planLeft g m l v kind = planFrom (O.entry g m) (O.readPair g) m l v kind
 pub record PlanConcluded (cells : List Cell) (ss : List Statement) (l v kind : ℕ) (before after : List ℕ) (said : Read ℕ) : Type 0 where
   pub answers : said ≡ lengthRead (planRead cells ss l v kind (length before))
   pub leaves : after ≡ leftBy (planRead cells ss l v kind (length before)) before
-  -- Wherever the number is a figure there is a plan in document 01's own sense for just that line, value and kind, whose rows are
-  -- those by which the sweeps last lowered each number, whose exact cost is the number, than which no plan costs less, and whose
-  -- text is the one written. So it is when a text is written, and when 19 says that it is longer than the buffer.
+  -- Wherever the number is a figure there is a plan in document 01's own sense for just that line, value and kind, whose rows
+  -- are those by which the sweeps last lowered each number, whose exact cost is the number, than which no plan costs less, and
+  -- whose text is the one written. So it is when a text is written, and when 19 says that it is longer than the buffer.
   pub plan : askedNumber (analysed cells ss .numbers) l v kind ≤ most → Cheapest cells ss (kindOf kind) l v
   pub written : (n : ℕ) → said ≡ read n
       → (askedNumber (analysed cells ss .numbers) l v kind ≤ most) × (n ≡ length (cheapestText (kindOf kind) cells ss l v))
@@ -108,8 +108,8 @@ pub record PlanConcluded (cells : List Cell) (ss : List Statement) (l v kind : �
   pub tooLong : (line : ℕ) → said ≡ refused No.planLong line
       → (askedNumber (analysed cells ss .numbers) l v kind ≤ most) × (length before < length (cheapestText (kindOf kind) cells ss l v))
 
--- What a caller has of an accepted call who sees its text alone, the first `n` bytes of a buffer: "The text is a plan in document
--- 01's sense and costs exactly the reported number."
+-- What a caller has of an accepted call who sees its text alone, the first `n` bytes of a buffer: "The text is a plan in
+-- document 01's sense and costs exactly the reported number."
 pub record PlanSeen (g : O.Given) (l v kind : ℕ) (buffer : List ℕ) (n : ℕ) : Type 0 where
   pub pair : O.Pair
   pub wasRead : O.readPair g ≡ read pair

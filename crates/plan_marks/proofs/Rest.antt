@@ -1,9 +1,9 @@
--- The sweeps of one kind from the start on: they rest after as many as document 01 allows, and their numbers are those reported.
+-- The sweeps of one kind from the start on: they rest after as many as document 01 allows, and their numbers are those
+-- reported.
 -- Assumes nothing.
 use mathlib.Core.List.{List, List·Memᴰ, Memᴰ·append-left, Memᴰ·append-right}
 use mathlib.Core.Path.{_≡_, refl, sym, ap, subst, _∙_}
 use Prim.Native.Nat.{ℕ, _+_, _*_}
-use native.Mathlib.Nat.{le-refl}
 use native.Mathlib.Omega.{arith}
 use lib.ListN.{length}
 use Rattle.sizes.specs.Sizes as Size
@@ -13,7 +13,7 @@ use Rattle.plans.specs.Stages.{Stages, Stages.ended, Stages.stage, Left, Works}
 use Rattle.plans.specs.Continued.{Looks}
 use Rattle.plans.specs.Statements.{SettlesWithin}
 use Rattle.plans.specs.Trace.{Trace, traceSweeps, untraced}
-use Rattle.plans.proofs.Laws.{traces-agree, traced-numbers, lowers-settle, within-lowers, settled-stays, renew-reads, alike-settles, settles-once, settles-other, settles-length, renew-stores, lower-stores}
+use Rattle.plans.proofs.Laws.{traces-agree, traced-numbers, lowers-settle, within-lowers, settled-stays, renew-reads, alike-settles, settles-once, settles-other, settles-length, renew-stores, lower-stores, left-here}
 use Rattle.library_table.specs.Cells.{Cell, Column, pin, output}
 use Rattle.library_table.specs.Cells as C
 use Rattle.netlist_table.specs.Netlist.{Gate, Statement, gatesOf}
@@ -37,9 +37,6 @@ module _ (cells : List Cell) (ss : List Statement) (sound : BothSound cells ss) 
   abbrev gs : List Gate
   gs = gatesOf ss
 
-  left-same : (vs : List Visit) (xs : List ℕ) → Left vs xs xs
-  left-same vs xs = record { long = refl; below = λ n. le-refl (at xs n); kept = λ n v. refl }
-
   stage-works : (k : Kind) → Works (settingStage k cells gs) (start ss)
   stage-works combinational = works cells ss sound (pricesOf ss) (own-figures sound) .0
   stage-works sequential = works cells ss sound (pricesOf ss) (own-figures sound) .1 .0
@@ -52,10 +49,10 @@ module _ (cells : List Cell) (ss : List Statement) (sound : BothSound cells ss) 
     most-sweeps = 2 * length gs + 1
 
     within : SettlesWithin renew visits (start ss) most-sweeps most-sweeps
-    within = stage-works k .within (start ss) (left-same visits (start ss))
+    within = stage-works k .within (start ss) (left-here visits (start ss))
 
     lowering : Lowering renew visits (start ss)
-    lowering = stage-works k .lowering (start ss) (left-same visits (start ss))
+    lowering = stage-works k .lowering (start ss) (left-here visits (start ss))
 
     -- By the second rule the sweeps remember the same.
     pub trace-lower : settingTrace k cells ss ≡ traceSweeps lower visits most-sweeps (untraced (start ss))

@@ -60,8 +60,8 @@ askingRow library netlist g at =
     askingColumns (gateTied library netlist g) (gateLines netlist g) (gatePins library netlist g) (getD library (at + 1) 0)
 
 module _ (kind : ℕ) (library netlist : List ℕ) where
-  -- The mark of a line at a value stands in the table: the visit, counted from 1, the row of the gate that drives the line, as it
-  -- is written and by the columns by which it asks, and where the gate's last pin stands.
+  -- The mark of a line at a value stands in the table: the visit, counted from 1, the row of the gate that drives the line, as
+  -- it is written and by the columns by which it asks, and where the gate's last pin stands.
   pub record Noted (l v : ℕ) (m : Mark) (table : List ℕ) : Type 0 where
     pub gate : ℕ
     pub inside : gate < getD netlist 0 0

@@ -20,7 +20,8 @@ use Rattle.sweep_runs.specs.Asleep.{Resting}
 use Rattle.calculation.specs.Stored.{Holds}
 use Rattle.plan_marks.specs.Marks.{wayRow, Stands}
 
--- The first row of a group that comes to the least row sum over the costs of its columns; the rows are read as those of the gate.
+-- The first row of a group that comes to the least row sum over the costs of its columns; the rows are read as those of the
+-- gate.
 pub record FirstOf (read : ℕ → Option ℕ) (library : List ℕ) (group : ℕ) (costs : List ℕ) (said : ℕ) : Type 0 where
   pub row : said ≡ wayRow read library (getD library group 0) (group + 1) (firstPlace costs (groupColumns read library group))
   pub few : said ≤ getD library group 0

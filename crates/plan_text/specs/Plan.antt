@@ -1,4 +1,5 @@
--- The plan that is written out. Document 02, K3: "The text is a plan in document 01's sense and costs exactly the reported number."
+-- The plan that is written out. Document 02, K3: "The text is a plan in document 01's sense and costs exactly the reported
+-- number."
 -- Assumes nothing.
 use mathlib.Core.List.{List}
 use mathlib.Core.Path.{_≡_}
@@ -15,8 +16,8 @@ use Rattle.plan_text.specs.PlanText.{planText, LastLowered, cheapestText
 -- Of a kind, a line and a value: a plan in document 01's own sense for just that,
 pub record Cheapest (cells : List Cell) (ss : List Statement) (k : Kind) (l v : ℕ) : Type 0 where
   pub plan : Plan cells ss k (set l v)
-  -- "At each gate the row is the one by which the sweeps last lowered the number, the first in library order among equals at that
-  -- visit."
+  -- "At each gate the row is the one by which the sweeps last lowered the number, the first in library order among equals at
+  -- that visit."
   pub lowered : LastLowered (settingTrace k cells ss .marks) plan
   -- whose text is the one that is computed,
   pub text : cheapestText k cells ss l v ≡ planText 0 plan

@@ -112,8 +112,8 @@ module _ (k : Kind) (cells : List Cell) (gs : List Gate) (marks : List (Option M
   treeText zero depth n = []
   treeText (suc more) depth n = nodeText depth n (markAt marks n) (treeText more (suc depth))
 
--- "Writing a line turns to writing its row, and a row to each line it names": of a line at a value. The visit falls from level to
--- level, so that there are no more levels than that.
+-- "Writing a line turns to writing its row, and a row to each line it names": of a line at a value. The visit falls from level
+-- to level, so that there are no more levels than that.
 unfoldable pub cheapestText : Kind → List Cell → List Statement → ℕ → ℕ → List ℕ
 cheapestText k cells ss l v =
     let marks = settingTrace k cells ss .marks in

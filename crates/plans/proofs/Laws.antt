@@ -39,7 +39,7 @@ pub use Rattle.plans.proofs.Kept.{Stores, lower-stores, renew-stores, r
 pub use Rattle.plans.proofs.Idle.{turn-listed, idles-rest, asleep-skipped, skipped-sweep, made-watched, asleep-settles}
 pub use Rattle.plans.proofs.BothRules.{lowers-settle, within-lowers}
 -- ---- runs one after the other, as specs/Stages.antt states them
-pub use Rattle.plans.proofs.Stages.{settles-under, ranked-apart, stages-within, stages-once, stages-append, stages-left, stages-exact, first-start}
+pub use Rattle.plans.proofs.Stages.{settles-under, ranked-apart, stages-within, stages-once, stages-append, stages-left, stages-exact, first-start, left-here}
 -- ---- exact numbers of one node, and of two systems
 pub use Rattle.plans.proofs.Comparison.{stands-least, stands-carried, exact-once, attained-more}
 -- ---- runs from numbers that stand, as specs/Continued.antt states them: K11, K13 and K14

@@ -82,7 +82,7 @@ ranked-apart rank low (s ∷ ss) r = (
 
 -- ---- each stage works on what those before it leave
 
-left-here : (vs : List Visit) (xs : List ℕ) → Left vs xs xs
+pub left-here : (vs : List Visit) (xs : List ℕ) → Left vs xs xs
 left-here vs xs = record { long = refl; below = λ n. le-of-eq refl; kept = λ n v. refl }
 
 left-trans : {vs : List Visit} {xs ys zs : List ℕ} → Left vs xs ys → Left vs ys zs → Left vs xs zs

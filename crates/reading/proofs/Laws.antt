@@ -1,11 +1,11 @@
--- The laws that readers share: of what holds of each element of a list, and of what reading comes to; with those of tests,
--- which are at home in crate `common_laws`.
+-- The laws that readers share: of choices, of what holds of each element of a list, and of what reading comes to; with those
+-- of tests, which are at home in crate `common_laws`.
 -- Assumes nothing.
 use mathlib.Core.Bool.{Bool, true, false}
 use mathlib.Core.List.{List, [], _∷_, _++_, List·Memᴰ, List·Memᴰ·head, List·Memᴰ·tail}
 use mathlib.Core.Option.{Option, none, some}
 use mathlib.Core.Path.{_≡_, refl, sym, subst}
-use Prim.Native.Nat.{ℕ, zero, suc, _<_}
+use Prim.Native.Nat.{ℕ, zero, suc, _≤_, _<_}
 use native.Mathlib.Nat.{not-suc-le-zero, le-of-suc-le-suc}
 use native.Mathlib.Omega.{arith}
 use lib.ListN.{length, getD}
@@ -14,6 +14,14 @@ use Rattle.reading.specs.Choice.{pick}
 use Rattle.reading.specs.Each.{Each}
 use Rattle.reading.specs.Refusal.{Read, refused, read, _>>=_, _>>_, weigh, form}
 use Rattle.reading.specs.Verdict.{doneRead}
+
+-- ---- choices
+
+-- A test as a number.
+pub one-most : (t : Bool) → pick t 1 0 ≤ 1
+unfolding pick
+one-most true = omega arith
+one-most false = omega arith
 
 -- ---- what holds of each
 

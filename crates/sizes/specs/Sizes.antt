@@ -238,8 +238,8 @@ marks = linePlaces * values * markWords
 
 -- ---- best numbers within a budget
 
--- The queue of crate `budget_queue`: a leaf for each line and value, and as many places before the leaves, of which the first is for
--- none.
+-- The queue of crate `budget_queue`: a leaf for each line and value, and as many places before the leaves, of which the first
+-- is for none.
 abbrev pub leaves : ℕ
 leaves = lines * values
 

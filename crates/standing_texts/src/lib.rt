@@ -62,7 +62,7 @@ fn place(library: &[u32], netlist: &mut [u32], line: usize) -> bool
     if !netlist_table::lines::mentioned(netlist, l) {
         return false;
     }
-    let cause = netlist_table::admit(netlist, library, output_mark(l));
+    let cause = netlist_admission::admit(netlist, library, output_mark(l));
     cause == 0
 }
 

@@ -38,8 +38,8 @@ observe-node sequential l = omega arith
 
 -- ---- columns from the lowest bit up
 
--- The columns of a cell of n pins stand at the bits from 0 on, without a gap; each bit has a place, and each column a value, which
--- agree.
+-- The columns of a cell of n pins stand at the bits from 0 on, without a gap; each bit has a place, and each column a value,
+-- which agree.
 module _ (n : ℕ) (place : ℕ → ℕ) (value : Column → ℕ) (pins : (i v : ℕ) → i < n → v ≤ 1 → place (2 * (n - suc i) + (1 - v)) ≡ value (pin (suc i) v))
     (outputs : (v : ℕ) → v ≤ 1 → place (2 * n + (1 - v)) ≡ value (output v)) (observed : place (2 * n + 2) ≡ value observe) where
   abbrev InOrder : ℕ → List Column → Type 0

@@ -24,8 +24,8 @@ pub record RowFits (lines : List ℕ) (pins : ℕ) (numbers : List ℕ) : Type 0
   pub linesFit : LinesFit lines pins
   pub size : length numbers ≡ Size.numbers
 
--- A list of costs has, for the first `count` columns of a gate, what each asks for in the numbers table. "A row's sum is taken as
--- its lowest named column plus the sum of the rest": it is taken over these.
+-- A list of costs has, for the first `count` columns of a gate, what each asks for in the numbers table. "A row's sum is taken
+-- as its lowest named column plus the sum of the rest": it is taken over these.
 pub record Gathered (count kind : ℕ) (lines : List ℕ) (pins : ℕ) (numbers costs : List ℕ) : Type 0 where
   pub size : length costs ≡ Size.columns
   pub each : (j : ℕ) → j < count → at costs j ≡ at numbers (columnPlace kind lines pins j)

@@ -1,5 +1,5 @@
--- The columns gone to are the bits that are set, lowest first. That they are the columns which a row of a cell names: `gone-named`
--- of sweep_groups/proofs/Gone.antt.
+-- The columns gone to are the bits that are set, lowest first. That they are the columns which a row of a cell names:
+-- `gone-named` of sweep_groups/proofs/Gone.antt.
 -- Assumes nothing.
 use mathlib.Core.List.{List, [], _∷_}
 use mathlib.Core.Path.{_≡_, sym, ap, _∙_}

@@ -14,9 +14,9 @@ use Rattle.sizes.specs.Sizes as Size
 use Rattle.sizes.specs.Places.{settingPlace, observingPlace}
 use Rattle.reading.specs.Choice.{pick}
 use Rattle.cost.specs.Cost.{_⊕_, counted, lesser}
-use Rattle.cost.specs.Order.{Compared, standing, compared}
-use Rattle.cost.specs.declared.Standing.{Standing}
-use Rattle.cost.specs.declared.Standing.the-variants as Standing
+use Rattle.cost.specs.Order.{Compared, order, compared}
+use Rattle.cost.specs.declared.Order.{Order}
+use Rattle.cost.specs.declared.Order.the-variants as Order
 use Rattle.plans.specs.Sweep.{at, sums}
 use Rattle.plans.proofs.Laws.{at-getD}
 use Rattle.sweep_sums.specs.Columns.{ColumnsFit}
@@ -90,16 +90,16 @@ observing-kind kind l k =
 
 -- ---- whether a cost is lower, from how it stands to the other
 
-abbrev pub isLower : Standing → Bool
-isLower Standing.Lower = true
-isLower Standing.Same = false
-isLower Standing.Higher = false
+abbrev pub isLower : Order → Bool
+isLower Order.Lower = true
+isLower Order.Same = false
+isLower Order.Higher = false
 
-pub lower-told : (a b : ℕ) {x : Compared} → x ≡ compared a b → isLower (x .standing) ≡ ltb (counted a) (counted b)
-unfolding compared standing pick
-lower-told a b e = ap (λ (x : Compared). isLower (x .standing)) e ∙ by-tests (ltb (counted a) (counted b)) (eqb (counted a) (counted b))
+pub lower-told : (a b : ℕ) {x : Compared} → x ≡ compared a b → isLower (x .order) ≡ ltb (counted a) (counted b)
+unfolding compared order pick
+lower-told a b e = ap (λ (x : Compared). isLower (x .order)) e ∙ by-tests (ltb (counted a) (counted b)) (eqb (counted a) (counted b))
   where
-    by-tests : (t u : Bool) → isLower (pick t Standing.Lower (pick u Standing.Same Standing.Higher)) ≡ t
+    by-tests : (t u : Bool) → isLower (pick t Order.Lower (pick u Order.Same Order.Higher)) ≡ t
     by-tests true u = refl
     by-tests false true = refl
     by-tests false false = refl

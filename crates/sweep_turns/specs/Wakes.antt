@@ -1,5 +1,5 @@
--- Which turns of a sweep are awake. A turn that is not awake is passed over, since the visits of its gate change nothing; a gate
--- becomes awake when a number changes that it needs. A role is a number, 0 setting and 1 observing.
+-- Which turns of a sweep are awake. A turn that is not awake is passed over, since the visits of its gate change nothing; a
+-- gate becomes awake when a number changes that it needs. A role is a number, 0 setting and 1 observing.
 -- Assumes nothing.
 use mathlib.Core.Bool.{Bool, true}
 use mathlib.Core.List.{List, List·Memᴰ}
@@ -52,7 +52,8 @@ pub record LineWoken (role : ℕ) (netlist : List ℕ) (gates line : ℕ) (chang
   pub size : length after ≡ length before
 
 module _ (role kind : ℕ) (library netlist : List ℕ) where
-  -- Visits made `ys` of the numbers `xs`. No turn is asleep then that needs a number that has changed, and none was put to rest.
+  -- Visits made `ys` of the numbers `xs`. No turn is asleep then that needs a number that has changed, and none was put to
+  -- rest.
   pub record ChangesWoken (before xs after ys : List ℕ) : Type 0 where
     pub slept : (t : ℕ) → t < getD netlist 0 0 → Asleep after t → Asleep before t
     pub unmoved : (t : ℕ) → t < getD netlist 0 0 → Asleep after t

@@ -8,6 +8,7 @@ use native.Mathlib.Omega.{arith}
 use lib.Dec.{eqb}
 use lib.Pow.{shr-shr, field, mod-mod-pow}
 use Rattle.reading.specs.Choice.{pick}
+use Rattle.reading.proofs.Laws.{one-most}
 use Rattle.library_table.specs.Cells.{bit}
 
 -- So many bits, from bit `first` on.
@@ -15,17 +16,11 @@ unfoldable pub masked : (ℕ → Bool) → ℕ → ℕ → ℕ
 masked p zero first = 0
 masked p (suc count) first = pick (p first) 1 0 + 2 * masked p count (suc first)
 
--- A bit as a number.
-one-zero : (b : Bool) → pick b 1 0 ≤ 1
-unfolding pick
-one-zero true = omega arith
-one-zero false = omega arith
-
 module _ (p : ℕ → Bool) where
   pub masked-few : (count first : ℕ) → masked p count first < 2 ^ count
   unfolding masked
   masked-few zero first = omega arith
-  masked-few (suc count) first = omega (arith, masked-few count (suc first), one-zero (p first), pow-suc 2 count)
+  masked-few (suc count) first = omega (arith, masked-few count (suc first), one-most (p first), pow-suc 2 count)
 
   pub masked-bit : (count first j : ℕ) → j < count → bit (masked p count first) j ≡ p (first + j)
   unfolding masked bit pick
@@ -40,7 +35,7 @@ module _ (p : ℕ → Bool) where
   masked-bit (suc count) first (suc j) h =
       let x = pick (p first) 1 0 + 2 * masked p count (suc first) in
       let s : suc j ≡ 1 + j = omega arith in
-      let d : x / 2 ≡ masked p count (suc first) = omega (arith, one-zero (p first)) in
+      let d : x / 2 ≡ masked p count (suc first) = omega (arith, one-most (p first)) in
       let e : x / 2 ^ suc j ≡ masked p count (suc first) / 2 ^ j = rw s (sym (shr-shr x 1 j)) ∙ ap (λ (y : ℕ). y / 2 ^ j) d in
       let f : first + suc j ≡ suc first + j = omega arith in
       rw (e, f) (masked-bit count (suc first) j (omega arith))

@@ -1,6 +1,6 @@
--- `analysis_records::analyse_records` meets its contract: a walk of its MIR, by hand. The library and the table are lent again to
--- `prepare`; the table is lent again and the library is lent as `&` to `walk`; and the three tables and the report buffer go to
--- `close` for good.
+-- `analysis_records::analyse_records` meets its contract: a walk of its MIR, by hand. The library and the table are lent again
+-- to `prepare`; the table is lent again and the library is lent as `&` to `walk`; and the three tables and the report buffer go
+-- to `close` for good.
 -- All that the proof knows of the three is that they meet their contracts.
 -- Assumes nothing.
 use mathlib.Core.Path.{_≡_, refl, sym, _∙_, ap, subst}

@@ -1,5 +1,5 @@
--- `analysis_records::walk` meets its contract: a walk of its MIR, by hand. Each turn looks into the slice of records, copies one record
--- out, lends the table again to `step` for a lifetime that is made for the call, and takes it back at its last list.
+-- `analysis_records::walk` meets its contract: a walk of its MIR, by hand. Each turn looks into the slice of records, copies
+-- one record out, lends the table again to `step` for a lifetime that is made for the call, and takes it back at its last list.
 -- All that the proof knows of `step` is that it meets its contract: `Walked` is never unfolded here.
 -- Assumes nothing.
 use mathlib.Core.Path.{_≡_, refl, sym, _∙_, ap, subst}

@@ -45,7 +45,7 @@ abbrev began : tie.After-start Inv-loop μ-loop → tie.Start Inv-loop μ-loop
 began c = counted c .before .before .before
 
 abbrev started : tie.In-loop Inv-loop μ-loop → tie.After-start Inv-loop μ-loop
-started c = c .before .before .before
+started c = c .before .before .before .before
 
 abbrev looping : tie.After-one-sweep Inv-loop μ-loop → tie.In-loop Inv-loop μ-loop
 looping c = c .before .before .before .before .before
@@ -57,7 +57,7 @@ few c =
 
 loop-holds : tie.Need-loop-holds Inv-loop μ-loop
 loop-holds c =
-    let x = c .before in
+    let x = c .before .before in
     let s = began x in
     let a = s .args in
     let none : 2 * counted x .count .result + 1 - (2 * counted x .count .result + 1) ≡ 0 = omega arith in
@@ -69,6 +69,7 @@ loop-holds c =
       ap length (x .start .ensures) ∙ laid-length false (a .netlist .now) Size.lines 1,
       ap length (s .pre .unmarked) ∙ length-replicate {A = ℕ} Size.marks 0,
       rw (x .start .ensures) (starts-bounded (a .kind) (a .library .now) (a .netlist .now) (s .pre .cells) (s .pre .statements) (s .pre .holds)),
+      all-rest 0 (a .kind) (a .library .now) (a .netlist .now) (linked x .link .ensures .chained .count) (c .all-awake .ensures),
     )
 
 one-sweep-requires : tie.Need-one-sweep-requires Inv-loop μ-loop
@@ -127,7 +128,7 @@ returns c k cells ss e h =
 
 returns-2 : tie.Need-returns-2 Inv-loop μ-loop
 returns-2 c k cells ss e h =
-    let b = c .before .before .before in
+    let b = c .before .before .before .before in
     let a = began b .args in
     let l = c .before .loop in
     let n : 2 * counted b .count .result + 1 - l .left ≡ 2 * getD (a .netlist .now) 0 0 + 1 = omega (arith, counted b .count .ensures) in
@@ -143,8 +144,9 @@ trace-spec =
     (λ c κs. link-fits (c .before .before .before .before .pre .holds) refl)
     (λ c. search needs)
     (λ c κs. (room (c .before .before .before .before .before .before .pre .holds), refl))
-    (λ c. omega (arith, few (c .before)))
-    (λ c. omega (arith, few (c .before)))
+    (λ c κs. search needs)
+    (λ c. omega (arith, few (c .before .before)))
+    (λ c. omega (arith, few (c .before .before)))
     loop-holds
     one-sweep-requires
     returns

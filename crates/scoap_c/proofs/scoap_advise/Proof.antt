@@ -1,6 +1,6 @@
 -- `scoap_advise` tells the answer of `advise` by one number. Assumes nothing.
 use borrow.Author.Needs.{needs}
-use Rattle.scoap_c.proofs.Advice.{advice-line, advice-coded}
+use Rattle.answer_codes.proofs.Advice.{advice-line, advice-coded}
 use Rattle.scoap_c.proofs.scoap_advise.Statement.{statement}
 use Rattle.scoap_c.proofs.scoap_advise.Tie as tie
 

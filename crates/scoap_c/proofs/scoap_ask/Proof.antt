@@ -1,6 +1,6 @@
 -- `scoap_ask` tells the answer of `ask` by one number. Assumes nothing.
 use borrow.Author.Needs.{needs}
-use Rattle.scoap_c.proofs.Stand.{ask-line, ask-coded}
+use Rattle.answer_codes.proofs.Stand.{ask-line, ask-coded}
 use Rattle.scoap_c.proofs.scoap_ask.Statement.{statement}
 use Rattle.scoap_c.proofs.scoap_ask.Tie as tie
 

@@ -1,6 +1,6 @@
 -- `scoap_best` tells the answer of `best_within` by one number. Assumes nothing.
 use borrow.Author.Needs.{needs}
-use Rattle.scoap_c.proofs.Best.{best-line, best-coded}
+use Rattle.answer_codes.proofs.Best.{best-line, best-coded}
 use Rattle.scoap_c.proofs.scoap_best.Statement.{statement}
 use Rattle.scoap_c.proofs.scoap_best.Tie as tie
 

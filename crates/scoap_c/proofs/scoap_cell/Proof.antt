@@ -1,5 +1,5 @@
 -- `scoap_cell` tells the answer of the generator by one number. Assumes nothing.
-use Rattle.scoap_c.proofs.Cells.{cell-line, cell-coded}
+use Rattle.answer_codes.proofs.Cells.{cell-line, cell-coded}
 use borrow.Author.Needs.{needs}
 use Rattle.scoap_c.proofs.scoap_cell.Statement.{statement}
 use Rattle.scoap_c.proofs.scoap_cell.Tie as tie

@@ -1,6 +1,6 @@
 -- `scoap_change` tells the answer of `change` by one number. Assumes nothing.
 use borrow.Author.Needs.{needs}
-use Rattle.scoap_c.proofs.Change.{change-line, change-coded}
+use Rattle.answer_codes.proofs.Change.{change-line, change-coded}
 use Rattle.scoap_c.proofs.scoap_change.Statement.{statement}
 use Rattle.scoap_c.proofs.scoap_change.Tie as tie
 

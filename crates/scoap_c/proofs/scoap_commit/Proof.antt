@@ -1,6 +1,6 @@
 -- `scoap_commit` tells the answer of `commit` by one number. Assumes nothing.
 use borrow.Author.Needs.{needs}
-use Rattle.scoap_c.proofs.Stand.{commit-line, commit-coded}
+use Rattle.answer_codes.proofs.Stand.{commit-line, commit-coded}
 use Rattle.scoap_c.proofs.scoap_commit.Statement.{statement}
 use Rattle.scoap_c.proofs.scoap_commit.Tie as tie
 

@@ -2,7 +2,7 @@
 use mathlib.Core.Path.{refl}
 use denote.Ref.{now}
 use Rattle.demands.specs.Own.{ownTables}
-use Rattle.scoap_c.proofs.Plan.{plan-line, plan-coded}
+use Rattle.answer_codes.proofs.Plan.{plan-line, plan-coded}
 use borrow.Author.Needs.{needs}
 use Rattle.scoap_c.proofs.scoap_plan.Statement.{statement}
 use Rattle.scoap_c.proofs.scoap_plan.Tie as tie

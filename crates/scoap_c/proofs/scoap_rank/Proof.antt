@@ -1,6 +1,6 @@
 -- `scoap_rank` tells the answer of `rank` by one number. Assumes nothing.
 use borrow.Author.Needs.{needs}
-use Rattle.scoap_c.proofs.Advice.{rank-line, rank-coded}
+use Rattle.answer_codes.proofs.Advice.{rank-line, rank-coded}
 use Rattle.scoap_c.proofs.scoap_rank.Statement.{statement}
 use Rattle.scoap_c.proofs.scoap_rank.Tie as tie
 

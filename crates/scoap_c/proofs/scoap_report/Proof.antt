@@ -2,7 +2,7 @@
 use mathlib.Core.Path.{refl}
 use denote.Ref.{now}
 use Rattle.demands.specs.Own.{ownTables}
-use Rattle.scoap_c.proofs.ReportCode.{report-line, report-coded}
+use Rattle.answer_codes.proofs.ReportCode.{report-line, report-coded}
 use borrow.Author.Needs.{needs}
 use Rattle.scoap_c.proofs.scoap_report.Statement.{statement}
 use Rattle.scoap_c.proofs.scoap_report.Tie as tie

@@ -1,6 +1,6 @@
 -- `scoap_stand` tells the answer of `stand` by one number. Assumes nothing.
 use borrow.Author.Needs.{needs}
-use Rattle.scoap_c.proofs.Stand.{stand-line, stand-coded}
+use Rattle.answer_codes.proofs.Stand.{stand-line, stand-coded}
 use Rattle.scoap_c.proofs.scoap_stand.Statement.{statement}
 use Rattle.scoap_c.proofs.scoap_stand.Tie as tie
 

@@ -1,4 +1,5 @@
--- `least_sum`, from the last row to the first, keeps the least sum of the rows passed, and the row summed last. Assumes nothing.
+-- `least_sum`, from the last row to the first, keeps the least sum of the rows passed, and the row summed last. Assumes
+-- nothing.
 use mathlib.Core.Option.{some}
 use mathlib.Core.Path.{sym, _∙_}
 use Prim.Native.Nat.{_-_}

@@ -1,5 +1,5 @@
--- `one_sweep` goes from one awake turn to the next: the turns between are idle, so that with each turn all before it are done, and
--- the turns that are asleep stay idle. Assumes nothing.
+-- `one_sweep` goes from one awake turn to the next: the turns between are idle, so that with each turn all before it are done,
+-- and the turns that are asleep stay idle. Assumes nothing.
 use mathlib.Core.Path.{_≡_, _∙_, ap}
 use Prim.Native.Nat.{ℕ, _-_, _<_}
 use native.Mathlib.Omega.{arith}

@@ -1,0 +1,4 @@
+pub mod Lines
+mod PadCosts
+pub mod Ranks
+mod Candidate

@@ -1,0 +1,39 @@
+-- `advise_on` tries pads from the numbers of one analysis. Assumes nothing.
+use denote.Ref.{now}
+use Rattle.advice_lines.proofs.Lines.{barred-none}
+use borrow.Author.Needs.{needs}
+use Rattle.advice_lines.proofs.advise_on.Statement.{statement}
+use Rattle.advice_lines.proofs.advise_on.Tie as tie
+
+-- ---- the places of the code that the answers speak of
+
+abbrev barred : tie.After-barred2 → tie.After-bar-all
+barred c = c .before .before .before
+
+abbrev analysed : tie.After-bar-all → tie.After-analyse
+analysed c = c .before .before
+
+abbrev began : tie.After-analyse → tie.Start
+began c = c .before .before .before .before .before .before
+
+pub advise-on-spec : {M : Type 1} → statement M
+advise-on-spec =
+    tie.close
+    (tie.spec
+    (λ c κs. search needs)
+    (λ c κs. barred-none)
+    (λ c κs.
+    let b = barred c in
+    let a = analysed b in
+    let p = began a .pre in
+    record {
+      cells = p .cells;
+      statements = p .statements;
+      forbidden = now (began a .args .forbidden);
+      stands = a .analyse .ensures (p .cells) (p .statements) (p .holds);
+      bars = b .bar-all .ensures;
+    })
+    (λ c cells ss h.
+    let b = barred (c .before) in
+    let a = analysed b in
+    c .choose .ensures cells ss (now (began a .args .forbidden)) (a .analyse .ensures cells ss h) (b .bar-all .ensures)))

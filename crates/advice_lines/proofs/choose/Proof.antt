@@ -1,0 +1,58 @@
+-- `choose` has the best of the lines above one, with each turn of one line more. Assumes nothing.
+use mathlib.Core.List.{List}
+use mathlib.Core.Path.{_≡_}
+use Prim.Native.Nat.{ℕ, _≤_}
+use native.Mathlib.Omega.{arith}
+use Rattle.sizes.specs.Sizes as Size
+use Rattle.library_table.specs.Cells.{Cell}
+use Rattle.netlist_table.specs.Netlist.{Statement}
+use Rattle.calculation.specs.Advice.{allowed, leaves, largest, best}
+use Rattle.advice_lines.specs.Parts.{Barred, Stands}
+use Rattle.advice_lines.proofs.Lines.{above, line-range, best-begins, best-next}
+use Rattle.advice_lines.proofs.Candidate.{best-ends}
+use borrow.Author.Needs.{needs}
+use Rattle.advice_lines.proofs.choose.Statement.{statement}
+use Rattle.advice_lines.proofs.choose.Tie as tie
+
+abbrev Inv-loop : tie.InvT-loop
+Inv-loop library netlist links numbers barred found₀ l₀ found l =
+    (l ≤ Size.lines)
+    × ((cells : List Cell) (ss : List Statement) (forbidden : List ℕ) → Stands library netlist links numbers cells ss → Barred forbidden barred
+    → found ≡ best (λ m. largest (leaves cells ss m)) (above (allowed ss forbidden) l))
+
+abbrev μ-loop : tie.MeasureT-loop
+μ-loop library netlist links numbers barred found₀ l₀ found l = l
+
+-- ---- the places of the code that the answers speak of
+
+abbrev began : tie.At-loop Inv-loop μ-loop → tie.Start Inv-loop μ-loop
+began c = c .before .before .before
+
+loop-holds : tie.Need-loop-holds Inv-loop μ-loop
+loop-holds c = (omega arith, λ cells ss forbidden s b. best-begins (allowed ss forbidden) (λ m. largest (leaves cells ss m)))
+
+loop-again : tie.Need-loop-again Inv-loop μ-loop
+loop-again c =
+    let l = c .before .before in (
+      omega arith,
+      λ cells ss forbidden s b.
+          best-next (allowed ss forbidden) (λ m. largest (leaves cells ss m)) (l .loop .l) (omega arith) (l .loop .inv .0) (l .loop .found) (c .consider .result)
+          (l .loop .inv .1 cells ss forbidden s b) (c .consider .ensures cells ss forbidden s b),
+    )
+
+returns : tie.Need-returns Inv-loop μ-loop
+returns c cells ss forbidden s b =
+    let l = c .before in
+    best-ends cells ss forbidden (l .loop .l) (l .loop .found) (c .loop-test .left) (l .loop .inv .1 cells ss forbidden s b)
+
+pub choose-spec : {M : Type 1} → statement M
+choose-spec =
+    tie.close
+    (tie.spec Inv-loop μ-loop
+    (λ c. search needs)
+    loop-holds
+    (λ c κs. let l = c .before in (began l .pre, line-range (omega arith) (l .loop .inv .0)))
+    (λ c. omega arith)
+    (λ c. omega arith)
+    loop-again
+    returns)

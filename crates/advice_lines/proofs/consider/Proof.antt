@@ -1,0 +1,41 @@
+-- `consider` tries a line that may be padded. Assumes nothing.
+use Rattle.sweep_runs.proofs.FourRuns.{room}
+use Rattle.advice_lines.proofs.Lines.{line-most}
+use Rattle.advice_lines.proofs.Candidate.{may-said, may-free, considered, passed}
+use borrow.Author.Needs.{needs}
+use Rattle.advice_lines.proofs.consider.Statement.{statement}
+use Rattle.advice_lines.proofs.consider.Tie as tie
+
+-- ---- the places of the code that the answers speak of
+
+abbrev began : tie.After-may-pad → tie.Start
+began c = c .before .before .before
+
+returns : tie.Need-returns
+returns c cells ss forbidden s b =
+    let t = c .before in
+    let i = t .before in
+    let m = i .before in
+    let a = began m .args in
+    let range = began m .pre .1 in
+    considered s b (a .l) range (m .may-pad .ensures) (i .if1 .taken) (t .try-line .result)
+    (t .try-line .ensures cells ss s (may-said s b (a .l) range (m .may-pad .ensures) (i .if1 .taken)) (may-free s b (a .l) range (m .may-pad .ensures) (i .if1 .taken)))
+    (a .found) (c .better .result) (c .better .ensures)
+
+returns-2 : tie.Need-returns-2
+returns-2 c cells ss forbidden s b =
+    let m = c .before in
+    let a = began m .args in
+    passed s b (a .l) (began m .pre .1) (m .may-pad .ensures) (c .if1 .left) (a .found)
+
+pub consider-spec : {M : Type 1} → statement M
+consider-spec =
+    tie.close
+    (tie.spec
+    (λ c κs. let p = c .before .before .pre in (line-most (p .1), room (p .0 .stands .holds), p .0 .bars .size))
+    (λ c κs.
+    let p = began (c .before) .pre in
+    record { cells = p .0 .cells; statements = p .0 .statements; stands = p .0 .stands; range = p .1 })
+    (λ c κs. search needs)
+    returns
+    returns-2)
