@@ -42,21 +42,20 @@ extern "C" {
 
 /*
  * Stack that a thread should have left for the call. Most that was measured, in bytes, by how many lines the analyser
- * takes: of 1000 the published archive; of more a trial build, not the archive of make large, of code in which an
- * analysis (report, stand, change, advise, rank) had an array of 24 bytes a line more:
+ * takes: of 1000 the published archive, of more those of make large:
  *   lines                1000     2000     4000     8000
- *   scoap_report       217616   394280   694568  1295016
- *   scoap_plan         504552   918760  1746760  3402760
- *   scoap_cell           5008     5056     5056     5056
- *   scoap_built_in       6464     6496     6496     6496
- *   scoap_qualifies    150892   210940   330940   570940
- *   scoap_stand        217648   391888   692144  1292640
- *   scoap_ask          193568   295776   500032   908528
- *   scoap_commit       193488   295712   499968   908464
- *   scoap_change       301600   473936   770432  1363440
- *   scoap_best         256944   423024   755024  1419024
- *   scoap_advise       240560   437952   784448  1477456
- *   scoap_rank         240560   437920   784416  1477424
+ *   scoap_report       217616   343744   596000  1100496
+ *   scoap_plan         504552   918680  1746920  3403432
+ *   scoap_cell           5008     5008     5008     5008
+ *   scoap_built_in       6464     6464     6464     6464
+ *   scoap_qualifies    150892   210892   330892   570892
+ *   scoap_stand        217648   343776   596032  1100528
+ *   scoap_ask          193568   295696   499952   908448
+ *   scoap_commit       193488   295616   499872   908368
+ *   scoap_change       301600   425856   674352  1171360
+ *   scoap_best         256944   422944   754944  1418944
+ *   scoap_advise       240560   389824   688320  1285328
+ *   scoap_rank         240560   389824   688320  1285312
  */
 #define SCOAP_STACK 524288u
 
