@@ -24,8 +24,8 @@ use Rattle.calculation.specs.Stored.{Holds, Calculated}
 use Rattle.calculation.specs.Acceptance.{BothSound}
 use Rattle.calculation.specs.declared.Counts.{Counts}
 use Rattle.calculation.proofs.Laws.{end-figures, numbers-length}
-use Rattle.writer.specs.Put.{Put}
-use Rattle.writer.proofs.Steps.{put-then}
+use Rattle.writer_bytes.specs.Put.{Put}
+use Rattle.writer_bytes.proofs.Steps.{put-then}
 use Rattle.writer.specs.declared.Written.{Written}
 use Rattle.writer.specs.declared.Written.the-variants.{Length, Refused}
 use Rattle.writer.specs.Buffer.{textWithin, lengthRead, writtenRead, Writes}

@@ -16,7 +16,7 @@ ghost use mathlib.Core.List.{List};
 ghost use Rattle.library_table.specs.Cells.{Cell};
 ghost use Rattle.netlist_table.specs.Netlist.{Statement};
 ghost use Rattle.calculation.specs.Stored.{Holds, Ready};
-ghost use Rattle.writer.specs.Put.{Put};
+ghost use Rattle.writer_bytes.specs.Put.{Put};
 ghost use Rattle.demands.specs.Answer.{answerRead, lentOf};
 ghost use Rattle.demands.specs.Outcome.{second};
 ghost use Rattle.analysis_end.specs.Finished.{Concluded, Holding, ReadyIfUnrefused, Told, Finished};

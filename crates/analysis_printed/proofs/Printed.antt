@@ -18,7 +18,7 @@ use Rattle.reading.proofs.Laws.{refused-read, then-read}
 use Rattle.text.specs.Bytes.{bytes}
 use Rattle.library_table.specs.Cells.{Cell}
 use Rattle.netlist_table.specs.Netlist.{Statement}
-use Rattle.writer.specs.Put.{Put}
+use Rattle.writer_bytes.specs.Put.{Put}
 use Rattle.writer.specs.Refused.{refusalBytes}
 use Rattle.writer.specs.Buffer.{textWithin, lengthRead, shown, ShownBy}
 use Rattle.writer.proofs.Buffer.{answer-prints}

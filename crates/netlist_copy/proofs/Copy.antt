@@ -20,8 +20,8 @@ use Rattle.text.specs.Bytes.{bytes}
 use Rattle.text.specs.Lines.{fields, lines, sameBytes, lines-open}
 use Rattle.text.specs.Numeral.{digitBelow, allDigits, wellFormed, decimal, nameForm}
 use Rattle.text.proofs.Laws.{numeral-good, numeral-bad, wellFormed-digits}
-use Rattle.writer.specs.Decimal.{decimalBytes}
-use Rattle.writer.proofs.Decimal.{decimal-below, decimal-read}
+use Rattle.writer_bytes.specs.Decimal.{decimalBytes}
+use Rattle.writer_bytes.proofs.Decimal.{decimal-below, decimal-read}
 use Rattle.library_table.specs.Cells.{Cell}
 use Rattle.library_table.specs.Library.{Fields}
 use Rattle.netlist_table.specs.declared.Rules.{Rules}

@@ -12,7 +12,7 @@ use Rattle.reading.specs.Refusal.{read, _>>=_}
 use Rattle.reading.proofs.Laws.{bind-read, each-right}
 use Rattle.text.specs.Bytes.{bytes}
 use Rattle.text.specs.Lines.{lines, sameBytes, lines-open}
-use Rattle.writer.specs.Decimal.{decimalBytes}
+use Rattle.writer_bytes.specs.Decimal.{decimalBytes}
 use Rattle.library_table.specs.Cells.{Cell}
 use Rattle.library_table.specs.Library.{Fields}
 use Rattle.netlist_table.specs.declared.Rules.the-variants.{New}

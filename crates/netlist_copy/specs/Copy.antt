@@ -4,7 +4,7 @@
 use mathlib.Core.List.{List, [], _∷_, _++_}
 use Prim.Native.Nat.{ℕ}
 use Rattle.text.specs.Bytes.{bytes}
-use Rattle.writer.specs.Decimal.{decimalBytes}
+use Rattle.writer_bytes.specs.Decimal.{decimalBytes}
 use Rattle.netlist_table.specs.Netlist.{Statement, mark, opened, undeclaredLines}
 
 -- "each line ends with byte 10"

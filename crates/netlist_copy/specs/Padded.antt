@@ -6,7 +6,7 @@ use mathlib.Core.Path.{_≡_}
 use Prim.Native.Nat.{ℕ}
 use Rattle.reading.specs.Refusal.{read}
 use Rattle.text.specs.Bytes.{bytes}
-use Rattle.writer.specs.Decimal.{decimalBytes}
+use Rattle.writer_bytes.specs.Decimal.{decimalBytes}
 use Rattle.library_table.specs.Cells.{Cell}
 use Rattle.library_table.specs.Sound as C
 use Rattle.netlist_table.specs.declared.Rules.the-variants.{New}

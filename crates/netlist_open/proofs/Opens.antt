@@ -14,10 +14,10 @@ use Rattle.reading.specs.Refusal.{Read, refused, read, _>>=_, _>>_, weigh}
 use Rattle.reading.specs.declared.Refusal.{Refusal}
 use Rattle.reading.proofs.Laws.{by-test}
 use Rattle.text.specs.Bytes.{bytes}
-use Rattle.writer.specs.Put.{Put}
+use Rattle.writer_bytes.specs.Put.{Put}
 use Rattle.writer.specs.Refused.{refusalBytes}
 use Rattle.writer.specs.Buffer.{textWithin, shown}
-use Rattle.writer.proofs.Decimal.{decimal-below}
+use Rattle.writer_bytes.proofs.Decimal.{decimal-below}
 use Rattle.writer.proofs.Buffer.{refusal-short, put-prints}
 use Rattle.library_table.specs.Cells.{Cell}
 use Rattle.library_table.specs.Library.{library}

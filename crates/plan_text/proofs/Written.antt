@@ -48,7 +48,7 @@ use Rattle.plan_marks.specs.Marks.{rowPlace, stepRow, wayRow, gateRow, asWritte
 use Rattle.plan_text.specs.PlanText.{nodeLine, rowText, inputText, wayRows, driverOf, joined, visitOf, cheapestText}
 use Rattle.plan_text.specs.Writers.{visitAt, rowAt, columnsAt, lastAt, goalAt, goals, goalRow, goalLine, lineBytes, rowBytes}
 use Rattle.plan_text.proofs.ChosenRow.{driver-is, trace, Chosen, driver-chosen}
-use Rattle.writer.specs.Put.{Put}
+use Rattle.writer_bytes.specs.Put.{Put}
 use Rattle.calculation.specs.Stored.{Holds}
 use Rattle.plan_marks.specs.Lowered.{settingTrace}
 use Rattle.plan_text.specs.Plan.{Cheapest}

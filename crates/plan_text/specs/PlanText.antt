@@ -9,8 +9,8 @@ use lib.ListN.{length, getD}
 use Rattle.sizes.specs.Sizes as Size
 use Rattle.reading.specs.Choice.{pick}
 use Rattle.text.specs.Bytes.{bytes}
-use Rattle.writer.specs.Decimal.{decimalBytes, decimal-open}
-use Rattle.writer.specs.Octal.{octalBytes, octal-open}
+use Rattle.writer_bytes.specs.Decimal.{decimalBytes, decimal-open}
+use Rattle.writer_bytes.specs.Octal.{octalBytes, octal-open}
 use Rattle.plans.specs.Trace.{Mark, markAt}
 use Rattle.library_table.specs.Cells.{Row, rowValue, Group, Cell, noRow}
 use Rattle.netlist_table.specs.Netlist.{Gate, Statement, gatesOf}

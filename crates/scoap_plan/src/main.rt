@@ -10,7 +10,7 @@ use text::Numeral;
 ghost use mathlib.Core.Path.{_≡_};
 ghost use Rattle.sizes.specs.Sizes as Size;
 ghost use Rattle.text.specs.Numeral.{numeralRead};
-ghost use Rattle.writer.specs.Put.{Put};
+ghost use Rattle.writer_bytes.specs.Put.{Put};
 ghost use Rattle.files.specs.Output.{PrintsFiles};
 ghost use Rattle.scoap_plan.specs.Output.{threeDecimals, argumentsOf, usage, planShown, planOutput, PlanOutputs};
 
@@ -57,7 +57,7 @@ fn read_arguments(count: usize, line: &[u8], value: &[u8], kind: &[u8]) -> Argum
 fn put_usage(output: &mut [u8]) -> usize
     ensures { λ r. ⌜ Put 0 usage (now (output .entry)) (now (output .exit)) r ⌝ }
 {
-    writer::put_bytes(output, 0, b"usage: scoap_plan LINE VALUE KIND\n")
+    writer_bytes::put_bytes(output, 0, b"usage: scoap_plan LINE VALUE KIND\n")
 }
 
 // What is printed of good arguments. The buffer is cleared first, so that what it held plays no part.

@@ -7,8 +7,8 @@ use Prim.Native.Nat.{ℕ, suc, _+_, _-_, _<_}
 use native.Mathlib.Nat.{sub-self}
 use native.Mathlib.Numerals.{add-one}
 use native.Mathlib.Omega.{arith}
-use Rattle.writer.specs.Put.{Put}
-use Rattle.writer.proofs.Steps.{put-none, put-then}
+use Rattle.writer_bytes.specs.Put.{Put}
+use Rattle.writer_bytes.proofs.Steps.{put-none, put-then}
 use Rattle.library_table.specs.Cells.{Group}
 use Rattle.truth_tables.specs.Entries.{observingGroup, groupsFrom, observingGroups, groupBytes, groupsBytes, lineBytes}
 

@@ -8,8 +8,8 @@ use native.Mathlib.Omega.{arith}
 use Rattle.reading.specs.Choice.{pick}
 use Rattle.reading.proofs.Laws.{by-test}
 use Rattle.text.specs.Bytes.{bytes}
-use Rattle.writer.specs.Put.{Put}
-use Rattle.writer.proofs.Steps.{put-none, put-then}
+use Rattle.writer_bytes.specs.Put.{Put}
+use Rattle.writer_bytes.proofs.Steps.{put-none, put-then}
 use Rattle.truth_tables.specs.Tables.{keep}
 use Rattle.truth_rows.specs.Asked.{askedNumber}
 use Rattle.truth_rows.specs.Masks.{primeRow, downFrom, primeRows}

@@ -6,7 +6,7 @@ use mathlib.Core.Path.{_≡_, refl, sym, ap, _∙_}
 use Prim.Native.Nat.{ℕ}
 use Rattle.reading.specs.Choice.{pick}
 use Rattle.text.specs.Bytes.{bytes}
-use Rattle.writer.specs.Octal.{octalBytes}
+use Rattle.writer_bytes.specs.Octal.{octalBytes}
 use Rattle.library_table.specs.Cells.{Row, Group}
 use Rattle.truth_tables.specs.Entries.{rowNumber, rowBytes, groupBytes}
 use Rattle.truth_rows.specs.Asked.{AsksFor}

@@ -6,8 +6,8 @@ use mathlib.Core.Path.{_≡_}
 use Prim.Native.Nat.{ℕ}
 use Rattle.text.specs.Bytes.{bytes}
 use Rattle.reading.specs.Choice.{pick}
-use Rattle.writer.specs.Octal.{octalBytes}
-use Rattle.writer.specs.Put.{Put}
+use Rattle.writer_bytes.specs.Octal.{octalBytes}
+use Rattle.writer_bytes.specs.Put.{Put}
 use Rattle.truth_rows.specs.Asked.{askedNumber}
 use Rattle.truth_rows.specs.Masks.{primeRow, primeRows}
 use Rattle.truth_rows.specs.declared.Asked.{Asked}

@@ -3,10 +3,10 @@ use truth_rows::Asked;
 use truth_rows::masks::is_prime;
 use truth_rows::masks::number;
 use truth_rows::masks::power;
-use writer::put_byte;
-use writer::put_bytes;
-use writer::put_octal;
-ghost use Rattle.writer.specs.Put.{Put};
+use writer_bytes::put_byte;
+use writer_bytes::put_bytes;
+use writer_bytes::put_octal;
+ghost use Rattle.writer_bytes.specs.Put.{Put};
 ghost use Rattle.truth_rows.specs.Asked.{Small};
 ghost use Rattle.truth_entry.specs.Printed.{oneBytes, rowsBytes, Passed};
 

@@ -1,6 +1,1 @@
-pub mod Steps
-mod Digits
-pub mod Decimal
-pub mod Octal
-pub mod Passed
 pub mod Buffer

@@ -1,6 +1,2 @@
-pub mod Put
-pub mod Digits
-pub mod Decimal
-pub mod Octal
 pub mod Refused
 pub mod Buffer

@@ -3,7 +3,7 @@ use mathlib.Core.Bool.{true}
 use mathlib.Core.Path.{_≡_, sym, ap, _∙_}
 use borrow.Author.Tests.{not-true, not-false}
 use borrow.Author.Needs.{needs}
-use Rattle.writer.proofs.Steps.{put-none, put-then}
+use Rattle.writer_bytes.proofs.Steps.{put-none, put-then}
 use Rattle.analysis_end.proofs.Told.{second-none, second-some, held-report}
 use Rattle.analysis_end.proofs.put_second.Statement.{statement}
 use Rattle.analysis_end.proofs.put_second.Tie as tie

@@ -6,8 +6,8 @@ use native.Mathlib.Omega.{arith}
 use borrow.Author.Needs.{needs}
 use lib.ListN.{length}
 use Rattle.sizes.specs.Sizes as Size
-use Rattle.writer.specs.Put.{Put}
-use Rattle.writer.proofs.Steps.{put-none, put-then}
+use Rattle.writer_bytes.specs.Put.{Put}
+use Rattle.writer_bytes.proofs.Steps.{put-none, put-then}
 use Rattle.netlist_table.specs.Netlist.{linesWhere}
 use Rattle.netlist_table.specs.Admission.{wordsUndeclared}
 use Rattle.netlist_copy.specs.Copy.{openLines}

@@ -1,7 +1,7 @@
 -- `put_cell` prints the six lines. Assumes nothing.
 use borrow.Author.Needs.{needs}
 use Rattle.text.specs.Bytes.{bytes}
-use Rattle.writer.proofs.Steps.{put-then}
+use Rattle.writer_bytes.proofs.Steps.{put-then}
 use Rattle.truth_tables.specs.Entries.{cellOf, entryBytes}
 use Rattle.truth_entry.proofs.entry.put_cell.Statement.{statement}
 use Rattle.truth_entry.proofs.entry.put_cell.Tie as tie

@@ -1,6 +1,6 @@
 -- `put_group` meets its contract. Assumes nothing.
 use borrow.Author.Needs.{needs}
-use Rattle.writer.proofs.Steps.{put-then}
+use Rattle.writer_bytes.proofs.Steps.{put-then}
 use Rattle.truth_entry.proofs.entry.put_group.Statement.{statement}
 use Rattle.truth_entry.proofs.entry.put_group.Tie as tie
 

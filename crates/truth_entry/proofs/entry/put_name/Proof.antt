@@ -1,7 +1,7 @@
 -- `put_name` meets its contract. Assumes nothing.
 use borrow.Author.Needs.{needs}
 use Rattle.text.specs.Bytes.{bytes}
-use Rattle.writer.proofs.Steps.{put-then}
+use Rattle.writer_bytes.proofs.Steps.{put-then}
 use Rattle.truth_tables.specs.Entries.{nameBytes}
 use Rattle.truth_entry.proofs.entry.put_name.Statement.{statement}
 use Rattle.truth_entry.proofs.entry.put_name.Tie as tie

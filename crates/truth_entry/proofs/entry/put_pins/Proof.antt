@@ -5,7 +5,7 @@ use Prim.Native.Nat.{_-_, _≤_}
 use native.Mathlib.Omega.{arith}
 use lib.ListN.{length}
 use borrow.Author.Needs.{needs}
-use Rattle.writer.proofs.Steps.{put-then}
+use Rattle.writer_bytes.proofs.Steps.{put-then}
 use Rattle.truth_tables.specs.Entries.{lineBytes}
 use Rattle.truth_rows.specs.Masks.{isOne}
 use Rattle.truth_entry.proofs.EntryLines.{Listed, listed-none, listed-more, listed-all}

@@ -1,7 +1,7 @@
 -- `put_values` meets its contract. Assumes nothing.
 use mathlib.Core.Path.{refl}
 use borrow.Author.Needs.{needs}
-use Rattle.writer.proofs.Steps.{put-then}
+use Rattle.writer_bytes.proofs.Steps.{put-then}
 use Rattle.truth_tables.specs.Entries.{settingGroups}
 use Rattle.truth_rows.specs.Masks.{isBit, isOne}
 use Rattle.truth_entry.proofs.EntryLines.{line-two}

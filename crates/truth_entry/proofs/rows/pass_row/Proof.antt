@@ -4,7 +4,7 @@ use mathlib.Core.Path.{_≡_, refl, sym, _∙_}
 use borrow.Author.Needs.{needs}
 use borrow.Author.Tests.{not-true, not-false}
 use Rattle.reading.specs.Choice.{pick}
-use Rattle.writer.proofs.Steps.{put-none}
+use Rattle.writer_bytes.proofs.Steps.{put-none}
 use Rattle.truth_rows.specs.Asked.{askedNumber}
 use Rattle.truth_entry.specs.Printed.{Passed}
 use Rattle.truth_entry.proofs.rows.pass_row.Statement.{statement}

@@ -2,7 +2,7 @@
 use borrow.Author.Needs.{needs}
 use Rattle.reading.specs.Choice.{pick}
 use Rattle.text.specs.Bytes.{bytes}
-use Rattle.writer.proofs.Steps.{put-then}
+use Rattle.writer_bytes.proofs.Steps.{put-then}
 use Rattle.truth_entry.specs.Printed.{oneBytes}
 use Rattle.truth_entry.proofs.rows.put_row.Statement.{statement}
 use Rattle.truth_entry.proofs.rows.put_row.Tie as tie

@@ -3,17 +3,17 @@
 use mathlib.Core.Path.{_∙_}
 use native.Mathlib.Omega.{arith}
 use borrow.Author.Needs.{needs}
-use Rattle.writer.proofs.Decimal.{decimal-one, decimal-more}
-use Rattle.writer.proofs.Steps.{put-then}
+use Rattle.writer_bytes.proofs.Decimal.{decimal-one, decimal-more}
+use Rattle.writer_bytes.proofs.Steps.{put-then}
 use Prim.Native.Nat.{ℕ, _<_}
 use borrow.Fn.Kinds.{In}
 use borrow.Fn.PlainCycle.{Measures, is, falls, and}
-use Rattle.writer.proofs.put_digits.Reads as put-digits
-use Rattle.writer.proofs.put_digits.Kinds as put-digits-kinds
-use Rattle.writer.proofs.+put_digits.Lts-put_digits as put-digits-lts
-use Rattle.writer.proofs.put_byte.Reads as put-byte-reads
-use Rattle.writer.proofs.+put_digits.{statement}
-use Rattle.writer.proofs.+put_digits.Tie.{close}
+use Rattle.writer_bytes.proofs.put_digits.Reads as put-digits
+use Rattle.writer_bytes.proofs.put_digits.Kinds as put-digits-kinds
+use Rattle.writer_bytes.proofs.+put_digits.Lts-put_digits as put-digits-lts
+use Rattle.writer_bytes.proofs.put_byte.Reads as put-byte-reads
+use Rattle.writer_bytes.proofs.+put_digits.{statement}
+use Rattle.writer_bytes.proofs.+put_digits.Tie.{close}
 
 abbrev μ-put-digits : Measures 1 put-digits-kinds.ps ℕ
 μ-put-digits κs a = a .1 .1 .0

@@ -8,8 +8,8 @@ use Prim.Native.Nat.{ℕ, suc, _+_, _/_, _%_, _^_, _≤_, _<_}
 use native.Mathlib.Omega.{arith}
 use lib.ListN.{length}
 use Rattle.text.specs.Numeral.{allDigits, value, numeral}
-use Rattle.writer.specs.Octal.{octalBytes}
-use Rattle.writer.proofs.Digits.{digits-one, digits-then, digits-value, digits-all, digits-most, digits-read}
+use Rattle.writer_bytes.specs.Octal.{octalBytes}
+use Rattle.writer_bytes.proofs.Digits.{digits-one, digits-then, digits-value, digits-all, digits-most, digits-read}
 
 eight : 0 < 8
 eight = omega arith

@@ -3,8 +3,8 @@ use mathlib.Core.Path.{sym}
 use native.Mathlib.Omega.{arith}
 use lib.Seq.{set-out}
 use borrow.Author.Needs.{needs}
-use Rattle.writer.proofs.put_byte.Statement.{statement}
-use Rattle.writer.proofs.put_byte.Tie as tie
+use Rattle.writer_bytes.proofs.put_byte.Statement.{statement}
+use Rattle.writer_bytes.proofs.put_byte.Tie as tie
 
 returns-2 : tie.Need-returns-2
 returns-2 c =

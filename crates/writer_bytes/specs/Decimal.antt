@@ -4,7 +4,7 @@ use mathlib.Core.List.{List, [], _∷_}
 use mathlib.Core.Path.{_≡_}
 use Prim.Native.Nat.{ℕ, _+_, _/_, _%_, _≤_}
 use lib.ListN.{length}
-use Rattle.writer.specs.Digits.{digits, digits-open}
+use Rattle.writer_bytes.specs.Digits.{digits, digits-open}
 
 -- A number of 64 bits has twenty digits at the most.
 unfoldable pub decimalBytes : ℕ → List ℕ

@@ -7,8 +7,8 @@ use Prim.Native.Nat.{ℕ, suc, _+_, _/_, _%_, _^_, _≤_, _<_}
 use native.Mathlib.Omega.{arith}
 use lib.ListN.{length}
 use Rattle.text.specs.Numeral.{numeral}
-use Rattle.writer.specs.Decimal.{decimalBytes, twoDigits}
-use Rattle.writer.proofs.Digits.{digits-one, digits-then, digits-some, digits-most, digits-below, digits-above, digits-read}
+use Rattle.writer_bytes.specs.Decimal.{decimalBytes, twoDigits}
+use Rattle.writer_bytes.proofs.Digits.{digits-one, digits-then, digits-some, digits-most, digits-below, digits-above, digits-read}
 
 ten : 0 < 10
 ten = omega arith

@@ -11,7 +11,7 @@ use native.Mathlib.Omega.{arith}
 use lib.ListN.{length, set, drop, length-append}
 use lib.Seq.{sets, length-sets, set-comm, sets-eq}
 use Rattle.common_laws.proofs.Lists.{sets-past, sets-append}
-use Rattle.writer.specs.Put.{Put}
+use Rattle.writer_bytes.specs.Put.{Put}
 
 -- where a cursor is held back it stands past the end
 sets-held : (vs l : List ℕ) (at n : ℕ) → sets l (at + min n (length l + 1 - at)) vs ≡ sets l (at + n) vs

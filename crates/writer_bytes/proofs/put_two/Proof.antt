@@ -4,8 +4,8 @@ use native.Mathlib.Omega.{arith}
 use native.Mathlib.Numerals.{add-one}
 use lib.ListN.{length-set}
 use borrow.Author.Needs.{needs}
-use Rattle.writer.proofs.put_two.Statement.{statement}
-use Rattle.writer.proofs.put_two.Tie as tie
+use Rattle.writer_bytes.proofs.put_two.Statement.{statement}
+use Rattle.writer_bytes.proofs.put_two.Tie as tie
 
 slice-write-buffer-2 : tie.Need-slice-write-buffer-2
 slice-write-buffer-2 c = simp length-set (omega arith)

@@ -6,10 +6,10 @@ use native.Mathlib.Omega.{arith}
 use borrow.Author.Needs.{needs}
 use lib.ListN.{length, take}
 use lib.Seq.{take-suc, take-length}
-use Rattle.writer.specs.Put.{Put}
-use Rattle.writer.proofs.Steps.{put-none, put-then}
-use Rattle.writer.proofs.put_bytes.Statement.{statement}
-use Rattle.writer.proofs.put_bytes.Tie as tie
+use Rattle.writer_bytes.specs.Put.{Put}
+use Rattle.writer_bytes.proofs.Steps.{put-none, put-then}
+use Rattle.writer_bytes.proofs.put_bytes.Statement.{statement}
+use Rattle.writer_bytes.proofs.put_bytes.Tie as tie
 
 abbrev Inv-loop : tie.InvT-loop
 Inv-loop buffer₀ at word next₀ i₀ buffer next i =

@@ -5,10 +5,10 @@ use native.Mathlib.Nat.{mod-eq-of-lt}
 use native.Mathlib.Omega.{arith}
 use lib.ListN.{length}
 use borrow.Author.Needs.{needs}
-use Rattle.writer.proofs.Decimal.{decimal-one, decimal-single, decimal-two}
-use Rattle.writer.proofs.Passed.{Passed, two-more, passed-none, passed-more, passed-all}
-use Rattle.writer.proofs.put_within.Statement.{statement}
-use Rattle.writer.proofs.put_within.Tie as tie
+use Rattle.writer_bytes.proofs.Decimal.{decimal-one, decimal-single, decimal-two}
+use Rattle.writer_bytes.proofs.Passed.{Passed, two-more, passed-none, passed-more, passed-all}
+use Rattle.writer_bytes.proofs.put_within.Statement.{statement}
+use Rattle.writer_bytes.proofs.put_within.Tie as tie
 
 abbrev Inv-loop : tie.InvT-loop
 Inv-loop buffer₀ at n end rest₀ behind₀ buffer rest behind =

@@ -15,7 +15,7 @@ use Rattle.reading.specs.Choice.{pick}
 use Rattle.reading.proofs.Laws.{by-test, clash, and-left, and-right}
 use Rattle.text.specs.Numeral.{digitBelow, allDigits, value, noLeadingZero, wellFormed, numeral}
 use Rattle.text.proofs.Laws.{numeral-good}
-use Rattle.writer.specs.Digits.{digits}
+use Rattle.writer_bytes.specs.Digits.{digits}
 
 -- the value of digits with one more behind them
 value-last : (base acc b : ℕ) (f : List ℕ) → value base acc (f ++ (b ∷ [])) ≡ value base acc f * base + (b - 48)

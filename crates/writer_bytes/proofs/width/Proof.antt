@@ -1,8 +1,8 @@
 -- `width` finds the power of ten that a number is below. Assumes nothing.
 use native.Mathlib.Omega.{arith}
-use Rattle.writer.proofs.Decimal.{decimal-width, decimal-single}
-use Rattle.writer.proofs.width.Statement.{statement}
-use Rattle.writer.proofs.width.Tie as tie
+use Rattle.writer_bytes.proofs.Decimal.{decimal-width, decimal-single}
+use Rattle.writer_bytes.proofs.width.Statement.{statement}
+use Rattle.writer_bytes.proofs.width.Tie as tie
 
 pub width-spec : {M : Type 1} → statement M
 width-spec =

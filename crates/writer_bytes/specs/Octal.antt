@@ -2,7 +2,7 @@
 -- Assumes nothing.
 use mathlib.Core.List.{List}
 use Prim.Native.Nat.{ℕ}
-use Rattle.writer.specs.Digits.{digits, digits-open}
+use Rattle.writer_bytes.specs.Digits.{digits, digits-open}
 
 -- A number of 64 bits has twenty-two digits at the most.
 unfoldable pub octalBytes : ℕ → List ℕ

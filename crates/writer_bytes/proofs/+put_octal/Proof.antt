@@ -3,17 +3,17 @@
 use mathlib.Core.Path.{_∙_}
 use native.Mathlib.Omega.{arith}
 use borrow.Author.Needs.{needs}
-use Rattle.writer.proofs.Octal.{octal-one, octal-more}
-use Rattle.writer.proofs.Steps.{put-then}
+use Rattle.writer_bytes.proofs.Octal.{octal-one, octal-more}
+use Rattle.writer_bytes.proofs.Steps.{put-then}
 use Prim.Native.Nat.{ℕ, _<_}
 use borrow.Fn.Kinds.{In}
 use borrow.Fn.PlainCycle.{Measures, is, falls, and}
-use Rattle.writer.proofs.put_octal.Reads as put-octal
-use Rattle.writer.proofs.put_octal.Kinds as put-octal-kinds
-use Rattle.writer.proofs.+put_octal.Lts-put_octal as put-octal-lts
-use Rattle.writer.proofs.put_byte.Reads as put-byte-reads
-use Rattle.writer.proofs.+put_octal.{statement}
-use Rattle.writer.proofs.+put_octal.Tie.{close}
+use Rattle.writer_bytes.proofs.put_octal.Reads as put-octal
+use Rattle.writer_bytes.proofs.put_octal.Kinds as put-octal-kinds
+use Rattle.writer_bytes.proofs.+put_octal.Lts-put_octal as put-octal-lts
+use Rattle.writer_bytes.proofs.put_byte.Reads as put-byte-reads
+use Rattle.writer_bytes.proofs.+put_octal.{statement}
+use Rattle.writer_bytes.proofs.+put_octal.Tie.{close}
 
 abbrev μ-put-octal : Measures 1 put-octal-kinds.ps ℕ
 μ-put-octal κs a = a .1 .1 .0

@@ -6,9 +6,9 @@ use Prim.Native.Nat.{ℕ, _+_, _-_, _/_, _%_, _^_, _≤_, _<_}
 use native.Mathlib.Omega.{arith}
 use lib.ListN.{length, length-append}
 use lib.Seq.{sets}
-use Rattle.writer.specs.Decimal.{decimalBytes, twoDigits}
-use Rattle.writer.proofs.Decimal.{decimal-hundreds}
-use Rattle.writer.proofs.Steps.{sets-before}
+use Rattle.writer_bytes.specs.Decimal.{decimalBytes, twoDigits}
+use Rattle.writer_bytes.proofs.Decimal.{decimal-hundreds}
+use Rattle.writer_bytes.proofs.Steps.{sets-before}
 
 -- What is not stored yet are the digits of `rest`, which end at `behind`; from there on the others stand.
 pub record Passed (n at : ℕ) (before : List ℕ) (rest behind : ℕ) (after : List ℕ) : Type 0 where

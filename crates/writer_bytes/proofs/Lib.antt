@@ -1,0 +1,5 @@
+pub mod Steps
+mod Digits
+pub mod Decimal
+pub mod Octal
+pub mod Passed
