@@ -16,11 +16,12 @@ use Rattle.sizes.specs.Sizes as Size
 use Rattle.reading.specs.Numbers as No
 use Rattle.reading.specs.Choice.{pick}
 use Rattle.text.specs.Lines.{sameBytes, part, fieldsFrom, nextAfter}
-use Rattle.text.specs.Numeral.{numeral, value, wellFormed, numeralRead}
-use Rattle.text.specs.declared.Numeral.{Numeral}
-use Rattle.text.specs.declared.Numeral.the-variants.{Value, Bad}
+use Rattle.text_fields.specs.Numeral.{numeral, value, wellFormed, numeralRead}
+use Rattle.text_fields.specs.declared.Numeral.{Numeral}
+use Rattle.text_fields.specs.declared.Numeral.the-variants.{Value, Bad}
 use Rattle.reading.proofs.Laws.{by-test, clash, and-left, and-right, or-left, or-right}
-use Rattle.text.proofs.Laws.{numeral-good, numeral-bad, fieldsFrom-step, fieldsFrom-end}
+use Rattle.text.proofs.Laws.{fieldsFrom-step, fieldsFrom-end}
+use Rattle.text_fields.proofs.Laws.{numeral-good, numeral-bad}
 use Rattle.library_table.specs.Cells.{Heading, plain, deep, Row, rowOf, Group, bit}
 use Rattle.library_table.proofs.Any.{any-append}
 use Rattle.library_table.specs.declared.Word.{Word}

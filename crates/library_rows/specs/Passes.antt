@@ -14,7 +14,7 @@ use Rattle.sizes.specs.Sizes as Size
 use Rattle.table.specs.Blocks.{fitted, blocks}
 use Rattle.reading.specs.Numbers as No
 use Rattle.reading.specs.Choice.{pick}
-use Rattle.text.specs.Numeral.{numeral}
+use Rattle.text_fields.specs.Numeral.{numeral}
 use Rattle.library_table.specs.Cells.{Heading, plain, deep, Row, rowOf, Cell}
 use Rattle.library_table.specs.declared.Word.{Word}
 use Rattle.library_table.specs.declared.Word.the-variants.{CC, CO, SC, SO}

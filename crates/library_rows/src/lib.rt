@@ -19,11 +19,11 @@ use crate::store::put_row;
 use crate::store::put_rowless;
 use crate::store::word_place;
 use library_table::Word;
-use text::Numeral;
 use text::after;
 use text::field;
-use text::octal;
 use text::same;
+use text_fields::Numeral;
+use text_fields::octal;
 
 const MOST_ROWS: u32 = sizes::ROWS as u32;
 // What stands before a field: the line's word or a Z, a row, or an M.

@@ -15,7 +15,7 @@ use Rattle.reading.specs.Numbers as No
 use Rattle.reading.specs.Refusal.{Read, refused, read, _>>=_, _>>_, form}
 use Rattle.reading.proofs.Laws.{by-test, and-right}
 use Rattle.text.specs.Lines.{sameBytes}
-use Rattle.text.proofs.Laws.{nameForm-length}
+use Rattle.text_fields.proofs.Laws.{nameForm-length}
 use Rattle.library_table.specs.Cells.{Heading, Group, Cell}
 use Rattle.library_table.specs.declared.Word.{Word}
 use Rattle.library_table.specs.declared.Word.the-variants.{CC, CO, SC, SO}

@@ -15,7 +15,7 @@ use Rattle.reading.specs.Numbers as No
 use Rattle.text.specs.Bytes.{bytes}
 use Rattle.reading.specs.Choice.{pick}
 use Rattle.text.specs.Lines.{sameBytes, fields, part, nextAfter}
-use Rattle.text.specs.Numeral.{decimal, nameForm}
+use Rattle.text_fields.specs.Numeral.{decimal, nameForm}
 use Rattle.reading.specs.Refusal.{refused, read, _>>=_, _>>_, weigh, form}
 use Rattle.reading.proofs.Laws.{by-test, and-left, and-right}
 use Rattle.text.proofs.Cursors.{field-nth, field-last}

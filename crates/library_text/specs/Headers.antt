@@ -15,7 +15,7 @@ use Rattle.reading.specs.Numbers as No
 use Rattle.text.specs.Bytes.{bytes}
 use Rattle.reading.specs.Choice.{pick}
 use Rattle.text.specs.Lines.{sameBytes}
-use Rattle.text.specs.Numeral.{decimal, nameForm}
+use Rattle.text_fields.specs.Numeral.{decimal, nameForm}
 use Rattle.library_table.specs.Library.{Fields, pinsBad}
 use Rattle.library_table.specs.Layout.{foundAt}
 

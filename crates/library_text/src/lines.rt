@@ -7,7 +7,7 @@ ghost use lib.ListN.{length, drop};
 ghost use Rattle.sizes.specs.Sizes as Size;
 ghost use Rattle.reading.specs.Refusal.{read};
 ghost use Rattle.reading.specs.Verdict.{verdictRead, doneRead};
-ghost use Rattle.text.specs.Numeral.{numeralRead};
+ghost use Rattle.text_fields.specs.Numeral.{numeralRead};
 ghost use Rattle.library_table.specs.Cells.{Cell};
 ghost use Rattle.library_table.specs.Library.{library};
 ghost use Rattle.library_table.specs.Layout.{libraryWords};
@@ -22,13 +22,13 @@ use library_table::cells::find;
 use reading::Refusal;
 use reading::Verdict;
 use table::put;
-use text::Numeral;
 use text::after;
-use text::decimal;
 use text::field;
 use text::is_last;
-use text::is_name;
 use text::same;
+use text_fields::Numeral;
+use text_fields::decimal;
+use text_fields::is_name;
 
 const MOST_CELLS: u32 = sizes::CELLS as u32;
 

@@ -18,8 +18,8 @@ use Rattle.reading.specs.Refusal.{refused, read, _>>=_, _>>_, weigh, form}
 use Rattle.reading.proofs.Laws.{by-test, and-left, and-right, or-left, or-right, bind-read, refused-read, each-append}
 use Rattle.text.specs.Bytes.{bytes}
 use Rattle.text.specs.Lines.{fields, lines, sameBytes, lines-open}
-use Rattle.text.specs.Numeral.{digitBelow, allDigits, wellFormed, decimal, nameForm}
-use Rattle.text.proofs.Laws.{numeral-good, numeral-bad, wellFormed-digits}
+use Rattle.text_fields.specs.Numeral.{digitBelow, allDigits, wellFormed, decimal, nameForm}
+use Rattle.text_fields.proofs.Laws.{numeral-good, numeral-bad, wellFormed-digits}
 use Rattle.writer_bytes.specs.Decimal.{decimalBytes}
 use Rattle.writer_bytes.proofs.Decimal.{decimal-below, decimal-read}
 use Rattle.library_table.specs.Cells.{Cell}

@@ -14,9 +14,9 @@ use Rattle.sizes.specs.Sizes as Size
 use Rattle.table.specs.Blocks.{fitted}
 use Rattle.reading.specs.Choice.{pick}
 use Rattle.text.specs.Lines.{part, fields, fieldsFrom, nextAfter, sameBytes}
-use Rattle.text.specs.Numeral.{decimal, nameForm, numeralRead}
-use Rattle.text.specs.declared.Numeral.{Numeral}
-use Rattle.text.specs.declared.Numeral.the-variants.{Value, Bad}
+use Rattle.text_fields.specs.Numeral.{decimal, nameForm, numeralRead}
+use Rattle.text_fields.specs.declared.Numeral.{Numeral}
+use Rattle.text_fields.specs.declared.Numeral.the-variants.{Value, Bad}
 use Rattle.text.proofs.Laws.{fieldsFrom-start, fieldsFrom-step, fieldsFrom-end}
 use Rattle.library_table.specs.Cells.{Cell}
 use Rattle.library_table.specs.Library.{cellNamed}

@@ -12,7 +12,7 @@ use Rattle.reading.specs.Choice.{pick}
 use Rattle.reading.specs.Numbers as No
 use Rattle.reading.specs.Refusal.{weigh}
 use Rattle.text.specs.Bytes.{bytes}
-use Rattle.text.specs.Numeral.{decimal}
+use Rattle.text_fields.specs.Numeral.{decimal}
 use Rattle.writer_bytes.specs.Put.{Put}
 use Rattle.demands.specs.Outcome as O
 use Rattle.demands.specs.Outcome.{givenBy, givenTexts, textLong}

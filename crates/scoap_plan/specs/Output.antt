@@ -10,7 +10,7 @@ use lib.ListN.{replicate}
 use Rattle.sizes.specs.Sizes as Size
 use Rattle.reading.specs.Choice.{pick}
 use Rattle.text.specs.Bytes.{bytes}
-use Rattle.text.specs.Numeral.{decimal}
+use Rattle.text_fields.specs.Numeral.{decimal}
 use Rattle.files.specs.declared.Loaded.{Loaded}
 use Rattle.files.specs.Output.{ofFiles, Outputs, PrintsFiles}
 use Rattle.plan_calls.specs.Printed.{planPrinted}

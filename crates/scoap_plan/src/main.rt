@@ -6,10 +6,10 @@ use files::FILE_BYTES;
 use files::Loaded;
 use files::front;
 use files::put_unreadable;
-use text::Numeral;
+use text_fields::Numeral;
 ghost use mathlib.Core.Path.{_≡_};
 ghost use Rattle.sizes.specs.Sizes as Size;
-ghost use Rattle.text.specs.Numeral.{numeralRead};
+ghost use Rattle.text_fields.specs.Numeral.{numeralRead};
 ghost use Rattle.writer_bytes.specs.Put.{Put};
 ghost use Rattle.files.specs.Output.{PrintsFiles};
 ghost use Rattle.scoap_plan.specs.Output.{threeDecimals, argumentsOf, usage, planShown, planOutput, PlanOutputs};
@@ -48,9 +48,9 @@ fn read_arguments(count: usize, line: &[u8], value: &[u8], kind: &[u8]) -> Argum
         return Arguments::Usage;
     }
     three_decimals(
-        text::decimal(line),
-        text::decimal(value),
-        text::decimal(kind),
+        text_fields::decimal(line),
+        text_fields::decimal(value),
+        text_fields::decimal(kind),
     )
 }
 

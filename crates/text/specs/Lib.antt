@@ -1,4 +1,3 @@
 pub mod Bytes
 pub mod Class
 pub mod Lines
-pub mod Numeral

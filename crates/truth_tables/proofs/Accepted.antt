@@ -15,7 +15,7 @@ use Rattle.sizes.specs.Sizes as Size
 use Rattle.reading.specs.Each.{Each}
 use Rattle.reading.specs.Refusal.{read}
 use Rattle.reading.proofs.Laws.{by-test, clash, and-left, each-member}
-use Rattle.text.specs.Numeral.{nameForm}
+use Rattle.text_fields.specs.Numeral.{nameForm}
 use Rattle.library_table.specs.Cells.{Row, Group, bit}
 use Rattle.library_table.specs.declared.Word.{Word}
 use Rattle.library_table.specs.declared.Word.the-variants.{CC, CO, SC, SO}

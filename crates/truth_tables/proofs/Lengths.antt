@@ -9,8 +9,8 @@ use native.Mathlib.Omega.{arith}
 use lib.ListN.{length, length-append, length-map}
 use Rattle.reading.specs.Each.{Each}
 use Rattle.text.specs.Bytes.{bytes}
-use Rattle.text.specs.Numeral.{nameForm}
-use Rattle.text.proofs.Laws.{nameForm-length}
+use Rattle.text_fields.specs.Numeral.{nameForm}
+use Rattle.text_fields.proofs.Laws.{nameForm-length}
 use Rattle.writer_bytes.specs.Octal.{octalBytes}
 use Rattle.writer_bytes.proofs.Decimal.{decimal-length}
 use Rattle.writer_bytes.proofs.Octal.{octal-most}

@@ -6,7 +6,7 @@ use mathlib.Core.Path.{_≡_, refl}
 use Prim.Native.Nat.{ℕ, suc, _+_, _/_, _%_, _^_, _≤_, _<_}
 use native.Mathlib.Omega.{arith}
 use lib.ListN.{length}
-use Rattle.text.specs.Numeral.{numeral}
+use Rattle.text_fields.specs.Numeral.{numeral}
 use Rattle.writer_bytes.specs.Decimal.{decimalBytes, twoDigits}
 use Rattle.writer_bytes.proofs.Digits.{digits-one, digits-then, digits-some, digits-most, digits-below, digits-above, digits-read}
 

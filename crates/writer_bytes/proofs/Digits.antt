@@ -13,8 +13,8 @@ use borrow.Author.Tests.{lt-ltb, le-ltb, le-leb, ne-eqb, ltb-true, ltb-false}
 use Rattle.common_laws.proofs.Numbers.{quotient-below}
 use Rattle.reading.specs.Choice.{pick}
 use Rattle.reading.proofs.Laws.{by-test, clash, and-left, and-right}
-use Rattle.text.specs.Numeral.{digitBelow, allDigits, value, noLeadingZero, wellFormed, numeral}
-use Rattle.text.proofs.Laws.{numeral-good}
+use Rattle.text_fields.specs.Numeral.{digitBelow, allDigits, value, noLeadingZero, wellFormed, numeral}
+use Rattle.text_fields.proofs.Laws.{numeral-good}
 use Rattle.writer_bytes.specs.Digits.{digits}
 
 -- the value of digits with one more behind them

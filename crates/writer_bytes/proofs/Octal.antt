@@ -7,7 +7,7 @@ use mathlib.Core.Path.{_≡_}
 use Prim.Native.Nat.{ℕ, suc, _+_, _/_, _%_, _^_, _≤_, _<_}
 use native.Mathlib.Omega.{arith}
 use lib.ListN.{length}
-use Rattle.text.specs.Numeral.{allDigits, value, numeral}
+use Rattle.text_fields.specs.Numeral.{allDigits, value, numeral}
 use Rattle.writer_bytes.specs.Octal.{octalBytes}
 use Rattle.writer_bytes.proofs.Digits.{digits-one, digits-then, digits-value, digits-all, digits-most, digits-read}
 

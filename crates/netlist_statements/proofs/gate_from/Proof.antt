@@ -5,7 +5,7 @@ use mathlib.Core.Path.{_≡_, refl, sym, ap, _∙_}
 use Prim.Native.Nat.{ℕ}
 use borrow.Author.Tests.{not-true, not-false}
 use Rattle.text.specs.Lines.{part, nextAfter}
-use Rattle.text.specs.Numeral.{nameForm}
+use Rattle.text_fields.specs.Numeral.{nameForm}
 use Rattle.library_table.specs.Library.{cellNamed}
 use Rattle.netlist_statements.proofs.Forms.{stands-none, number-good, number-bad, gate-none, gate-name-bad, gate-no-line}
 use Rattle.netlist_statements.proofs.Forms.{gate-line-bad, gate-lines, gathered-gate}

@@ -1,7 +1,7 @@
 -- `three_decimals` is `threeDecimals`, numeral by numeral. Assumes nothing.
 use mathlib.Core.Path.{refl}
 use borrow.Author.Needs.{needs}
-use Rattle.text.specs.Numeral.{numeralRead}
+use Rattle.text_fields.specs.Numeral.{numeralRead}
 use Rattle.scoap_plan.specs.Output.{threeDecimals}
 use Rattle.scoap_plan.proofs.three_decimals.Statement.{statement}
 use Rattle.scoap_plan.proofs.three_decimals.Tie as tie

@@ -4,7 +4,7 @@ use mathlib.Core.Path.{_≡_, sym, ap, _∙_}
 use lib.Dec.{ltb}
 use borrow.Author.Tests.{not-true, not-false}
 use Rattle.reading.specs.Choice.{pick}
-use Rattle.text.specs.Numeral.{nameForm, numeralRead}
+use Rattle.text_fields.specs.Numeral.{nameForm, numeralRead}
 use Rattle.library_text.specs.Headers.{headings, pinsIn}
 use borrow.Author.Needs.{needs}
 use Rattle.library_text.proofs.lines.header_pins.Statement.{statement}

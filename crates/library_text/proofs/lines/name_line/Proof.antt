@@ -6,8 +6,9 @@ use mathlib.Core.Path.{_≡_, sym, ap, _∙_}
 use Prim.Native.Nat.{ℕ}
 use lib.ListN.{getD, drop}
 use Rattle.text.specs.Lines.{fields, fieldsFrom}
-use Rattle.text.specs.Numeral.{numeralRead}
-use Rattle.text.proofs.Laws.{fieldsFrom-start, nameForm-length}
+use Rattle.text_fields.specs.Numeral.{numeralRead}
+use Rattle.text.proofs.Laws.{fieldsFrom-start}
+use Rattle.text_fields.proofs.Laws.{nameForm-length}
 use Rattle.library_table.specs.Library.{Fields}
 use Rattle.library_text.specs.Headers.{headingIn, pinsIn, headerNumber}
 use Rattle.text.proofs.Cursors.{field-nth, field-next, field-last}

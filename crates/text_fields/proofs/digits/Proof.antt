@@ -1,4 +1,4 @@
--- `text::digits` meets its contract. The loop's invariant: the bytes passed are digits, so that the rest decides; going on
+-- `text_fields::digits` meets its contract. The loop's invariant: the bytes passed are digits, so that the rest decides; going on
 -- from the sum gives the value; and the sum is below the base's power for the digits passed.
 -- Assumes nothing.
 use mathlib.Core.Bool.{true}
@@ -11,11 +11,11 @@ use lib.ListN.{length, getD, drop}
 use borrow.Author.Needs.{needs}
 use borrow.Author.Tests.{not-true, not-false}
 use Rattle.reading.specs.Choice.{pick}
-use Rattle.text.specs.Numeral.{digitBelow, allDigits, value, numeralRead}
-use Rattle.text.proofs.Laws.{digit-low, digit-step}
-use Rattle.text.proofs.Steps.{allDigits-good, allDigits-bad, allDigits-end, value-step, value-end, sum-fits}
-use Rattle.text.proofs.digits.Statement.{statement}
-use Rattle.text.proofs.digits.Tie as tie
+use Rattle.text_fields.specs.Numeral.{digitBelow, allDigits, value, numeralRead}
+use Rattle.text_fields.proofs.Laws.{digit-low, digit-step}
+use Rattle.text_fields.proofs.Steps.{allDigits-good, allDigits-bad, allDigits-end, value-step, value-end, sum-fits}
+use Rattle.text_fields.proofs.digits.Statement.{statement}
+use Rattle.text_fields.proofs.digits.Tie as tie
 
 abbrev Inv-loop : tie.InvT-loop
 Inv-loop f base n sum₀ i₀ sum i =

@@ -1,13 +1,13 @@
--- `text::octal` meets its contract: the power of 8 for at most ten digits fits.
+-- `text_fields::octal` meets its contract: the power of 8 for at most ten digits fits.
 -- Assumes nothing.
 use mathlib.Core.Path.{_≡_, ap, _∙_}
 use Prim.Native.Nat.{ℕ, _≤_, min}
 use native.Mathlib.Nat.{pow-le-pow-right}
 use native.Mathlib.Omega.{arith}
 use borrow.Author.Needs.{needs}
-use Rattle.text.specs.Numeral.{numeral}
-use Rattle.text.proofs.octal.Statement.{statement}
-use Rattle.text.proofs.octal.Tie as tie
+use Rattle.text_fields.specs.Numeral.{numeral}
+use Rattle.text_fields.proofs.octal.Statement.{statement}
+use Rattle.text_fields.proofs.octal.Tie as tie
 
 read-requires : tie.Need-read-requires
 read-requires c κs =

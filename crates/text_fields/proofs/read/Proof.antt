@@ -1,4 +1,4 @@
--- `text::read` meets its contract: each return is a case of `wellFormed`, and a well-formed field has so few digits that its
+-- `text_fields::read` meets its contract: each return is a case of `wellFormed`, and a well-formed field has so few digits that its
 -- value fits.
 -- Assumes nothing.
 use mathlib.Core.Bool.{true}
@@ -10,11 +10,11 @@ use native.Mathlib.Omega.{arith}
 use lib.ListN.{length, getD}
 use borrow.Author.Needs.{needs}
 use borrow.Author.Tests.{ne-eqb}
-use Rattle.text.specs.Numeral.{noLeadingZero, numeral, numeralRead}
-use Rattle.text.proofs.Laws.{numeral-bad}
-use Rattle.text.proofs.Steps.{noLeadingZero-short, noLeadingZero-long, wellFormed-empty, wellFormed-long, wellFormed-zero, wellFormed-bytes}
-use Rattle.text.proofs.read.Statement.{statement}
-use Rattle.text.proofs.read.Tie as tie
+use Rattle.text_fields.specs.Numeral.{noLeadingZero, numeral, numeralRead}
+use Rattle.text_fields.proofs.Laws.{numeral-bad}
+use Rattle.text_fields.proofs.Steps.{noLeadingZero-short, noLeadingZero-long, wellFormed-empty, wellFormed-long, wellFormed-zero, wellFormed-bytes}
+use Rattle.text_fields.proofs.read.Statement.{statement}
+use Rattle.text_fields.proofs.read.Tie as tie
 
 returns : tie.Need-returns
 unfolding numeralRead

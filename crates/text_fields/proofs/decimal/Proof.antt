@@ -1,9 +1,9 @@
--- `text::decimal` meets its contract.
+-- `text_fields::decimal` meets its contract.
 -- Assumes nothing.
 use borrow.Author.Needs.{needs}
-use Rattle.text.specs.Numeral.{decimal}
-use Rattle.text.proofs.decimal.Statement.{statement}
-use Rattle.text.proofs.decimal.Tie as tie
+use Rattle.text_fields.specs.Numeral.{decimal}
+use Rattle.text_fields.proofs.decimal.Statement.{statement}
+use Rattle.text_fields.proofs.decimal.Tie as tie
 
 returns : tie.Need-returns
 unfolding decimal

@@ -1,4 +1,4 @@
--- `text::digit_below` meets its contract: a byte of class `Digit`, below the end of the base's digits.
+-- `text_fields::digit_below` meets its contract: a byte of class `Digit`, below the end of the base's digits.
 -- Assumes nothing.
 use mathlib.Core.Bool.{Bool, true, false, _&&_}
 use mathlib.Core.List.{[], _∷_}
@@ -11,14 +11,14 @@ use borrow.Author.Needs.{needs}
 use borrow.Author.Tests.{lt-leb}
 use denote.Enum.Declared.{tagOf}
 use types.Run.{OneOf}
 use Rattle.text.specs.declared.Class.{Class}
 use Rattle.text.specs.declared.Class.the-variants.{Digit, Letter, Comma, LineEnd, Other}
 use Rattle.text.specs.Class.{classOf, isDigit}
-use Rattle.text.specs.Numeral.{digitBelow}
+use Rattle.text_fields.specs.Numeral.{digitBelow}
 use Rattle.text.proofs.Class.{the-type}
-use Rattle.text.proofs.Laws.{class-digit-below}
-use Rattle.text.proofs.digit_below.Statement.{statement}
-use Rattle.text.proofs.digit_below.Tie as tie
+use Rattle.text_fields.proofs.Laws.{class-digit-below}
+use Rattle.text_fields.proofs.digit_below.Statement.{statement}
+use Rattle.text_fields.proofs.digit_below.Tie as tie
 
 -- The class of a byte and the base's end decide.
 by-class : (k : Class) (t : Bool) (b base : ℕ) → k ≡ classOf b → t ≡ isDigit k → base ≤ 10 → (t && ltb b (48 + base)) ≡ digitBelow base b

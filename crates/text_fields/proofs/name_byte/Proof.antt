@@ -1,4 +1,4 @@
--- `text::name_byte` meets its contract: the class of the byte decides.
+-- `text_fields::name_byte` meets its contract: the class of the byte decides.
 -- Assumes nothing.
 use mathlib.Core.Bool.{false}
 use mathlib.Core.List.{[], _∷_}
@@ -10,14 +10,14 @@ use borrow.Author.Needs.{needs}
 use borrow.Author.Tests.{lt-leb}
 use denote.Enum.Declared.{tagOf}
 use types.Run.{OneOf}
 use Rattle.text.specs.declared.Class.{Class}
 use Rattle.text.specs.declared.Class.the-variants.{Digit, Letter, Comma, LineEnd, Other}
 use Rattle.text.specs.Class.{between, isLetterOrDigit}
-use Rattle.text.specs.Numeral.{nameByte}
+use Rattle.text_fields.specs.Numeral.{nameByte}
 use Rattle.text.proofs.Class.{the-type}
-use Rattle.text.proofs.Laws.{class-name}
-use Rattle.text.proofs.name_byte.Statement.{statement}
-use Rattle.text.proofs.name_byte.Tie as tie
+use Rattle.text_fields.proofs.Laws.{class-name}
+use Rattle.text_fields.proofs.name_byte.Statement.{statement}
+use Rattle.text_fields.proofs.name_byte.Tie as tie
 
 -- No letter and no digit stands below 0.
 returns : tie.Need-returns

@@ -8,9 +8,9 @@ use lib.Dec.{leb, ltb, eqb}
 use lib.ListN.{length}
 use Rattle.sizes.specs.Sizes as Size
 use Rattle.reading.specs.Choice.{pick}
 use Rattle.text.specs.Class.{between, class-open}
-use Rattle.text.specs.declared.Numeral.{Numeral}
-use Rattle.text.specs.declared.Numeral.the-variants.{Value, Bad}
+use Rattle.text_fields.specs.declared.Numeral.{Numeral}
+use Rattle.text_fields.specs.declared.Numeral.the-variants.{Value, Bad}
 
 -- The digits of a base up to ten, from byte 48 on.
 unfoldable pub digitBelow : ℕ → ℕ → Bool

@@ -1,4 +1,4 @@
--- `text::is_name` meets its contract. The loop's invariant: the length is good and so are the bytes passed, so that the rest
+-- `text_fields::is_name` meets its contract. The loop's invariant: the length is good and so are the bytes passed, so that the rest
 -- decides. Assumes nothing.
 use mathlib.Core.Path.{_≡_, sym, _∙_}
 use Prim.Native.Nat.{_-_, _≤_, _<_}
@@ -7,10 +7,10 @@ use lib.ListN.{length, drop}
 use borrow.Author.Needs.{needs}
 use borrow.Author.Tests.{not-true, not-false}
 use Rattle.sizes.specs.Sizes as Size
-use Rattle.text.specs.Numeral.{allName, nameForm}
-use Rattle.text.proofs.Steps.{allName-good, allName-bad, allName-end, nameForm-empty, nameForm-long, nameForm-bytes}
-use Rattle.text.proofs.is_name.Statement.{statement}
-use Rattle.text.proofs.is_name.Tie as tie
+use Rattle.text_fields.specs.Numeral.{allName, nameForm}
+use Rattle.text_fields.proofs.Steps.{allName-good, allName-bad, allName-end, nameForm-empty, nameForm-long, nameForm-bytes}
+use Rattle.text_fields.proofs.is_name.Statement.{statement}
+use Rattle.text_fields.proofs.is_name.Tie as tie
 
 abbrev Inv-loop : tie.InvT-loop
 Inv-loop f n i₀ i = (i ≤ length f) × (allName (drop i f) ≡ nameForm f)
