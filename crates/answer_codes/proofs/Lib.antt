@@ -2,7 +2,6 @@ pub mod Number
 pub mod ReportCode
 pub mod Cells
 pub mod Plan
-pub mod Qualifies
 pub mod Stand
 pub mod Best
 pub mod Advice

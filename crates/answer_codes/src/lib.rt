@@ -2,18 +2,14 @@
 // themselves; what they promise is said here, beside the laws that lead to it from the promises of the calls in Rattle, so
 // that a call is proved by one law.
 //
-// For the crates above: a function for each type of answer, `limit_plan` and `qualifies_code`. specs/Number.antt says what the
-// number of all calls tells, specs/Coded.antt, specs/Plan.antt, specs/Cell.antt, specs/BuiltIn.antt, specs/Qualifies.antt,
+// For the crates above: a function for each type of answer, and `limit_plan`. specs/Number.antt says what the number of all
+// calls tells, specs/Coded.antt, specs/Plan.antt, specs/Cell.antt, specs/BuiltIn.antt, specs/Qualifies.antt,
 // specs/Stand.antt, specs/Change.antt, specs/Best.antt and specs/Advice.antt what each call promises.
 use advice_calls::Advised;
 use advice_calls::Ranked;
-use analysis_texts::Progress;
-use analysis_texts::Tables;
-use analysis_texts::read_texts;
 use budget_call::Steps;
 use calculation::Advice;
 use demands::Answer;
-use netlist_table::Rules;
 use reading::PLAN_LONG;
 use standing_calls::Pads;
 use standing_change::Changed;
@@ -31,7 +27,6 @@ ghost use Rattle.answer_codes.specs.Number.{Limits};
 ghost use Rattle.answer_codes.specs.Advice.{adviceLine, lineRead};
 ghost use Rattle.answer_codes.specs.Change.{toldNumber};
 ghost use Rattle.answer_codes.specs.Coded.{reportLength};
-ghost use Rattle.answer_codes.specs.Qualifies.{QualifiesCoded};
 
 // A report's length, or the refusal, by one number.
 pub fn answer_code(answer: Answer) -> u64
@@ -126,28 +121,5 @@ pub fn change_code(changed: Changed) -> u64
         Changed::WentOn => 1,
         Changed::BegunAgain => 0,
         Changed::Refused(r) => refusal_code(r),
-    }
-}
-
-// 0, 1 or 2 as `chip_call::qualifies` answers of two texts, read into tables of its own, or the refusal, by one number.
-// Nothing is calculated.
-pub fn qualifies_code(lib: &[u8], net: &[u8]) -> u64
-    ensures { λ r. ⌜ QualifiesCoded (now (lib .entry)) (now (net .entry)) r ⌝ }
-{
-    let mut library = [0u32; sizes::LIBRARY];
-    let mut netlist = [0u32; sizes::NETLIST];
-    let progress = read_texts(
-        Rules::New,
-        lib,
-        net,
-        &mut library,
-        &mut netlist,
-        sizes::NUMBERS,
-        Tables::Own,
-    );
-    match progress {
-        Progress::AtEntry(r) => refusal_code(r),
-        Progress::Later(r) => refusal_code(r),
-        Progress::Unrefused => chip_call::qualifies(&library, &netlist) as u64,
     }
 }
