@@ -10,7 +10,7 @@ use lib.Dec.{ltb}
 use lib.ListN.{length}
 use Rattle.sizes.specs.Sizes as Size
 use Rattle.reading.specs.Numbers as No
-use Rattle.reading.specs.Refusal.{Read, refused, read}
+use Rattle.reading.specs.Refusal.{Read, refused, read, _>>=_}
 use Rattle.reading.proofs.Bounds.{Within, anyNumber}
 use Rattle.reading.proofs.Laws.{by-test, refused-read}
 use Rattle.writer.specs.Buffer.{codeOf, LineBelow}

@@ -7,7 +7,7 @@ use Prim.Native.Nat.{ℕ, zero, suc, _/_, _%_, _≤_, _<_}
 use native.Mathlib.Omega.{arith}
 use borrow.Author.Tests.{leb-true, le-leb}
 use Rattle.reading.specs.Numbers as No
-use Rattle.reading.specs.Refusal.{Read, refused, read}
+use Rattle.reading.specs.Refusal.{Read, refused, read, _>>=_}
 use Rattle.reading.specs.declared.Refusal.{Refusal}
 use Rattle.reading.proofs.Bounds.{Within, anyNumber}
 use Rattle.reading.proofs.Laws.{refused-read, same-refusal}

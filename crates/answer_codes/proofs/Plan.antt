@@ -11,7 +11,7 @@ use lib.ListN.{length, replicate}
 use borrow.Author.Tests.{le-leb, lt-leb, leb-true, leb-false}
 use Rattle.reading.specs.Choice.{pick}
 use Rattle.reading.specs.Numbers as No
-use Rattle.reading.specs.Refusal.{Read, refused, read, weigh}
+use Rattle.reading.specs.Refusal.{Read, refused, read, _>>=_, weigh}
 use Rattle.reading.specs.declared.Refusal.{Refusal}
 use Rattle.reading.proofs.Bounds.{Within, anyNumber, within-bind, within-then, within-weigh}
 use Rattle.reading.proofs.Laws.{by-test, clash, refused-read, then-read, bind-refused, then-refused}
