@@ -1,10 +1,10 @@
 -- `qualifies_code` tells by one number what the tables of the two texts say. Assumes nothing.
 use mathlib.Core.Path.{refl}
 use denote.Ref.{now}
-use Rattle.chip_code.proofs.Qualifies.{entry-line, later-line, qualifies-entry, qualifies-later, qualifies-accepted}
+use Rattle.answer_qualifies.proofs.Qualifies.{entry-line, later-line, qualifies-entry, qualifies-later, qualifies-accepted}
 use borrow.Author.Needs.{needs}
-use Rattle.chip_code.proofs.qualifies_code.Statement.{statement}
-use Rattle.chip_code.proofs.qualifies_code.Tie as tie
+use Rattle.answer_qualifies.proofs.qualifies_code.Statement.{statement}
+use Rattle.answer_qualifies.proofs.qualifies_code.Tie as tie
 
 -- ---- the places of the code that the answers speak of
 
