@@ -14,7 +14,7 @@ use Rattle.netlist_table.specs.Sound.{InRange, Sound}
 use Rattle.netlist_table.proofs.HeldLines.{inputs-held, mentions-held}
 use Rattle.netlist_table.proofs.Laws.{mentioned-in-range, marked-in-range}
 use Rattle.chip_loops.proofs.Marks.{where-listed, listed-where}
-use Rattle.chip_loops.proofs.Settled.{Lists}
+use Rattle.chip_loops.proofs.Levelled.{Lists}
 
 -- A test that tells a netlist's lines.
 lists-where : (q : ℕ → Bool) → ((l : ℕ) → q l ≡ true → InRange l) → Lists q (linesWhere q Size.lines 1)

@@ -22,7 +22,7 @@ use Rattle.calculation.specs.Acceptance.{BothSound}
 use Rattle.chip_values.specs.Loops.{Loopless, NoneOpen, linesRead, ReadOnce}
 use Rattle.chip_loops.specs.Marks.{noMarks, withoutLoops, pinsOf, readOnce}
 use Rattle.chip_loops.proofs.Marks.{none-marked}
-use Rattle.chip_loops.proofs.Settled.{settled-free, free-settled}
+use Rattle.chip_loops.proofs.Levelled.{levelled-free, free-levelled}
 use Rattle.chip_loops.proofs.Held.{inputs-listed, mentions-listed}
 use Rattle.chip_loops.proofs.OneReader.{once-apart, apart-once}
 
@@ -49,8 +49,8 @@ module _ {table : List ℕ} {cells : List Cell} {ss : List Statement} (sound : B
       let inputs = inputs-listed (sound .netlist) (holds .past) in
       let mentions = mentions-listed (sound .netlist) (holds .past) in
       rw (holds .words, gates-held (sound .netlist) (holds .past) (sound .library)) (
-        settled-free cells ss (sound .netlist) _ _ inputs mentions,
-        (λ f. free-settled cells ss (sound .netlist) _ _ inputs mentions (f .0) (f .1)),
+        levelled-free cells ss (sound .netlist) _ _ inputs mentions,
+        (λ f. free-levelled cells ss (sound .netlist) _ _ inputs mentions (f .0) (f .1)),
       )
 
   -- "each line is read by at most one pin"

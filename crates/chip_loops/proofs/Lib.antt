@@ -1,6 +1,6 @@
 mod Steps
 mod Marks
-mod Settled
+mod Levelled
 mod Held
 mod OneReader
 pub mod Laws

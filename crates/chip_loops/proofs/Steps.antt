@@ -14,8 +14,8 @@ use Rattle.netlist_table.specs.Netlist.{Gate, linesWhere}
 use Rattle.netlist_table.specs.Gates.{gateLine, eachOf, present, pinLines, gateAt, gatesHeld}
 use Rattle.netlist_table.specs.Lines.{inputsHeld, mentionsHeld}
 use Rattle.netlist_table.proofs.HeldGates.{each-next}
-use Rattle.chip_loops.specs.Marks.{noMarks, mostPasses, settledLines, withoutLoops}
-use Rattle.chip_loops.specs.Marks.{marked, allMarked, markEach, ready, settle, pass, passes, Passed, onceEach, pinsOf, Noted}
+use Rattle.chip_loops.specs.Marks.{noMarks, mostPasses, levelledLines, withoutLoops}
+use Rattle.chip_loops.specs.Marks.{marked, allMarked, markEach, ready, level, pass, passes, Passed, onceEach, pinsOf, Noted}
 
 -- ---- what is left
 
@@ -80,58 +80,58 @@ module _ (marks : List ℕ) where
 -- ---- gates
 
 module _ (before table : List ℕ) (g : ℕ) {line : ℕ} {r : Bool} (at : line ≡ gateLine table g 0) (e : r ≡ marked before line) where
-  abbrev Settles : List ℕ → Bool → Type 0
-  Settles after is = (is ≡ ready before (gateAt table g)) × (after ≡ settle before (gateAt table g))
+  abbrev Levels : List ℕ → Bool → Type 0
+  Levels after is = (is ≡ ready before (gateAt table g)) × (after ≡ level before (gateAt table g))
 
-  pub settled-before : r ≡ true → Settles before false
-  unfolding ready settle gateAt pick
-  settled-before t = let m : marked before (gateLine table g 0) ≡ true = rw (← at) (sym e ∙ t) in (rw m, rw m)
+  pub levelled-before : r ≡ true → Levels before false
+  unfolding ready level gateAt pick
+  levelled-before t = let m : marked before (gateLine table g 0) ≡ true = rw (← at) (sym e ∙ t) in (rw m, rw m)
 
   module _ {pins : Bool} (f : pins ≡ allMarked before (pinLines table g)) (t : r ≡ false) where
-    pub not-ready : not pins ≡ true → Settles before false
-    unfolding ready settle gateAt pick
+    pub not-ready : not pins ≡ true → Levels before false
+    unfolding ready level gateAt pick
     not-ready n =
         let m : marked before (gateLine table g 0) ≡ false = rw (← at) (sym e ∙ t) in
         let q : allMarked before (pinLines table g) ≡ false = by-test pins (λ u. clash (not pins) n (rw u)) (λ u. sym f ∙ u) in
         (rw (m, q), rw (m, q))
 
-    pub settles : {after : List ℕ} → not pins ≡ false → after ≡ set before line 1 → Settles after true
-    unfolding ready settle gateAt pick
-    settles n a =
+    pub levels : {after : List ℕ} → not pins ≡ false → after ≡ set before line 1 → Levels after true
+    unfolding ready level gateAt pick
+    levels n a =
         let m : marked before (gateLine table g 0) ≡ false = rw (← at) (sym e ∙ t) in
         let q : allMarked before (pinLines table g) ≡ true = by-test pins (λ u. sym f ∙ u) (λ u. clash (not pins) (rw u) n) in
         (rw (m, q), rw (m, q, ← at) a)
 
-pub pass-next : (f : ℕ → Gate) (n i : ℕ) (marks : List ℕ) → i < n → {after : List ℕ} → after ≡ settle marks (f i)
+pub pass-next : (f : ℕ → Gate) (n i : ℕ) (marks : List ℕ) → i < n → {after : List ℕ} → after ≡ level marks (f i)
     → pass (eachOf f (n - (i + 1)) (i + 1)) after ≡ pass (eachOf f (n - i) i) marks
 unfolding pass
 pass-next f n i marks h e = rw (e, each-next f n i h)
 
-pub settle-size : (marks : List ℕ) (g : Gate) → length (settle marks g) ≡ length marks
-unfolding settle pick
-settle-size marks g = by-test (ready marks g) (λ t. rw t (simp length-set)) (λ t. rw t)
+pub level-size : (marks : List ℕ) (g : Gate) → length (level marks g) ≡ length marks
+unfolding level pick
+level-size marks g = by-test (ready marks g) (λ t. rw t (simp length-set)) (λ t. rw t)
 
 pub pass-size : (gs : List Gate) (marks : List ℕ) → length (pass gs marks) ≡ length marks
 unfolding pass
 pass-size [] marks = refl
-pass-size (g ∷ gs) marks = pass-size gs (settle marks g) ∙ settle-size marks g
+pass-size (g ∷ gs) marks = pass-size gs (level marks g) ∙ level-size marks g
 
 pub passes-size : (n : ℕ) (gs : List Gate) (marks : List ℕ) → length (passes n gs marks) ≡ length marks
 unfolding passes
 passes-size zero gs marks = refl
 passes-size (suc n) gs marks = passes-size n gs (pass gs marks) ∙ pass-size gs marks
 
-pub settle-same : (marks : List ℕ) (g : Gate) → ready marks g ≡ false → settle marks g ≡ marks
-unfolding settle pick
-settle-same marks g t = rw t
+pub level-same : (marks : List ℕ) (g : Gate) → ready marks g ≡ false → level marks g ≡ marks
+unfolding level pick
+level-same marks g t = rw t
 
--- A pass settles nothing after those before it, and it is said so.
+-- A pass levels nothing after those before it, and it is said so.
 pub unchanged : (g : Gate) {start before after : List ℕ} {r changed : Bool} → (changed ≡ false → before ≡ start)
-    → r ≡ ready before g → after ≡ settle before g → (r || changed) ≡ false → after ≡ start
+    → r ≡ ready before g → after ≡ level before g → (r || changed) ≡ false → after ≡ start
 unchanged g {start} {before} {after} {r} {changed} same e s n =
-    s ∙ settle-same before g (sym e ∙ or-left r changed n) ∙ same (or-right r changed n)
+    s ∙ level-same before g (sym e ∙ or-left r changed n) ∙ same (or-right r changed n)
 
--- Where a pass settles nothing no further one does.
+-- Where a pass levels nothing no further one does.
 pub passes-rest : (gs : List Gate) (marks : List ℕ) (n : ℕ) → pass gs marks ≡ marks → passes n gs marks ≡ marks
 unfolding passes
 passes-rest gs marks zero e = refl
@@ -152,10 +152,10 @@ module _ {gs : List Gate} {before after : List ℕ} {changed : Bool} (passed : P
   passes-next zero h = absurd (omega arith)
   passes-next (suc n) h = let e : suc n - 1 ≡ n = omega arith in rw (e, passed .leaves)
 
-pub all-settled : (table : List ℕ) {first last : List ℕ} {r : Bool} → first ≡ markEach noMarks (inputsHeld table)
+pub all-levelled : (table : List ℕ) {first last : List ℕ} {r : Bool} → first ≡ markEach noMarks (inputsHeld table)
     → last ≡ passes mostPasses (gatesHeld table) first → r ≡ allMarked last (mentionsHeld table) → r ≡ withoutLoops table
-unfolding withoutLoops settledLines
-all-settled table e f g = g ∙ rw (f, e)
+unfolding withoutLoops levelledLines
+all-levelled table e f g = g ∙ rw (f, e)
 
 -- ---- lines that stand once
 

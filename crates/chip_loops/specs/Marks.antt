@@ -31,31 +31,31 @@ noMarks = replicate Size.linePlaces 0
 
 -- ---- loops and open lines
 
--- A gate whose pins are all settled settles its line.
+-- A gate whose pins are all levelled levels its line.
 unfoldable pub ready : List ℕ → Gate → Bool
 ready marks g = not (marked marks (g .line)) && allMarked marks (g .pins)
 
-unfoldable pub settle : List ℕ → Gate → List ℕ
-settle marks g = pick (ready marks g) (set marks (g .line) 1) marks
+unfoldable pub level : List ℕ → Gate → List ℕ
+level marks g = pick (ready marks g) (set marks (g .line) 1) marks
 
 unfoldable pub pass : List Gate → List ℕ → List ℕ
 pass [] marks = marks
-pass (g ∷ gs) marks = pass gs (settle marks g)
+pass (g ∷ gs) marks = pass gs (level marks g)
 
 unfoldable pub passes : ℕ → List Gate → List ℕ → List ℕ
 passes zero gs marks = marks
 passes (suc n) gs marks = passes n gs (pass gs marks)
 
--- Each pass settles a line, until one settles none.
+-- Each pass levels a line, until one levels none.
 abbrev pub mostPasses : ℕ
 mostPasses = Size.linePlaces + 1
 
--- The lines that passes over the gates settle, from the inputs on.
-unfoldable pub settledLines : List ℕ → List Gate → List ℕ
-settledLines inputs gs = passes mostPasses gs (markEach noMarks inputs)
+-- The lines that passes over the gates level, from the inputs on.
+unfoldable pub levelledLines : List ℕ → List Gate → List ℕ
+levelledLines inputs gs = passes mostPasses gs (markEach noMarks inputs)
 
 unfoldable pub withoutLoops : List ℕ → Bool
-withoutLoops table = allMarked (settledLines (inputsHeld table) (gatesHeld table)) (mentionsHeld table)
+withoutLoops table = allMarked (levelledLines (inputsHeld table) (gatesHeld table)) (mentionsHeld table)
 
 -- What a pass leaves, and that where it says so it has changed nothing.
 pub record Passed (gs : List Gate) (before after : List ℕ) (changed : Bool) : Type 0 where

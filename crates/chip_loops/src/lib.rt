@@ -15,7 +15,7 @@ ghost use Rattle.sizes.specs.Sizes as Size;
 ghost use Rattle.reading.specs.Choice.{pick};
 ghost use Rattle.netlist_table.specs.Gates.{present, pinLines, gateAt, gatesHeld};
 ghost use Rattle.netlist_table.specs.Lines.{inputAt, inputsHeld, mentionsHeld};
-ghost use Rattle.chip_loops.specs.Marks.{marked, allMarked, markEach, ready, settle, passes, mostPasses};
+ghost use Rattle.chip_loops.specs.Marks.{marked, allMarked, markEach, ready, level, passes, mostPasses};
 ghost use Rattle.chip_loops.specs.Marks.{withoutLoops, readOnce, Passed, Noted};
 
 fn is_marked(marks: &[u32], line: usize) -> bool
@@ -56,8 +56,8 @@ fn pins_marked(netlist: &[u32], gate: usize, marks: &[u32]) -> bool
     let mut pin = 1;
     while pin < sizes::GATE_LINES {
         let line = line_of(netlist, gate, pin);
-        let settled = (line == 0) | is_marked(marks, line);
-        if !settled {
+        let levelled = (line == 0) | is_marked(marks, line);
+        if !levelled {
             return false;
         }
         pin += 1;
@@ -65,12 +65,12 @@ fn pins_marked(netlist: &[u32], gate: usize, marks: &[u32]) -> bool
     true
 }
 
-// Settles the line of a gate whose pins are settled, and says whether it was not settled before.
-fn settle_gate(netlist: &[u32], gate: usize, marks: &mut [u32]) -> bool
+// Levels the line of a gate whose pins are levelled, and says whether it was not levelled before.
+fn level_gate(netlist: &[u32], gate: usize, marks: &mut [u32]) -> bool
     requires { ⌜ gate < Size.gates ⌝ }
     ensures { λ r.
         ⌜ (r ≡ ready (now (marks .entry)) (gateAt (now (netlist .entry)) gate))
-        × (now (marks .exit) ≡ settle (now (marks .entry)) (gateAt (now (netlist .entry)) gate)) ⌝ }
+        × (now (marks .exit) ≡ level (now (marks .entry)) (gateAt (now (netlist .entry)) gate)) ⌝ }
 {
     let line = line_of(netlist, gate, 0);
     if is_marked(marks, line) {
@@ -83,7 +83,7 @@ fn settle_gate(netlist: &[u32], gate: usize, marks: &mut [u32]) -> bool
     true
 }
 
-// Says whether some line is settled that was not.
+// Says whether some line is levelled that was not.
 fn pass_over(netlist: &[u32], marks: &mut [u32]) -> bool
     ensures { λ r.
         ⌜ Passed (gatesHeld (now (netlist .entry))) (now (marks .entry)) (now (marks .exit)) r ⌝ }
@@ -92,14 +92,14 @@ fn pass_over(netlist: &[u32], marks: &mut [u32]) -> bool
     let mut changed = false;
     let mut gate = 0;
     while gate < gates {
-        changed = settle_gate(netlist, gate, marks) | changed;
+        changed = level_gate(netlist, gate, marks) | changed;
         gate += 1;
     }
     changed
 }
 
-// Passes until one settles nothing: each before it settles a line.
-fn settle_lines(netlist: &[u32], marks: &mut [u32])
+// Passes until one levels nothing: each before it levels a line.
+fn level_lines(netlist: &[u32], marks: &mut [u32])
     ensures { λ _.
         ⌜ now (marks .exit) ≡ passes mostPasses (gatesHeld (now (netlist .entry)))
         (now (marks .entry)) ⌝ }
@@ -119,8 +119,8 @@ fn mentions_marked(netlist: &[u32], marks: &[u32]) -> bool
 {
     let mut l = 1;
     while l < sizes::LINE_PLACES {
-        let settled = !mentioned(netlist, l as u32) | is_marked(marks, l);
-        if !settled {
+        let levelled = !mentioned(netlist, l as u32) | is_marked(marks, l);
+        if !levelled {
             return false;
         }
         l += 1;
@@ -134,7 +134,7 @@ pub fn without_loops(netlist: &[u32]) -> bool
 {
     let mut marks = [0u32; sizes::LINE_PLACES];
     mark_inputs(netlist, &mut marks);
-    settle_lines(netlist, &mut marks);
+    level_lines(netlist, &mut marks);
     mentions_marked(netlist, &marks)
 }
 

@@ -15,17 +15,17 @@ use lib.Pow.{shr-le}
 use lib.Seq.{getD-set-same, getD-set-other}
 use Rattle.sizes.specs.Sizes as Size
 use Rattle.reading.proofs.Laws.{by-test}
-use Rattle.sweep_awake.specs.Turns.{bit, bitAt, Woken, Rested}
+use Rattle.sweep_awake.specs.Turns.{binaryDigit, bitAt, Woken, Rested}
 use Rattle.sweep_awake.proofs.Bits.{bit-shr, zero-bit, power-same, power-other, or-bit, xor-bit, differ-zero, high-bit, lowest-set, lowest-below}
 
 -- ---- a word stored
 
 module _ (words : List ℕ) (turn w : ℕ) (inside : turn / Size.wordBits < length words) where
-  pub set-bit : bitAt (set words (turn / Size.wordBits) w) turn ≡ bit w (turn % Size.wordBits)
+  pub set-bit : bitAt (set words (turn / Size.wordBits) w) turn ≡ binaryDigit w (turn % Size.wordBits)
   unfolding bitAt
   set-bit = rw (getD-set-same words (turn / Size.wordBits) w 0 inside)
 
-  pub set-others : ((j : ℕ) → (j ≡ turn % Size.wordBits → ⊥) → bit w j ≡ bit (getD words (turn / Size.wordBits) 0) j)
+  pub set-others : ((j : ℕ) → (j ≡ turn % Size.wordBits → ⊥) → binaryDigit w j ≡ binaryDigit (getD words (turn / Size.wordBits) 0) j)
       → (t : ℕ) → (t ≡ turn → ⊥) → bitAt (set words (turn / Size.wordBits) w) t ≡ bitAt words t
   unfolding bitAt
   set-others same t other = go (ℕ-discrete (t / Size.wordBits) (turn / Size.wordBits))
@@ -38,17 +38,17 @@ module _ (words : List ℕ) (turn w : ℕ) (inside : turn / Size.wordBits < leng
 
 -- the turn's bit set, and then flipped
 module _ (words : List ℕ) (turn w b : ℕ) (stands : w ≡ getD words (turn / Size.wordBits) 0) (is : b ≡ 2 ^ (turn % Size.wordBits)) (inside : turn / Size.wordBits < length words) where
-  same : bit b (turn % Size.wordBits) ≡ 1
-  same = ap (λ (n : ℕ). bit n (turn % Size.wordBits)) is ∙ power-same (turn % Size.wordBits)
+  same : binaryDigit b (turn % Size.wordBits) ≡ 1
+  same = ap (λ (n : ℕ). binaryDigit n (turn % Size.wordBits)) is ∙ power-same (turn % Size.wordBits)
 
-  other : (j : ℕ) → (j ≡ turn % Size.wordBits → ⊥) → bit b j ≡ 0
-  other j h = ap (λ (n : ℕ). bit n j) is ∙ power-other (turn % Size.wordBits) j h
+  other : (j : ℕ) → (j ≡ turn % Size.wordBits → ⊥) → binaryDigit b j ≡ 0
+  other j h = ap (λ (n : ℕ). binaryDigit n j) is ∙ power-other (turn % Size.wordBits) j h
 
-  both : bit (bitOr w b) (turn % Size.wordBits) ≡ 1
+  both : binaryDigit (bitOr w b) (turn % Size.wordBits) ≡ 1
   both = omega (arith, or-bit w b (turn % Size.wordBits), same)
 
-  kept : (j : ℕ) → (j ≡ turn % Size.wordBits → ⊥) → bit (bitOr w b) j ≡ bit (getD words (turn / Size.wordBits) 0) j
-  kept j h = omega (arith, or-bit w b j, other j h, ap (λ (n : ℕ). bit n j) stands)
+  kept : (j : ℕ) → (j ≡ turn % Size.wordBits → ⊥) → binaryDigit (bitOr w b) j ≡ binaryDigit (getD words (turn / Size.wordBits) 0) j
+  kept j h = omega (arith, or-bit w b j, other j h, ap (λ (n : ℕ). binaryDigit n j) stands)
 
   pub or-wakes : Woken turn words (set words (turn / Size.wordBits) (bitOr w b))
   or-wakes = record {
@@ -62,7 +62,7 @@ module _ (words : List ℕ) (turn w b : ℕ) (stands : w ≡ getD words (turn / 
     becomes = set-bit words turn (bitXor (bitOr w b) b) inside ∙ xor-bit (bitOr w b) b (turn % Size.wordBits)
         ∙ ap₂ differ both same;
     others = set-others words turn (bitXor (bitOr w b) b) inside λ j h.
-        xor-bit (bitOr w b) b j ∙ ap (differ (bit (bitOr w b) j)) (other j h) ∙ differ-zero (bit (bitOr w b) j) ∙ kept j h;
+        xor-bit (bitOr w b) b j ∙ ap (differ (binaryDigit (bitOr w b) j)) (other j h) ∙ differ-zero (binaryDigit (bitOr w b) j) ∙ kept j h;
     size = length-set words (turn / Size.wordBits) (bitXor (bitOr w b) b);
   }
 
@@ -86,7 +86,7 @@ module _ {turn : ℕ} {before after : List ℕ} (woken : Woken turn before after
 -- ---- the rest of a word, from turn `at` on
 
 module _ (words : List ℕ) (at w : ℕ) (stands : w ≡ getD words (at / Size.wordBits) 0) where
-  rest-bit : (d : ℕ) → at % Size.wordBits + d < Size.wordBits → bitAt words (at + d) ≡ bit (w / 2 ^ (at % Size.wordBits)) d
+  rest-bit : (d : ℕ) → at % Size.wordBits + d < Size.wordBits → bitAt words (at + d) ≡ binaryDigit (w / 2 ^ (at % Size.wordBits)) d
   unfolding bitAt
   rest-bit d h =
       let high : (at + d) / Size.wordBits ≡ at / Size.wordBits = omega arith in
@@ -95,18 +95,18 @@ module _ (words : List ℕ) (at w : ℕ) (stands : w ≡ getD words (at / Size.w
 
   pub rest-asleep : w / 2 ^ (at % Size.wordBits) ≡ 0 → (t : ℕ) → at ≤ t → t < (at / Size.wordBits + 1) * Size.wordBits → bitAt words t ≡ 0
   rest-asleep none t h k =
-      ap (bitAt words) (omega arith) ∙ rest-bit (t - at) (omega arith) ∙ ap (λ (n : ℕ). bit n (t - at)) none ∙ zero-bit (t - at)
+      ap (bitAt words) (omega arith) ∙ rest-bit (t - at) (omega arith) ∙ ap (λ (n : ℕ). binaryDigit n (t - at)) none ∙ zero-bit (t - at)
 
   module _ (rest : ℕ) (is : rest ≡ w / 2 ^ (at % Size.wordBits)) (fits : w < 2 ^ Size.wordBits) (some : 0 < rest) where
-    zeros-set : bit rest (trailingZeros Size.wordBits rest) ≡ 1
+    zeros-set : binaryDigit rest (trailingZeros Size.wordBits rest) ≡ 1
     zeros-set = lowest-set Size.wordBits rest some (omega (arith, shr-le w (at % Size.wordBits)))
 
     -- the lowest bit of the rest is one of the word
     zeros-inside : at % Size.wordBits + trailingZeros Size.wordBits rest < Size.wordBits
     zeros-inside =
         lt-of-not-le λ h.
-        let z : bit rest (trailingZeros Size.wordBits rest) ≡ 0 =
-        ap (λ (n : ℕ). bit n (trailingZeros Size.wordBits rest)) is
+        let z : binaryDigit rest (trailingZeros Size.wordBits rest) ≡ 0 =
+        ap (λ (n : ℕ). binaryDigit n (trailingZeros Size.wordBits rest)) is
         ∙ bit-shr w (at % Size.wordBits) (trailingZeros Size.wordBits rest)
         ∙ high-bit w Size.wordBits (at % Size.wordBits + trailingZeros Size.wordBits rest) fits h in
         omega (arith, zeros-set)

@@ -7,12 +7,12 @@ use lib.ListN.{length, getD}
 use Rattle.sizes.specs.Sizes as Size
 
 -- Bit j of a number, 0 or 1.
-abbrev pub bit : ℕ → ℕ → ℕ
-bit n j = n / 2 ^ j % 2
+abbrev pub binaryDigit : ℕ → ℕ → ℕ
+binaryDigit n j = n / 2 ^ j % 2
 
 -- 1 where a turn is awake, 0 where it is not.
 unfoldable pub bitAt : List ℕ → ℕ → ℕ
-bitAt words t = bit (getD words (t / Size.wordBits) 0) (t % Size.wordBits)
+bitAt words t = binaryDigit (getD words (t / Size.wordBits) 0) (t % Size.wordBits)
 
 -- Every turn of a sweep is awake.
 pub record AllAwake (words : List ℕ) : Type 0 where

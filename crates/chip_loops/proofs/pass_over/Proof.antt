@@ -8,7 +8,7 @@ use Rattle.sizes.specs.Sizes as Size
 use Rattle.netlist_table.specs.Gates.{eachOf, gateAt, gatesHeld}
 use Rattle.netlist_table.proofs.HeldGates.{gates-start, each-end}
 use Rattle.chip_loops.specs.Marks.{pass}
-use Rattle.chip_loops.proofs.Steps.{settle-size, pass-next, unchanged}
+use Rattle.chip_loops.proofs.Steps.{level-size, pass-next, unchanged}
 use Rattle.chip_loops.proofs.pass_over.Statement.{statement}
 use Rattle.chip_loops.proofs.pass_over.Tie as tie
 
@@ -29,8 +29,8 @@ loop-holds c =
     let all = gates-start (a .netlist .now) (c .count .result) (c .count .ensures) in
     (omega arith, omega arith, refl, ap (λ gs. pass gs (a .marks .now)) all, λ _. refl)
 
-settle-gate-requires : tie.Need-settle-gate-requires Inv-loop μ-loop
-settle-gate-requires c κs = omega arith
+level-gate-requires : tie.Need-level-gate-requires Inv-loop μ-loop
+level-gate-requires c κs = omega arith
 
 loop-again : tie.Need-loop-again Inv-loop μ-loop
 loop-again c =
@@ -39,12 +39,12 @@ loop-again c =
     let a = l .before .before .before .before .args in
     let gate = gateAt (a .netlist .now) in
     let g = gate (l .loop .gate) in
-    let settled = s .settle-gate .ensures .1 in (
+    let levelled = s .level-gate .ensures .1 in (
       omega arith,
       l .loop .inv .1,
-      ap length settled ∙ settle-size (l .loop .marks) g ∙ l .loop .inv .2,
-      pass-next gate (l .before .count .result) (l .loop .gate) (l .loop .marks) (omega arith) settled ∙ l .loop .inv .3,
-      unchanged g (l .loop .inv .4) (s .settle-gate .ensures .0) settled,
+      ap length levelled ∙ level-size (l .loop .marks) g ∙ l .loop .inv .2,
+      pass-next gate (l .before .count .result) (l .loop .gate) (l .loop .marks) (omega arith) levelled ∙ l .loop .inv .3,
+      unchanged g (l .loop .inv .4) (s .level-gate .ensures .0) levelled,
     )
 
 returns : tie.Need-returns Inv-loop μ-loop
@@ -63,7 +63,7 @@ pass-over-spec =
     μ-loop
     (λ c κs. tt)
     loop-holds
-    settle-gate-requires
+    level-gate-requires
     (λ c. omega arith)
     (λ c. omega arith)
     loop-again

@@ -1,6 +1,6 @@
 -- `without_loops` marks the inputs, passes over the gates and looks at the lines that are mentioned. Assumes nothing.
 use borrow.Author.Needs.{needs}
-use Rattle.chip_loops.proofs.Steps.{all-settled}
+use Rattle.chip_loops.proofs.Steps.{all-levelled}
 use Rattle.chip_loops.proofs.without_loops.Statement.{statement}
 use Rattle.chip_loops.proofs.without_loops.Tie as tie
 
@@ -9,7 +9,7 @@ returns c =
     let s = c .before .before .before in
     let m = s .before .before .before in
     let a = m .before .before .before .args in
-    all-settled (a .netlist .now) (m .mark-inputs .ensures) (s .settle-lines .ensures) (c .mentions-marked .ensures)
+    all-levelled (a .netlist .now) (m .mark-inputs .ensures) (s .level-lines .ensures) (c .mentions-marked .ensures)
 
 pub without-loops-spec : {M : Type 1} → statement M
 without-loops-spec =

@@ -1,5 +1,5 @@
--- What passes over the gates settle, without any table: a line that is settled has a driver and does not lead to itself; and
--- without loops or open lines every line that is mentioned is settled.
+-- What passes over the gates level, without any table: a line that is levelled has a driver and does not lead to itself; and
+-- without loops or open lines every line that is mentioned is levelled.
 -- Assumes nothing.
 use mathlib.Core.Bool.{Bool, true, false, not}
 use mathlib.Core.List.{List, [], _∷_, List·Memᴰ, List·Memᴰ·head, List·Memᴰ·tail}
@@ -21,49 +21,49 @@ use Rattle.netlist_table.proofs.Laws.{gate-mentioned, gate-no-input, driven-onc
 use Rattle.chip_values.specs.Loops.{Feeds, Leads, Leads.last, Leads.next, Loopless, Driver, NoneOpen}
 use Rattle.chip_values.proofs.Trails.{by-feeding}
 use Rattle.chip_values.proofs.Values.{same-gate}
-use Rattle.chip_loops.specs.Marks.{marked, allMarked, markEach, noMarks, ready, settle, pass, passes, mostPasses, settledLines}
+use Rattle.chip_loops.specs.Marks.{marked, allMarked, markEach, noMarks, ready, level, pass, passes, mostPasses, levelledLines}
 use Rattle.chip_loops.proofs.Marks.{set-marked, set-keeps, set-cases, none-marked, all-listed, listed-all}
 use Rattle.chip_loops.proofs.Marks.{each-marked, each-size, each-cases}
-use Rattle.chip_loops.proofs.Steps.{settle-same, settle-size, passes-size, passes-rest}
+use Rattle.chip_loops.proofs.Steps.{level-same, level-size, passes-size, passes-rest}
 
--- ---- what is settled stays so
+-- ---- what is levelled stays so
 
 module _ (k : ℕ) where
-  settle-keeps : (marks : List ℕ) (g : Gate) → marked marks k ≡ true → marked (settle marks g) k ≡ true
-  unfolding settle pick
-  settle-keeps marks g t = by-test (ready marks g) (λ r. rw r (set-keeps marks (g .line) k t)) (λ r. rw r t)
+  level-keeps : (marks : List ℕ) (g : Gate) → marked marks k ≡ true → marked (level marks g) k ≡ true
+  unfolding level pick
+  level-keeps marks g t = by-test (ready marks g) (λ r. rw r (set-keeps marks (g .line) k t)) (λ r. rw r t)
 
   pass-keeps : (gs : List Gate) (marks : List ℕ) → marked marks k ≡ true → marked (pass gs marks) k ≡ true
   unfolding pass
   pass-keeps [] marks t = t
-  pass-keeps (g ∷ gs) marks t = pass-keeps gs (settle marks g) (settle-keeps marks g t)
+  pass-keeps (g ∷ gs) marks t = pass-keeps gs (level marks g) (level-keeps marks g t)
 
   passes-keep : (n : ℕ) (gs : List Gate) (marks : List ℕ) → marked marks k ≡ true → marked (passes n gs marks) k ≡ true
   unfolding passes
   passes-keep zero gs marks t = t
   passes-keep (suc n) gs marks t = passes-keep n gs (pass gs marks) (pass-keeps gs marks t)
 
--- ---- a pass settles the line of each gate whose pins are settled
+-- ---- a pass levels the line of each gate whose pins are levelled
 
-settle-settles : (marks : List ℕ) (g : Gate) → allMarked marks (g .pins) ≡ true → g .line < length marks
-    → marked (settle marks g) (g .line) ≡ true
-unfolding settle ready pick
-settle-settles marks g t h =
+level-levels : (marks : List ℕ) (g : Gate) → allMarked marks (g .pins) ≡ true → g .line < length marks
+    → marked (level marks g) (g .line) ≡ true
+unfolding level ready pick
+level-levels marks g t h =
     by-test (marked marks (g .line))
     (λ m. rw m m)
     (λ m. rw (m, t) (set-marked marks (g .line) h))
 
-pass-settles : (gs : List Gate) (marks : List ℕ) (g : Gate) → List·Memᴰ g gs → allMarked marks (g .pins) ≡ true
+pass-levels : (gs : List Gate) (marks : List ℕ) (g : Gate) → List·Memᴰ g gs → allMarked marks (g .pins) ≡ true
     → g .line < length marks → marked (pass gs marks) (g .line) ≡ true
 unfolding pass
-pass-settles (h ∷ gs) marks g (List·Memᴰ·head e) t room =
-    pass-keeps (g .line) gs (settle marks h) (rw (← e) (settle-settles marks g t room))
-pass-settles (h ∷ gs) marks g (List·Memᴰ·tail m) t room =
-    pass-settles gs (settle marks h) g m
-    (listed-all (settle marks h) (g .pins) (λ l i. settle-keeps l marks h (all-listed marks (g .pins) t l i)))
-    (rw (settle-size marks h) room)
+pass-levels (h ∷ gs) marks g (List·Memᴰ·head e) t room =
+    pass-keeps (g .line) gs (level marks h) (rw (← e) (level-levels marks g t room))
+pass-levels (h ∷ gs) marks g (List·Memᴰ·tail m) t room =
+    pass-levels gs (level marks h) g m
+    (listed-all (level marks h) (g .pins) (λ l i. level-keeps l marks h (all-listed marks (g .pins) t l i)))
+    (rw (level-size marks h) room)
 
--- ---- passes come to an end: each that settles a line leaves fewer without a mark
+-- ---- passes come to an end: each that levels a line leaves fewer without a mark
 
 unmarked : List ℕ → ℕ
 unmarked [] = 0
@@ -91,12 +91,12 @@ fewer-next a b c (inl e) f = rw (← e) f
 fewer-next a b c (inr h) (inl f) = inr (rw f h)
 fewer-next a b c (inr h) (inr i) = inr (omega arith)
 
-settle-fewer : (marks : List ℕ) (g : Gate) → Fewer marks (settle marks g)
-unfolding settle pick ready
-settle-fewer marks g =
-    by-test (ready marks g) (λ r. set-fewer r (decLt (g .line) (length marks))) (λ r. inl (settle-same marks g r))
+level-fewer : (marks : List ℕ) (g : Gate) → Fewer marks (level marks g)
+unfolding level pick ready
+level-fewer marks g =
+    by-test (ready marks g) (λ r. set-fewer r (decLt (g .line) (length marks))) (λ r. inl (level-same marks g r))
   where
-    set-fewer : ready marks g ≡ true → Dec (g .line < length marks) → Fewer marks (settle marks g)
+    set-fewer : ready marks g ≡ true → Dec (g .line < length marks) → Fewer marks (level marks g)
     set-fewer r (yes h) =
         let new : marked marks (g .line) ≡ false = by-test (marked marks (g .line)) (λ t. clash false (rw t at r) refl) (λ t. t) in
         inr (rw r (unmarked-set marks (g .line) new h))
@@ -106,7 +106,7 @@ pass-fewer : (gs : List Gate) (marks : List ℕ) → Fewer marks (pass gs marks)
 unfolding pass
 pass-fewer [] marks = inl refl
 pass-fewer (g ∷ gs) marks =
-    fewer-next marks (settle marks g) (pass gs (settle marks g)) (settle-fewer marks g) (pass-fewer gs (settle marks g))
+    fewer-next marks (level marks g) (pass gs (level marks g)) (level-fewer marks g) (pass-fewer gs (level marks g))
 
 module _ (gs : List Gate) where
   -- After n passes one more changes nothing, or n lines more have a mark.
@@ -133,22 +133,22 @@ module _ (gs : List Gate) where
       go (inl e) = e
       go (inr h) = absurd (omega (arith, unmarked-few marks))
 
--- ---- a settled line
+-- ---- a levelled line
 
--- An input is settled, and the line of a gate whose pins read settled lines.
-data Settled (ss : List Statement) : ℕ → Type 0 where
-  input : {l : ℕ} → isInput l ss ≡ true → Settled ss l
-  driven : {l : ℕ} (g : Gate) → List·Memᴰ g (gatesOf ss) → g .line ≡ l → ((k : ℕ) → List·Memᴰ k (g .pins) → Settled ss k)
-      → Settled ss l
+-- An input is levelled, and the line of a gate whose pins read levelled lines.
+data Levelled (ss : List Statement) : ℕ → Type 0 where
+  input : {l : ℕ} → isInput l ss ≡ true → Levelled ss l
+  driven : {l : ℕ} (g : Gate) → List·Memᴰ g (gatesOf ss) → g .line ≡ l → ((k : ℕ) → List·Memᴰ k (g .pins) → Levelled ss k)
+      → Levelled ss l
 
 module _ (ss : List Statement) where
   -- Every line with a mark is.
-  abbrev AllSettled : List ℕ → Type 0
-  AllSettled marks = (l : ℕ) → marked marks l ≡ true → Settled ss l
+  abbrev AllLevelled : List ℕ → Type 0
+  AllLevelled marks = (l : ℕ) → marked marks l ≡ true → Levelled ss l
 
-  settle-sound : (marks : List ℕ) (g : Gate) → List·Memᴰ g (gatesOf ss) → AllSettled marks → AllSettled (settle marks g)
-  unfolding settle pick ready
-  settle-sound marks g m all =
+  level-sound : (marks : List ℕ) (g : Gate) → List·Memᴰ g (gatesOf ss) → AllLevelled marks → AllLevelled (level marks g)
+  unfolding level pick ready
+  level-sound marks g m all =
       by-test (ready marks g)
       (λ r. rw r
       (λ l t. ⊎-elim
@@ -160,23 +160,23 @@ module _ (ss : List Statement) where
       pins-ready : ready marks g ≡ true → allMarked marks (g .pins) ≡ true
       pins-ready r = and-right (not (marked marks (g .line))) (allMarked marks (g .pins)) r
 
-  pass-sound : (gs : List Gate) (marks : List ℕ) → ((g : Gate) → List·Memᴰ g gs → List·Memᴰ g (gatesOf ss)) → AllSettled marks
-      → AllSettled (pass gs marks)
+  pass-sound : (gs : List Gate) (marks : List ℕ) → ((g : Gate) → List·Memᴰ g gs → List·Memᴰ g (gatesOf ss)) → AllLevelled marks
+      → AllLevelled (pass gs marks)
   unfolding pass
   pass-sound [] marks among all = all
   pass-sound (g ∷ gs) marks among all =
-      pass-sound gs (settle marks g) (λ h m. among h (List·Memᴰ·tail m))
-      (settle-sound marks g (among g (List·Memᴰ·head refl)) all)
+      pass-sound gs (level marks g) (λ h m. among h (List·Memᴰ·tail m))
+      (level-sound marks g (among g (List·Memᴰ·head refl)) all)
 
-  passes-sound : (n : ℕ) (marks : List ℕ) → AllSettled marks → AllSettled (passes n (gatesOf ss) marks)
+  passes-sound : (n : ℕ) (marks : List ℕ) → AllLevelled marks → AllLevelled (passes n (gatesOf ss) marks)
   unfolding passes
   passes-sound zero marks all = all
   passes-sound (suc n) marks all =
       passes-sound n (pass (gatesOf ss) marks) (pass-sound (gatesOf ss) marks (λ g m. m) all)
 
-  settled-driver : (l : ℕ) → Settled ss l → Driver ss l
-  settled-driver l (input e) = Driver.input e
-  settled-driver l (driven g m e pins) = Driver.gate g m e
+  levelled-driver : (l : ℕ) → Levelled ss l → Driver ss l
+  levelled-driver l (input e) = Driver.input e
+  levelled-driver l (driven g m e pins) = Driver.gate g m e
 
   -- A line that leads to itself is fed by one that does.
   last-feeds : {k l : ℕ} → Leads ss k l → (m : ℕ) × Feeds ss m l × ((k ≡ m) ⊎ Leads ss k m)
@@ -196,7 +196,7 @@ module _ (ss : List Statement) where
       go (m, f, inr q) = (m, f, next f q)
 
   module _ (cells : List Cell) (sound : Sound cells ss) where
-    no-loop : (l : ℕ) → Settled ss l → Leads ss l l → ⊥
+    no-loop : (l : ℕ) → Levelled ss l → Leads ss l l → ⊥
     no-loop l (input e) r =
         let f = fed-by-loop l r .1 in
         let other = gate-no-input cells ss sound (f .gate) (f .listed) in
@@ -217,36 +217,36 @@ pub record Lists (test : ℕ → Bool) (ls : List ℕ) : Type 0 where
 module _ (cells : List Cell) (ss : List Statement) (sound : Sound cells ss) (inputs mentions : List ℕ)
     (areInputs : Lists (λ l. isInput l ss) inputs) (areMentions : Lists (λ l. mentioned l ss) mentions) where
   abbrev atEnd : List ℕ
-  atEnd = settledLines inputs (gatesOf ss)
+  atEnd = levelledLines inputs (gatesOf ss)
 
   first-size : length (markEach noMarks inputs) ≡ Size.linePlaces
   first-size = each-size noMarks inputs ∙ length-replicate {A = ℕ} Size.linePlaces 0
 
   end-size : length atEnd ≡ Size.linePlaces
-  unfolding settledLines
+  unfolding levelledLines
   end-size = passes-size mostPasses (gatesOf ss) (markEach noMarks inputs) ∙ first-size
 
-  all-settled : AllSettled ss atEnd
-  unfolding settledLines
-  all-settled =
+  all-levelled : AllLevelled ss atEnd
+  unfolding levelledLines
+  all-levelled =
       passes-sound ss mostPasses (markEach noMarks inputs)
-      (each-cases (Settled ss) noMarks inputs
+      (each-cases (Levelled ss) noMarks inputs
       (λ k t. clash (marked noMarks k) t (none-marked Size.linePlaces k))
       (λ k m. input (areInputs .only k m)))
 
-  -- Every line that is mentioned is settled: there are neither loops nor open lines.
-  pub settled-free : allMarked atEnd mentions ≡ true → Loopless ss × NoneOpen ss
+  -- Every line that is mentioned is levelled: there are neither loops nor open lines.
+  pub levelled-free : allMarked atEnd mentions ≡ true → Loopless ss × NoneOpen ss
   unfolding Loopless NoneOpen
-  settled-free t = (
+  levelled-free t = (
     (λ l r.
         let f = fed-by-loop ss l r .1 in
         let m = gate-mentioned (f .gate) l ss (f .listed) (List·Memᴰ·head (sym (f .drives))) in
-        no-loop ss cells sound l (settled l m) r),
-    (λ l m. settled-driver ss l (settled l m)),
+        no-loop ss cells sound l (levelled l m) r),
+    (λ l m. levelled-driver ss l (levelled l m)),
   )
     where
-      settled : (l : ℕ) → mentioned l ss ≡ true → Settled ss l
-      settled l m = all-settled l (all-listed atEnd mentions t l (areMentions .each l m))
+      levelled : (l : ℕ) → mentioned l ss ≡ true → Levelled ss l
+      levelled l m = all-levelled l (all-listed atEnd mentions t l (areMentions .each l m))
 
   -- And the other way.
   module _ (free : Loopless ss) (none : NoneOpen ss) where
@@ -254,9 +254,9 @@ module _ (cells : List Cell) (ss : List Statement) (sound : Sound cells ss) (inp
     abbrev Marks : ℕ → Type 0
     Marks l = mentioned l ss ≡ true → marked atEnd l ≡ true
 
-    settled-step : (l : ℕ) → ((k : ℕ) → Feeds ss k l → Marks k) → Marks l
-    unfolding NoneOpen settledLines InRange
-    settled-step l fed m = go (none l m)
+    levelled-step : (l : ℕ) → ((k : ℕ) → Feeds ss k l → Marks k) → Marks l
+    unfolding NoneOpen levelledLines InRange
+    levelled-step l fed m = go (none l m)
       where
         go : Driver ss l → marked atEnd l ≡ true
         go (Driver.input e) =
@@ -269,8 +269,8 @@ module _ (cells : List Cell) (ss : List Statement) (sound : Sound cells ss) (inp
             let room : g .line < length atEnd = rw (end-size, e) (omega (arith, mentioned-in-range cells ss sound l m .1)) in
             let rests = ends (gatesOf ss) (markEach noMarks inputs) first-size in
             subst (λ (x : ℕ). marked atEnd x ≡ true) e
-            (subst (λ (ms : List ℕ). marked ms (g .line) ≡ true) rests (pass-settles (gatesOf ss) atEnd g i pins room))
+            (subst (λ (ms : List ℕ). marked ms (g .line) ≡ true) rests (pass-levels (gatesOf ss) atEnd g i pins room))
 
-    pub free-settled : allMarked atEnd mentions ≡ true
-    free-settled =
-        listed-all atEnd mentions (λ l i. by-feeding ss free Marks settled-step l (areMentions .only l i))
+    pub free-levelled : allMarked atEnd mentions ≡ true
+    free-levelled =
+        listed-all atEnd mentions (λ l i. by-feeding ss free Marks levelled-step l (areMentions .only l i))

@@ -1,10 +1,10 @@
--- `settle_gate` marks the line of a gate that is ready. Assumes nothing.
+-- `level_gate` marks the line of a gate that is ready. Assumes nothing.
 use mathlib.Core.Path.{refl, ap, _∙_}
 use native.Mathlib.Omega.{arith}
 use lib.ListN.{length, length-set}
-use Rattle.chip_loops.proofs.Steps.{settled-before, not-ready, settles}
-use Rattle.chip_loops.proofs.settle_gate.Statement.{statement}
-use Rattle.chip_loops.proofs.settle_gate.Tie as tie
+use Rattle.chip_loops.proofs.Steps.{levelled-before, not-ready, levels}
+use Rattle.chip_loops.proofs.level_gate.Statement.{statement}
+use Rattle.chip_loops.proofs.level_gate.Tie as tie
 
 -- ---- the places of the code that the answers speak of
 
@@ -25,7 +25,7 @@ returns c =
     let m = c .before in
     let a = starts m .args in
     let line = reads m .line-of .ensures in
-    settled-before (a .marks .now) (a .netlist .now) (a .gate) line (m .is-marked .ensures) (c .if1 .taken)
+    levelled-before (a .marks .now) (a .netlist .now) (a .gate) line (m .is-marked .ensures) (c .if1 .taken)
 
 pins-marked-requires : tie.Need-pins-marked-requires
 pins-marked-requires c κs = starts (c .before .before) .pre
@@ -49,11 +49,11 @@ returns-3 c =
     let m = asks p .before in
     let a = starts m .args in
     let line = reads m .line-of .ensures in
-    settles (a .marks .now) (a .netlist .now) (a .gate) line (m .is-marked .ensures) (p .pins-marked .ensures) (asks p .if1 .left)
+    levels (a .marks .now) (a .netlist .now) (a .gate) line (m .is-marked .ensures) (p .pins-marked .ensures) (asks p .if1 .left)
     (e .if2 .left) (c .before .before .put .ensures)
 
-pub settle-gate-spec : {M : Type 1} → statement M
-settle-gate-spec =
+pub level-gate-spec : {M : Type 1} → statement M
+level-gate-spec =
     tie.close
     (tie.spec
     line-of-requires

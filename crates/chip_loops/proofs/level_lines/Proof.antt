@@ -1,4 +1,4 @@
--- `settle_lines` has so many passes left, or the last one settled nothing. Assumes nothing.
+-- `level_lines` has so many passes left, or the last one levelled nothing. Assumes nothing.
 use mathlib.Core.Path.{_≡_, refl, ap, _∙_}
 use Prim.Native.Nat.{_≤_}
 use native.Mathlib.Omega.{arith}
@@ -6,8 +6,8 @@ use lib.ListN.{length}
 use Rattle.netlist_table.specs.Gates.{gatesHeld}
 use Rattle.chip_loops.specs.Marks.{passes, mostPasses}
 use Rattle.chip_loops.proofs.Steps.{passed-size, passes-end, passes-next}
-use Rattle.chip_loops.proofs.settle_lines.Statement.{statement}
-use Rattle.chip_loops.proofs.settle_lines.Tie as tie
+use Rattle.chip_loops.proofs.level_lines.Statement.{statement}
+use Rattle.chip_loops.proofs.level_lines.Tie as tie
 
 abbrev Inv-loop : tie.InvT-loop
 Inv-loop netlist marks₀ left₀ marks left =
@@ -45,8 +45,8 @@ returns-2 c =
     let none : 0 ≡ l .left = omega arith in
     ap (λ n. passes n gs (l .marks)) none ∙ l .inv .2
 
-pub settle-lines-spec : {M : Type 1} → statement M
-settle-lines-spec =
+pub level-lines-spec : {M : Type 1} → statement M
+level-lines-spec =
     tie.close
     (tie.spec
     Inv-loop
