@@ -4,9 +4,9 @@ use borrow.Author.Needs.{needs}
 use Rattle.writer.proofs.Steps.{put-then}
 use Rattle.truth_tables.specs.Entries.{settingGroups}
 use Rattle.truth_rows.specs.Masks.{isBit, isOne}
-use Rattle.truth_entry.proofs.EntryLines.{line-two}
-use Rattle.truth_entry.proofs.entry.put_values.Statement.{statement}
-use Rattle.truth_entry.proofs.entry.put_values.Tie as tie
+use Rattle.truth_text.proofs.EntryLines.{line-two}
+use Rattle.truth_text.proofs.put_values.Statement.{statement}
+use Rattle.truth_text.proofs.put_values.Tie as tie
 
 put-value-requires : tie.Need-put-value-requires
 unfolding isBit

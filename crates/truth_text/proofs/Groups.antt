@@ -11,7 +11,7 @@ use Rattle.library_table.specs.Cells.{Row, Group}
 use Rattle.truth_tables.specs.Entries.{rowNumber, rowBytes, groupBytes}
 use Rattle.truth_rows.specs.Asked.{AsksFor}
 use Rattle.truth_rows.specs.declared.Asked.{Asked}
-use Rattle.truth_entry.specs.Printed.{oneBytes, moreBytes, rowsBytes}
+use Rattle.truth_text.specs.Printed.{oneBytes, moreBytes, rowsBytes}
 
 more-group : (r : Row) (g : Group) → groupBytes (r ∷ g) ≡ octalBytes (rowNumber r) ++ moreBytes true (map rowNumber g)
 unfolding groupBytes rowBytes moreBytes oneBytes pick

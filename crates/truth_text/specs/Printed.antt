@@ -11,7 +11,7 @@ use Rattle.writer.specs.Put.{Put}
 use Rattle.truth_rows.specs.Asked.{askedNumber}
 use Rattle.truth_rows.specs.Masks.{primeRow, primeRows}
 use Rattle.truth_rows.specs.declared.Asked.{Asked}
-use Rattle.truth_entry.specs.declared.rows.Cursor.{Cursor}
+use Rattle.truth_text.specs.declared.rows.Cursor.{Cursor}
 
 -- A row by its number, behind others of its group or as the first.
 unfoldable pub oneBytes : Bool → ℕ → List ℕ

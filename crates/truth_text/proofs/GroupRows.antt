@@ -14,8 +14,8 @@ use Rattle.truth_tables.specs.Tables.{keep}
 use Rattle.truth_rows.specs.Asked.{askedNumber}
 use Rattle.truth_rows.specs.Masks.{primeRow, downFrom, primeRows}
 use Rattle.truth_rows.specs.declared.Asked.{Asked}
-use Rattle.truth_entry.specs.Printed.{oneBytes, moreBytes, rowsBytes, Passed}
-use Rattle.truth_entry.specs.declared.rows.Cursor.{Cursor}
+use Rattle.truth_text.specs.Printed.{oneBytes, moreBytes, rowsBytes, Passed}
+use Rattle.truth_text.specs.declared.rows.Cursor.{Cursor}
 
 -- The rows below a number that are still to be printed.
 unfoldable pub leftBytes : Asked → Bool → ℕ → List ℕ

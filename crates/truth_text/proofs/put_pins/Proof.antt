@@ -8,9 +8,9 @@ use borrow.Author.Needs.{needs}
 use Rattle.writer.proofs.Steps.{put-then}
 use Rattle.truth_tables.specs.Entries.{lineBytes}
 use Rattle.truth_rows.specs.Masks.{isOne}
-use Rattle.truth_entry.proofs.EntryLines.{Listed, listed-none, listed-more, listed-all}
-use Rattle.truth_entry.proofs.entry.put_pins.Statement.{statement}
-use Rattle.truth_entry.proofs.entry.put_pins.Tie as tie
+use Rattle.truth_text.proofs.EntryLines.{Listed, listed-none, listed-more, listed-all}
+use Rattle.truth_text.proofs.put_pins.Statement.{statement}
+use Rattle.truth_text.proofs.put_pins.Tie as tie
 
 abbrev Inv-loop : tie.InvT-loop
 Inv-loop entry₀ at word depth pins bits next₀ k₀ entry next k =

@@ -6,9 +6,9 @@ use borrow.Author.Tests.{not-true, not-false}
 use Rattle.reading.specs.Choice.{pick}
 use Rattle.writer.proofs.Steps.{put-none}
 use Rattle.truth_rows.specs.Asked.{askedNumber}
-use Rattle.truth_entry.specs.Printed.{Passed}
-use Rattle.truth_entry.proofs.rows.pass_row.Statement.{statement}
-use Rattle.truth_entry.proofs.rows.pass_row.Tie as tie
+use Rattle.truth_text.specs.Printed.{Passed}
+use Rattle.truth_text.proofs.rows.pass_row.Statement.{statement}
+use Rattle.truth_text.proofs.rows.pass_row.Tie as tie
 
 returns : tie.Need-returns
 unfolding pick

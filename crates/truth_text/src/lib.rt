@@ -1,4 +1,8 @@
-// The entry of a truth table, line by line.
+// The text of a truth table's entry, line by line; module `rows`: the rows of a group, found and printed.
+//
+// For the crates above: `put_cell`, of a truth table of few pins. Crate `truth_tables` says what the text is.
+mod rows;
+
 use crate::rows::put_rows;
 use truth_rows::Asked;
 use truth_rows::of_pin;
@@ -14,7 +18,7 @@ ghost use Rattle.truth_tables.specs.Entries.{settingGroup, settingGroups, obser
 ghost use Rattle.truth_tables.specs.Entries.{groupBytes, lineBytes, nameBytes, entryBytes};
 ghost use Rattle.truth_rows.specs.Masks.{isBit, isOne, Bits};
 ghost use Rattle.truth_rows.specs.Asked.{Small};
-ghost use Rattle.truth_entry.specs.Printed.{rowsBytes};
+ghost use Rattle.truth_text.specs.Printed.{rowsBytes};
 ghost use mathlib.Core.Bool.{true};
 
 const COMMA: u8 = 44;

@@ -3,9 +3,9 @@ use borrow.Author.Needs.{needs}
 use Rattle.reading.specs.Choice.{pick}
 use Rattle.text.specs.Bytes.{bytes}
 use Rattle.writer.proofs.Steps.{put-then}
-use Rattle.truth_entry.specs.Printed.{oneBytes}
-use Rattle.truth_entry.proofs.rows.put_row.Statement.{statement}
-use Rattle.truth_entry.proofs.rows.put_row.Tie as tie
+use Rattle.truth_text.specs.Printed.{oneBytes}
+use Rattle.truth_text.proofs.rows.put_row.Statement.{statement}
+use Rattle.truth_text.proofs.rows.put_row.Tie as tie
 
 returns : tie.Need-returns
 unfolding oneBytes pick bytes

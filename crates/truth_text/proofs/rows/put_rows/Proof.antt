@@ -4,9 +4,9 @@ use native.Mathlib.Omega.{arith}
 use lib.ListN.{length}
 use borrow.Author.Needs.{needs}
 use Rattle.text.specs.Bytes.{bytes}
-use Rattle.truth_entry.proofs.GroupRows.{Progress, progress-none, progress-more, progress-all, progress-empty}
-use Rattle.truth_entry.proofs.rows.put_rows.Statement.{statement}
-use Rattle.truth_entry.proofs.rows.put_rows.Tie as tie
+use Rattle.truth_text.proofs.GroupRows.{Progress, progress-none, progress-more, progress-all, progress-empty}
+use Rattle.truth_text.proofs.rows.put_rows.Statement.{statement}
+use Rattle.truth_text.proofs.rows.put_rows.Tie as tie
 
 abbrev Inv-loop : tie.InvT-loop
 Inv-loop entry₀ at asked cursor₀ row₀ entry cursor row = (length entry ≡ length entry₀) × Progress asked at entry₀ row cursor entry

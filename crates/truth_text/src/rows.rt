@@ -8,7 +8,7 @@ use writer::put_bytes;
 use writer::put_octal;
 ghost use Rattle.writer.specs.Put.{Put};
 ghost use Rattle.truth_rows.specs.Asked.{Small};
-ghost use Rattle.truth_entry.specs.Printed.{oneBytes, rowsBytes, Passed};
+ghost use Rattle.truth_text.specs.Printed.{oneBytes, rowsBytes, Passed};
 
 // Where the next row goes, and whether there is one before it.
 struct Cursor {

@@ -1,8 +1,8 @@
 -- `put_group` meets its contract. Assumes nothing.
 use borrow.Author.Needs.{needs}
 use Rattle.writer.proofs.Steps.{put-then}
-use Rattle.truth_entry.proofs.entry.put_group.Statement.{statement}
-use Rattle.truth_entry.proofs.entry.put_group.Tie as tie
+use Rattle.truth_text.proofs.put_group.Statement.{statement}
+use Rattle.truth_text.proofs.put_group.Tie as tie
 
 returns : tie.Need-returns
 returns c =

@@ -3,8 +3,8 @@ use borrow.Author.Needs.{needs}
 use Rattle.text.specs.Bytes.{bytes}
 use Rattle.writer.proofs.Steps.{put-then}
 use Rattle.truth_tables.specs.Entries.{nameBytes}
-use Rattle.truth_entry.proofs.entry.put_name.Statement.{statement}
-use Rattle.truth_entry.proofs.entry.put_name.Tie as tie
+use Rattle.truth_text.proofs.put_name.Statement.{statement}
+use Rattle.truth_text.proofs.put_name.Tie as tie
 
 returns : tie.Need-returns
 unfolding nameBytes bytes
