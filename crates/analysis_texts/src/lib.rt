@@ -4,7 +4,7 @@
 //
 // For the crates above: `Progress`, `Tables`; `read_texts`, over two texts; `begin`, the entry and the library text alone,
 // behind which a caller reads its netlist itself; `clear_all`, which a later refusal asks for.
-use library_text::lines::read_lines;
+use library_lines::read_lines;
 use netlist_table::Rules;
 use netlist_text::read_all;
 use reading::Refusal;

@@ -9,9 +9,10 @@ use native.Mathlib.Omega.{arith}
 use lib.Dec.{leb}
 use borrow.Author.Tests.{le-leb, lt-leb, lt-ltb, le-ltb, eq-eqb, ne-eqb}
 use Rattle.reading.specs.Choice.{pick}
-use Rattle.cost.specs.Order.{order}
+use Rattle.cost.specs.Order.{order, compared}
+use Rattle.cost.specs.declared.Order.{Order}
 use Rattle.cost.specs.declared.Order.the-variants as Order
-use Rattle.cost.specs.Cost.{most, over, never, counted, isNever, isOver, _⊕_, capped}
+use Rattle.cost.specs.Cost.{most, over, never, counted, isNever, isOver, _⊕_, lesser, capped}
 
 -- ---- document 01's three cases of the sum
 
@@ -101,3 +102,9 @@ pub order-higher : (a b : ℕ) → counted b < counted a → Order.Higher ≡ or
 unfolding order pick
 order-higher a b h =
     rw (le-ltb (counted a) (counted b) (omega arith), ne-eqb (counted a) (counted b) (omega arith))
+
+-- A comparison, from the order and the lesser that were found.
+pub compared-as : (a b : ℕ) {low : ℕ} {found told : Order} → low ≡ lesser a b → found ≡ order a b → found ≡ told
+    → compared a b ≡ record { order = told; cost = low }
+unfolding compared
+compared-as a b l f t = rw (l, sym t ∙ f)

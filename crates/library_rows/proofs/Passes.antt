@@ -27,9 +27,10 @@ use Rattle.library_table.proofs.Any.{any-append}
 use Rattle.library_table.specs.declared.Word.{Word}
 use Rattle.library_table.specs.declared.Word.the-variants.{CC, CO, SC, SO}
 use Rattle.library_table.specs.Library.{Fields, holds, rowDigits, isRow, isJoin, isZ, Before, word, row, join, mayJoin, mayEnd, rowsForm, joinFirst, withRow, groupsOf, anyOf, aboveRows, above, namesNone, observesNot, wordBytes, groupCount, columnCount, idle, emptyGroup, excepted, rowIdle, rowsAfter}
-use Rattle.library_rows.specs.Passes.{orZero, fieldValue, fieldRow, numberHeading, headed, leastColumns, askedOf, noColumns, nonePassed, marked, opened, groupFor, rowAdded, rowlessAdded, fieldPassed, passed, fieldStored, stored, numberOf, Small, RowsRead, setting, rowNumber}
-use Rattle.library_rows.specs.declared.Asked.{Asked}
-use Rattle.library_rows.specs.declared.Passed.{Passed}
+use Rattle.library_groups.specs.Groups.{numberHeading, marked, opened, groupFor, rowAdded, rowlessAdded, numberOf, Small}
+use Rattle.library_rows.specs.Passes.{orZero, fieldValue, fieldRow, headed, leastColumns, askedOf, noColumns, nonePassed, fieldPassed, passed, fieldStored, stored, RowsRead, setting, rowNumber}
+use Rattle.library_groups.specs.declared.Asked.{Asked}
+use Rattle.library_groups.specs.declared.Passed.{Passed}
 use Rattle.library_table.proofs.Places.{first-most}
 
 -- ---- a field
@@ -663,12 +664,7 @@ field-small a p f m k s h = go (isJoin f) (isZ f) (isRow (headed a) f) (eqb (p .
     go false false true false = record { groups = omega arith; rows = omega arith; place = omega arith }
     go false false false t = record { groups = omega arith; rows = omega arith; place = omega arith }
 
--- ---- words, and the other heading
-
-pub other-deep : (k : ℕ) → (k ≡ 0 → ⊥) → numberHeading k ≡ deep
-unfolding numberHeading
-other-deep zero h = absurd (h refl)
-other-deep (suc k) h = refl
+-- ---- words
 
 pub groupCount-by : (w : Word) (n : ℕ) → groupCount w n ≡ pick (setting w) 2 n
 unfolding groupCount setting pick

@@ -21,10 +21,11 @@ use Rattle.library_table.specs.declared.Word.{Word}
 use Rattle.library_table.specs.declared.Word.the-variants.{CC, CO, SC, SO}
 use Rattle.library_table.specs.Library.{Fields, isRow, isJoin, isZ, Before, word, row, join, mayJoin, rowsForm, groupsOf, emptyGroup, anyOf, aboveRows, wordGroups, withGroups}
 use Rattle.library_table.specs.Layout.{rowWords, groupWords, cellGroups, headingNumber, cellWords, firstGroup}
-use Rattle.library_rows.specs.Passes.{fieldRow, headed, askedOf, rowPut, rowlessPut, nonePassed, opened, groupFor, rowlessAdded, fieldPassed, fieldStored, stored}
+use Rattle.library_groups.specs.Groups.{rowPut, rowlessPut, opened, groupFor, rowlessAdded}
+use Rattle.library_rows.specs.Passes.{fieldRow, headed, askedOf, nonePassed, fieldPassed, fieldStored, stored}
 use Rattle.library_rows.specs.Passes.{countedWords}
-use Rattle.library_rows.specs.declared.Asked.{Asked}
-use Rattle.library_rows.specs.declared.Passed.{Passed}
+use Rattle.library_groups.specs.declared.Asked.{Asked}
+use Rattle.library_groups.specs.declared.Passed.{Passed}
 use Rattle.library_table.proofs.Places.{length-rowWords, length-groupWords, length-cellWords, space, filledGroups, frontGroups, backGroups, groups-open, length-front}
 use Rattle.library_rows.proofs.Passes.{joined, gather, by-field, may-joined, rowless-first, gather-first, form-join, form-rowless, form-row, word-first, row-some, closed, joined-number, shown, join-passed, rowless-passed, more-passed, new-passed, none-passed, first-passed}
 

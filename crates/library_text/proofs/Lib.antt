@@ -1,5 +1,1 @@
-pub mod Entries
-pub mod Headers
 pub mod Laws
-pub mod Stores
-pub mod Walks

@@ -1,7 +1,6 @@
 // The library text read into the library table.
 //
-// Open to others, for every input: `read_library`. For the crates above: `lines::read_lines`, behind an entry that the caller
-// has checked, into a table that holds no cell.
+// Open to others, for every input: `read_library`.
 ghost use mathlib.Core.Path.{_≡_};
 ghost use Prim.Native.Nat.{_≤_};
 ghost use lib.ListN.{length};
@@ -10,11 +9,7 @@ ghost use Rattle.reading.specs.Verdict.{verdictRead, doneRead};
 ghost use Rattle.library_text.specs.Entry.{readLibrary, libraryLeft};
 ghost use Rattle.library_table.specs.Library.{library};
 ghost use Rattle.library_table.specs.Layout.{libraryAfter};
-
-pub mod lines;
-mod store;
-
-use crate::lines::read_lines;
+use library_lines::read_lines;
 use reading::Refusal;
 use reading::Verdict;
 use table::clear;

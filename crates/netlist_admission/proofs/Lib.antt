@@ -1,1 +1,1 @@
-mod Outcomes
+mod StandsFor

@@ -4,7 +4,7 @@
 // leaves, specs/Promise.antt what that means of a standing analysis.
 use calculation::Counts;
 use library_growth::grown_at;
-use library_text::lines::read_lines;
+use library_lines::read_lines;
 use netlist_table::Rules;
 use netlist_text::read_all;
 use reading::Refusal;

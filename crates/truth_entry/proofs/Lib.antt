@@ -1,6 +1,3 @@
-pub mod GroupRows
-pub mod Groups
-pub mod EntryLines
-pub mod Tables
-pub mod Fields
+mod Tables
+mod Fields
 pub mod Bounded

@@ -2,10 +2,6 @@
 //
 // Open to others: `put_entry` and `put_printed`. They have no condition on their input; specs/Generated.antt says what a text
 // comes to, `writer` what is answered, left and printed of it. What that is, in rows, is said by crate `truth_tables`.
-mod entry;
-mod rows;
-
-use crate::entry::put_cell;
 use reading::Refusal;
 use text::after;
 use text::field;
@@ -15,6 +11,7 @@ use text_fields::Numeral;
 use text_fields::decimal;
 use text_fields::is_name;
 use truth_rows::masks::power;
+use truth_text::put_cell;
 use writer::Written;
 ghost use mathlib.Core.Bool.{_&&_, true};
 ghost use mathlib.Core.Path.{_≡_};

@@ -5,7 +5,8 @@ use Prim.Native.Nat.{_≤_}
 use Rattle.sizes.specs.Sizes as Size
 use Rattle.reading.specs.Choice.{pick}
 use Rattle.library_table.specs.Library.{isJoin, isZ}
-use Rattle.library_rows.specs.Passes.{farthest, rowPut, fieldPassed, fieldStored}
+use Rattle.library_groups.specs.Groups.{farthest, rowPut}
+use Rattle.library_rows.specs.Passes.{fieldPassed, fieldStored}
 use Rattle.library_rows.proofs.Passes.{value-row, bad-row, group-small}
 use native.Mathlib.Omega.{arith}
 use borrow.Author.Needs.{needs}

@@ -5,7 +5,8 @@ use mathlib.Core.Path.{_≡_, refl, sym, _∙_}
 use Prim.Native.Nat.{_+_, _-_}
 use lib.ListN.{length}
 use Rattle.text.specs.Lines.{fieldsFrom}
-use Rattle.library_rows.specs.Passes.{nonePassed, passed, stored, Small}
+use Rattle.library_groups.specs.Groups.{Small}
+use Rattle.library_rows.specs.Passes.{nonePassed, passed, stored}
 use Rattle.text.proofs.Cursors.{cursor-on}
 use Rattle.library_rows.proofs.Passes.{passed-turn, passed-ended, stored-turn, stored-ended, small-on, field-small}
 use native.Mathlib.Omega.{arith}

@@ -4,7 +4,7 @@ use mathlib.Core.Path.{_≡_, refl}
 use borrow.Author.Tests.{not-true, not-false}
 use Rattle.netlist_table.specs.declared.RawStatement.{RawStatement}
 use Rattle.netlist_table.specs.Netlist.{Mark, input, output, opened, kindOf}
-use Rattle.netlist_admission.proofs.Outcomes.{form-bad, formless, kind-mark, kind-gate, kind-range, range-told, kind-unknown}
+use Rattle.netlist_admission.proofs.StandsFor.{form-bad, formless, kind-mark, kind-gate, kind-range, range-told, kind-unknown}
 use borrow.Author.Needs.{needs}
 use Rattle.netlist_admission.proofs.admit.Statement.{statement}
 use Rattle.netlist_admission.proofs.admit.Tie as tie

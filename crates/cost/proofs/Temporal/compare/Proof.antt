@@ -1,20 +1,28 @@
 -- `Temporal::compare` says how the cost stands to the other, with the lesser of the two. Assumes nothing.
 use borrow.Author.Needs.{needs}
-use Rattle.cost.specs.Order.{temporalOrder, compared}
+use mathlib.Core.Path.{sym}
+use Rattle.cost.specs.Order.{temporalOrder}
+use Rattle.cost.proofs.Laws.{compared-as}
 use Rattle.cost.proofs.Temporal.compare.Statement.{statement}
 use Rattle.cost.proofs.Temporal.compare.Tie as tie
 
 returns : tie.Need-returns
-unfolding temporalOrder compared
-returns c = cc
+unfolding temporalOrder
+returns c =
+    let o = c .before .before in
+    sym (compared-as _ _ (o .before .least .ensures) (o .order-of .ensures) (c .enum-told .given .1))
 
 returns-2 : tie.Need-returns-2
-unfolding temporalOrder compared
-returns-2 c = cc
+unfolding temporalOrder
+returns-2 c =
+    let o = c .before .before in
+    sym (compared-as _ _ (o .before .least .ensures) (o .order-of .ensures) (c .enum-told2 .given .1))
 
 returns-3 : tie.Need-returns-3
-unfolding temporalOrder compared
-returns-3 c = cc
+unfolding temporalOrder
+returns-3 c =
+    let o = c .before .before in
+    sym (compared-as _ _ (o .before .least .ensures) (o .order-of .ensures) (c .enum-told3 .given .1))
 
 pub compare-spec : {M : Type 1} → statement M
 compare-spec =

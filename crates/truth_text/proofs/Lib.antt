@@ -1,0 +1,3 @@
+mod GroupRows
+mod Groups
+mod EntryLines
