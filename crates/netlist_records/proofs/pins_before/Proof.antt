@@ -4,10 +4,10 @@ use Prim.Native.Nat.{_+_, _-_, _≤_}
 use native.Mathlib.Omega.{arith}
 use Rattle.sizes.specs.Sizes as Size
 use lib.ListN.{length, drop}
-use Rattle.analysis_records.specs.Records.{pinsBefore}
-use Rattle.analysis_records.proofs.Laws.{before-end, before-more, before-none}
-use Rattle.analysis_records.proofs.pins_before.Statement.{statement}
-use Rattle.analysis_records.proofs.pins_before.Tie as tie
+use Rattle.netlist_records.specs.Records.{pinsBefore}
+use Rattle.netlist_records.proofs.Laws.{before-end, before-more, before-none}
+use Rattle.netlist_records.proofs.pins_before.Statement.{statement}
+use Rattle.netlist_records.proofs.pins_before.Tie as tie
 
 abbrev Inv-loop : tie.InvT-loop
 Inv-loop pins i₀ i = (i ≤ Size.pins) × (length pins ≡ Size.pins) × (length (pinsBefore pins) ≡ i + length (pinsBefore (drop i pins)))

@@ -2,10 +2,10 @@
 use mathlib.Core.Bool.{Bool, _&&_}
 use mathlib.Core.Path.{refl, ap}
 use lib.Dec.{eqb, ltb}
-use Rattle.analysis_records.proofs.Laws.{gate-says, mark-says}
+use Rattle.netlist_records.proofs.Laws.{gate-says, mark-says}
 use borrow.Author.Needs.{needs}
-use Rattle.analysis_records.proofs.take_apart.Statement.{statement}
-use Rattle.analysis_records.proofs.take_apart.Tie as tie
+use Rattle.netlist_records.proofs.take_apart.Statement.{statement}
+use Rattle.netlist_records.proofs.take_apart.Tie as tie
 
 returns : tie.Need-returns
 returns c =

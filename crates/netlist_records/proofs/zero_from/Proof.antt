@@ -4,10 +4,10 @@ use Prim.Native.Nat.{_-_}
 use native.Mathlib.Omega.{arith}
 use Rattle.sizes.specs.Sizes as Size
 use lib.ListN.{length, drop}
-use Rattle.analysis_records.specs.Records.{allZero}
-use Rattle.analysis_records.proofs.Laws.{zero-not, zero-more, zero-none}
-use Rattle.analysis_records.proofs.zero_from.Statement.{statement}
-use Rattle.analysis_records.proofs.zero_from.Tie as tie
+use Rattle.netlist_records.specs.Records.{allZero}
+use Rattle.netlist_records.proofs.Laws.{zero-not, zero-more, zero-none}
+use Rattle.netlist_records.proofs.zero_from.Statement.{statement}
+use Rattle.netlist_records.proofs.zero_from.Tie as tie
 
 abbrev Inv-loop : tie.InvT-loop
 Inv-loop from pins i₀ i = (length pins ≡ Size.pins) × (allZero (drop from pins) ≡ allZero (drop i pins))

@@ -11,7 +11,7 @@ use Rattle.reading.specs.Refusal.{Read, _>>=_}
 use Rattle.library_table.specs.Cells.{Cell}
 use Rattle.netlist_table.specs.declared.Rules.the-variants.{New}
 use Rattle.netlist_table.specs.Netlist.{Mark, input, output, opened, Statement, mark, gate, admitted, declared}
-use Rattle.analysis_records.specs.declared.Record.{Record}
+use Rattle.netlist_records.specs.declared.Record.{Record}
 
 unfoldable pub allZero : List ℕ → Bool
 allZero [] = true

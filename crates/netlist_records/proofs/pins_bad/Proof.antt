@@ -6,10 +6,10 @@ use borrow.Author.Needs.{needs}
 use Rattle.sizes.specs.Sizes as Size
 use lib.ListN.{length, drop}
 use Rattle.netlist_table.specs.Netlist.{anyLineBad}
-use Rattle.analysis_records.specs.Records.{pinsBefore}
-use Rattle.analysis_records.proofs.Laws.{before-end, before-none, bad-more, bad-here}
-use Rattle.analysis_records.proofs.pins_bad.Statement.{statement}
-use Rattle.analysis_records.proofs.pins_bad.Tie as tie
+use Rattle.netlist_records.specs.Records.{pinsBefore}
+use Rattle.netlist_records.proofs.Laws.{before-end, before-none, bad-more, bad-here}
+use Rattle.netlist_records.proofs.pins_bad.Statement.{statement}
+use Rattle.netlist_records.proofs.pins_bad.Tie as tie
 
 abbrev Inv-loop : tie.InvT-loop
 Inv-loop pins i₀ i = (length pins ≡ Size.pins) × (anyLineBad (pinsBefore pins) ≡ anyLineBad (pinsBefore (drop i pins)))

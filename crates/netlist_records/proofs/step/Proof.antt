@@ -4,11 +4,11 @@ use borrow.Author.Tests.{eq-eqb, ne-eqb}
 use denote.Ref.{now}
 use Rattle.reading.specs.Choice.{pick}
 use Rattle.analysis_texts.proofs.Reached.{entry-shut, later-shut}
-use Rattle.analysis_records.specs.Walk.{progressAfter}
-use Rattle.analysis_records.proofs.Laws.{stepped-stays, stepped-checks}
+use Rattle.netlist_records.specs.Steps.{progressAfter}
+use Rattle.netlist_records.proofs.Laws.{stepped-stays, stepped-checks}
 use borrow.Author.Needs.{needs}
-use Rattle.analysis_records.proofs.step.Statement.{statement}
-use Rattle.analysis_records.proofs.step.Tie as tie
+use Rattle.netlist_records.proofs.step.Statement.{statement}
+use Rattle.netlist_records.proofs.step.Tie as tie
 
 -- ---- the places of the code that the answers speak of
 
