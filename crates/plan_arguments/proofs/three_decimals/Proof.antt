@@ -2,9 +2,9 @@
 use mathlib.Core.Path.{refl}
 use borrow.Author.Needs.{needs}
 use Rattle.text.specs.Numeral.{numeralRead}
-use Rattle.scoap_plan.specs.Output.{threeDecimals}
-use Rattle.scoap_plan.proofs.three_decimals.Statement.{statement}
-use Rattle.scoap_plan.proofs.three_decimals.Tie as tie
+use Rattle.plan_arguments.specs.Arguments.{threeDecimals}
+use Rattle.plan_arguments.proofs.three_decimals.Statement.{statement}
+use Rattle.plan_arguments.proofs.three_decimals.Tie as tie
 
 returns : tie.Need-returns
 unfolding threeDecimals numeralRead

@@ -1,9 +1,9 @@
 -- `put_usage` puts the line's bytes. Assumes nothing.
 use borrow.Author.Needs.{needs}
 use Rattle.text.specs.Bytes.{bytes}
-use Rattle.scoap_plan.specs.Output.{usage}
-use Rattle.scoap_plan.proofs.put_usage.Statement.{statement}
-use Rattle.scoap_plan.proofs.put_usage.Tie as tie
+use Rattle.plan_arguments.specs.Arguments.{usage}
+use Rattle.plan_arguments.proofs.put_usage.Statement.{statement}
+use Rattle.plan_arguments.proofs.put_usage.Tie as tie
 
 returns : tie.Need-returns
 unfolding usage bytes

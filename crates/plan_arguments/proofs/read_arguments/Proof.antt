@@ -1,8 +1,8 @@
 -- `read_arguments` counts the words and reads each. Assumes nothing.
 use borrow.Author.Needs.{needs}
-use Rattle.scoap_plan.proofs.Output.{words-bad, words-good}
-use Rattle.scoap_plan.proofs.read_arguments.Statement.{statement}
-use Rattle.scoap_plan.proofs.read_arguments.Tie as tie
+use Rattle.plan_arguments.proofs.Laws.{words-bad, words-good}
+use Rattle.plan_arguments.proofs.read_arguments.Statement.{statement}
+use Rattle.plan_arguments.proofs.read_arguments.Tie as tie
 
 returns : tie.Need-returns
 returns c = words-bad _ _ _ _ (c .if1 .taken)
