@@ -4,8 +4,8 @@ use denote.Ref.{now}
 use Rattle.table.proofs.Places.{cleared-all}
 use Rattle.demands.specs.Outcome.{zeroed}
 use borrow.Author.Needs.{needs}
-use Rattle.analysis_texts.proofs.clear_all.Statement.{statement}
-use Rattle.analysis_texts.proofs.clear_all.Tie as tie
+use Rattle.analysis_entry.proofs.clear_all.Statement.{statement}
+use Rattle.analysis_entry.proofs.clear_all.Tie as tie
 
 -- ---- the places of the code that the answer speaks of
 

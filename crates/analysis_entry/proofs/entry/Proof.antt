@@ -3,8 +3,8 @@ use Rattle.reading.specs.Choice.{pick}
 use Rattle.reading.specs.Refusal.{weigh}
 use Rattle.reading.specs.Verdict.{verdictRead}
 use Rattle.demands.specs.Outcome.{entryBy}
-use Rattle.analysis_texts.proofs.entry.Statement.{statement}
-use Rattle.analysis_texts.proofs.entry.Tie as tie
+use Rattle.analysis_entry.proofs.entry.Statement.{statement}
+use Rattle.analysis_entry.proofs.entry.Tie as tie
 
 returns : tie.Need-returns
 unfolding entryBy weigh pick verdictRead
