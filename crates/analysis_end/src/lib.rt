@@ -3,8 +3,8 @@
 //
 // For the crates above, once the library and the netlist are read: `finish`, which `analysis_call` and `analysis_records` call,
 // and `tell`, the same for a caller whose tables nobody sees afterwards.
+use analysis_entry::clear_all;
 use analysis_texts::Progress;
-use analysis_texts::clear_all;
 use calculation::Counts;
 use demands::Answer;
 use demands::Summary;

@@ -21,8 +21,8 @@ use Rattle.netlist_table.specs.Netlist.{Statement, admitted, lineForms, textSta
 use Rattle.demands.specs.Demands.{Promised}
 use Rattle.demands.specs.declared.Summary.{Summary}
 use Rattle.demands.specs.Outcome.{Lent, Pair, pairOf, givenBy, givenTexts, textLong, tableShort, conclude, readPair, reading, entry, outcome, answer, left, leftFrom}
-use Rattle.analysis_records.specs.declared.Record.{Record}
-use Rattle.analysis_records.specs.Records.{allZero, pinsBefore, endsInZeros, markForm, gateForm, recordForm, recordForms, recordStatements, fromRecords}
+use Rattle.netlist_records.specs.declared.Record.{Record}
+use Rattle.netlist_records.specs.Records.{allZero, pinsBefore, endsInZeros, markForm, gateForm, recordForm, recordForms, recordStatements, fromRecords}
 use Rattle.analysis_records.specs.Outcome.{givenRecords}
 
 -- Against the cells of the library, each record says what the line at its place says. A line of bad form is said by a record

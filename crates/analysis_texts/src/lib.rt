@@ -3,22 +3,19 @@
 // far a call has come then.
 //
 // For the crates above: `Progress`, `Tables`; `read_texts`, over two texts; `begin`, the entry and the library text alone,
-// behind which a caller reads its netlist itself; `clear_all`, which a later refusal asks for.
+// behind which a caller reads its netlist itself.
+use analysis_entry::entry;
 use library_lines::read_lines;
 use netlist_table::Rules;
 use netlist_text::read_all;
 use reading::Refusal;
-use reading::TABLE_SHORT;
-use reading::TEXT_LONG;
 use reading::Verdict;
 use table::clear;
 ghost use mathlib.Core.Path.{_≡_};
 ghost use lib.ListN.{length};
 ghost use Rattle.sizes.specs.Sizes as Size;
 ghost use Rattle.table.specs.Blocks.{cleared};
-ghost use Rattle.reading.specs.Verdict.{verdictRead};
-ghost use Rattle.demands.specs.Answer.{lentOf};
-ghost use Rattle.demands.specs.Outcome.{entryBy, givenBy, zeroed};
+ghost use Rattle.demands.specs.Outcome.{entryBy, givenBy};
 ghost use Rattle.analysis_texts.specs.Progress.{Begun, NetlistFits, TextRead, Reached};
 ghost use Rattle.analysis_texts.specs.Tables.{ZeroIfOwn};
 
@@ -45,28 +42,6 @@ fn clear_lent(table: &mut [u32], size: usize, tables: Tables)
         Tables::Own => {}
         Tables::Lent => clear(table, size),
     }
-}
-
-// The entry's two checks, by lengths.
-fn entry(lib: usize, net: usize, library: usize, netlist: usize, numbers: usize) -> Verdict
-    ensures { λ r. ⌜ verdictRead r ≡ entryBy lib net library netlist numbers ⌝ }
-{
-    let table_short = (library < sizes::LIBRARY)
-        | ((netlist < sizes::NETLIST) | (numbers < sizes::NUMBERS));
-    if table_short {
-        return Verdict::Refused(Refusal {
-            number: TABLE_SHORT,
-            line: 0,
-        });
-    }
-    let text_long = (sizes::TEXT_BYTES < lib) | (sizes::TEXT_BYTES < net);
-    if text_long {
-        return Verdict::Refused(Refusal {
-            number: TEXT_LONG,
-            line: 0,
-        });
-    }
-    Verdict::Accepted
 }
 
 // The entry and the library text. Of the netlist text and of the other tables it takes the lengths.
@@ -140,15 +115,4 @@ pub fn read_texts(
 {
     let begun = begin(lib, net.len(), library, netlist.len(), numbers, tables);
     read_netlist(rules, net, library, netlist, begun, tables)
-}
-
-// Sets all that was lent to zero.
-pub fn clear_all(library: &mut [u32], netlist: &mut [u32], numbers: &mut [u32], report: &mut [u8])
-    ensures { λ _. ⌜ lentOf (now (library .exit)) (now (netlist .exit)) (now (numbers .exit)) (now (report .exit))
-        ≡ zeroed (lentOf (now (library .entry)) (now (netlist .entry)) (now (numbers .entry)) (now (report .entry))) ⌝ }
-{
-    clear(library, library.len());
-    clear(netlist, netlist.len());
-    clear(numbers, numbers.len());
-    table::clear_bytes(report);
 }

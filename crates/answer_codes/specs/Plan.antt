@@ -13,7 +13,8 @@ use Rattle.calculation.specs.Calculation.{analysed}
 use Rattle.plan_text.specs.PlanText.{cheapestText}
 use Rattle.demands.specs.Outcome.{Lent, Pair, readPair, givenTexts}
 use Rattle.demands.specs.Own.{ownTables}
-use Rattle.plan_calls.specs.Promise.{askedNumber, kindOf, planOutcome, PlanSeen, PlanPromised}
+use Rattle.plan_end.specs.Concluded.{askedNumber, kindOf}
+use Rattle.plan_calls.specs.Promise.{planOutcome, PlanSeen, PlanPromised}
 use Rattle.answer_codes.specs.Number.{Tells, mostTold, textTold}
 
 -- What the call comes to: what `write_plan` does on tables of its own, and "19 when the text exceeds its buffer" also of a text

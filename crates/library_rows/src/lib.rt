@@ -30,11 +30,11 @@ use library_groups::store::put_row;
 use library_groups::store::put_rowless;
 use library_table::Word;
 use library_table::cells::cell_place;
-use text_fields::Numeral;
 use text::after;
 use text::field;
-use text_fields::octal;
 use text::same;
+use text_fields::Numeral;
+use text_fields::octal;
 
 // The lowest columns where there is no row yet: above those of every row.
 const NO_COLUMNS: u32 = 4294967295;

@@ -1,3 +1,2 @@
-pub mod End
 pub mod Promise
 pub mod Printed

@@ -1,3 +1,2 @@
 pub mod Lowered
-pub mod Marks
 pub mod Runs

@@ -6,13 +6,11 @@ use mathlib.Core.Path.{_≡_, refl}
 use Prim.Native.Nat.{ℕ}
 use native.Mathlib.Omega.{arith}
 use lib.ListN.{length, replicate}
-use borrow.Author.Tests.{eq-eqb, ne-eqb}
 use Rattle.sizes.specs.Sizes as Size
 use Rattle.reading.specs.Choice.{pick}
 use Rattle.reading.specs.Numbers as No
 use Rattle.reading.specs.Refusal.{weigh}
 use Rattle.text.specs.Bytes.{bytes}
-use Rattle.text_fields.specs.Numeral.{decimal}
 use Rattle.writer_bytes.specs.Put.{Put}
 use Rattle.demands.specs.Outcome as O
 use Rattle.demands.specs.Outcome.{givenBy, givenTexts, textLong}
@@ -22,20 +20,10 @@ use Rattle.plan_calls.specs.Printed.{planPrinted, PlanPrinted}
 use Rattle.files.specs.declared.Loaded.{Loaded}
 use Rattle.files.specs.Output.{Outputs, LongRefused, PrintsFiles}
 use Rattle.files.proofs.Output.{prints-outputs, put-outputs, long-shown, either-long}
-use Rattle.scoap_plan.specs.declared.Arguments.{Arguments}
-use Rattle.scoap_plan.specs.declared.Arguments.the-variants.{Plan, Usage}
-use Rattle.scoap_plan.specs.Output.{words, threeDecimals, argumentsOf, usage, planShown, planOutput, PlanOutputs}
-
--- ---- the arguments
-
-module _ (count : ℕ) (line value kind : List ℕ) where
-  pub words-bad : (count ≡ words → ⊥) → Usage ≡ argumentsOf count line value kind
-  unfolding argumentsOf pick
-  words-bad h = rw (ne-eqb count words h) refl
-
-  pub words-good : {a : Arguments} → count ≡ words → a ≡ threeDecimals (decimal line) (decimal value) (decimal kind) → a ≡ argumentsOf count line value kind
-  unfolding argumentsOf pick
-  words-good h e = rw (eq-eqb count words h) e
+use Rattle.plan_arguments.specs.declared.Arguments.{Arguments}
+use Rattle.plan_arguments.specs.declared.Arguments.the-variants.{Plan, Usage}
+use Rattle.plan_arguments.specs.Arguments.{usage}
+use Rattle.scoap_plan.specs.Output.{planShown, planOutput, PlanOutputs}
 
 -- ---- the plan
 

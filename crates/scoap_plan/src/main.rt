@@ -6,59 +6,17 @@ use files::FILE_BYTES;
 use files::Loaded;
 use files::front;
 use files::put_unreadable;
-use text_fields::Numeral;
+use plan_arguments::Arguments;
+use plan_arguments::put_usage;
+use plan_arguments::read_arguments;
 ghost use mathlib.Core.Path.{_≡_};
 ghost use Rattle.sizes.specs.Sizes as Size;
-ghost use Rattle.text_fields.specs.Numeral.{numeralRead};
-ghost use Rattle.writer_bytes.specs.Put.{Put};
 ghost use Rattle.files.specs.Output.{PrintsFiles};
-ghost use Rattle.scoap_plan.specs.Output.{threeDecimals, argumentsOf, usage, planShown, planOutput, PlanOutputs};
-
-// The program's name and its three arguments.
-const WORDS: usize = 4;
+ghost use Rattle.plan_arguments.specs.Arguments.{argumentsOf};
+ghost use Rattle.scoap_plan.specs.Output.{planShown, planOutput, PlanOutputs};
 
 // One byte more than a decimal may have.
 const ARGUMENT_BYTES: usize = sizes::DECIMAL_DIGITS + 1;
-
-// Which plan is asked for, by line, value and kind; or that the usage is to be printed.
-enum Arguments {
-    Plan(u32, u32, u32),
-    Usage,
-}
-
-fn three_decimals(line: Numeral, value: Numeral, kind: Numeral) -> Arguments
-    ensures { λ r. ⌜ r ≡ threeDecimals (numeralRead line) (numeralRead value) (numeralRead kind) ⌝ }
-{
-    let Numeral::Value(l) = line else {
-        return Arguments::Usage;
-    };
-    let Numeral::Value(v) = value else {
-        return Arguments::Usage;
-    };
-    let Numeral::Value(k) = kind else {
-        return Arguments::Usage;
-    };
-    Arguments::Plan(l, v, k)
-}
-
-fn read_arguments(count: usize, line: &[u8], value: &[u8], kind: &[u8]) -> Arguments
-    ensures { λ r. ⌜ r ≡ argumentsOf count (now (line .entry)) (now (value .entry)) (now (kind .entry)) ⌝ }
-{
-    if count != WORDS {
-        return Arguments::Usage;
-    }
-    three_decimals(
-        text_fields::decimal(line),
-        text_fields::decimal(value),
-        text_fields::decimal(kind),
-    )
-}
-
-fn put_usage(output: &mut [u8]) -> usize
-    ensures { λ r. ⌜ Put 0 usage (now (output .entry)) (now (output .exit)) r ⌝ }
-{
-    writer_bytes::put_bytes(output, 0, b"usage: scoap_plan LINE VALUE KIND\n")
-}
 
 // What is printed of good arguments. The buffer is cleared first, so that what it held plays no part.
 fn put_of_files(

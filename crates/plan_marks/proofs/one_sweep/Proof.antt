@@ -14,8 +14,9 @@ use Rattle.sweep_turns.proofs.Visits.{swept-length}
 use Rattle.sweep_runs.specs.Asleep.{Resting}
 use Rattle.sweep_runs.specs.Order.{firstGates}
 use Rattle.sweep_runs.proofs.Asleep.{come, skipped, rests-on}
-use Rattle.plan_marks.specs.Runs.{Traced}
-use Rattle.plan_marks.proofs.Sweeps.{swept-bounded, traced-none, traced-next, traced-skipped, gates-length}
+use Rattle.plan_visits.specs.Visits.{Traced}
+use Rattle.plan_visits.proofs.Turns.{swept-bounded, traced-next}
+use Rattle.plan_marks.proofs.Sweeps.{traced-none, traced-skipped, gates-length}
 use Rattle.plan_marks.proofs.one_sweep.Statement.{statement}
 use Rattle.plan_marks.proofs.one_sweep.Tie as tie
 
