@@ -12,13 +12,6 @@ pub const SETTING: usize = 0;
 
 pub const OBSERVING: usize = 1;
 
-// How many visits a gate has.
-pub fn visit_count(role: usize, pins: usize) -> usize
-    ensures { λ r. ⌜ r ≡ visitCount role pins ⌝ }
-{
-    if role == SETTING { sizes::VALUES } else { pins }
-}
-
 // The group of a visit, among the groups of the gate's cell.
 pub fn visit_group(role: usize, kind: usize, i: usize) -> usize
     requires { ⌜ (kind ≤ 1) × (i ≤ Size.pins) ⌝ }

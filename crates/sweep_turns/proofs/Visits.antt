@@ -1,6 +1,6 @@
 -- Visits one after the other: what a visit leaves, a gate's visits, and the sweeps that are made of them.
 -- Assumes nothing.
-use mathlib.Core.Bool.{Bool, false, not, _||_, or-false}
+use mathlib.Core.Bool.{Bool, true, false, not, _||_, or-false}
 use mathlib.Core.List.{List, [], _∷_, _++_, List·Memᴰ, List·Memᴰ·head, List·Memᴰ·tail}
 use mathlib.Core.Path.{_≡_, refl, sym, ap, _∙_}
 use Prim.Native.Nat.{ℕ, _+_, _-_, _≤_, _<_}
@@ -15,9 +15,9 @@ use Rattle.cost.specs.Cost.{never, counted, capped, lesser}
 use Rattle.cost.proofs.Laws.{sum-left, sum-right}
 use Rattle.plans.specs.System.{Way, Visit}
 use Rattle.plans.specs.Sweep.{at, sums, way, least, lower, sweep}
-use Rattle.plans.proofs.Laws.{at-getD, sweep-append, sweep-length, lower-stores}
+use Rattle.plans.proofs.Laws.{at-getD, sweep-append, sweep-length, lower-stores, rule-other}
 use Rattle.calculation.specs.Changes.{alters, changes}
-use Rattle.calculation.proofs.Sweeps.{alters-lower, same-alters, changes-append}
+use Rattle.calculation.proofs.Sweeps.{alters-lower, same-alters, changes-append, unaltered}
 use Rattle.netlist_table.specs.Gates.{gateCell, gateLines}
 use Rattle.sweep_groups.specs.Tables.{groupVisit, gatePins, byRole, visitGroup, visitPlace, visitWired, gateVisit}
 use Rattle.sweep_groups.proofs.Roles.{role-set, role-observed}
@@ -35,6 +35,15 @@ module _ (v : Visit) (xs : List ℕ) (inside : v .node < length xs) {number : �
         numbers = s .numbers ∙ ap (set xs (v .node)) q;
         flag = s .flag ∙ ap (λ (x : ℕ). not (eqb x (at xs (v .node)))) q ∙ sym (alters-lower v xs inside);
       }
+
+-- A visit changes no number but its own, and that only where it says so.
+pub visit-keeps : (v : Visit) {xs ys : List ℕ} {changed : Bool} → Renewed v xs ys changed
+    → (n : ℕ) → (changed ≡ true → v .node ≡ n → ⊥) → at ys n ≡ at xs n
+visit-keeps v {xs} {ys} {changed} r n other = rw (r .numbers) (side changed refl)
+  where
+    side : (b : Bool) → changed ≡ b → at (lower xs v) n ≡ at xs n
+    side true e = rule-other lower lower-stores xs v n (other e)
+    side false e = ap (λ (zs : List ℕ). at zs n) (unaltered lower lower-stores v xs (sym (r .flag) ∙ e))
 
 -- ---- a visit that can change nothing
 

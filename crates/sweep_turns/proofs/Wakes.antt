@@ -1,49 +1,40 @@
 -- What wakes a turn: the gates that need a line, and what a visit leaves of those that are asleep.
 -- Assumes nothing.
-use mathlib.Core.Bool.{Bool, true, false, not}
+use mathlib.Core.Bool.{Bool, true, not, _||_, or-true}
 use mathlib.Core.List.{List, List·Memᴰ}
-use mathlib.Core.Path.{_≡_, refl, sym, ap, _∙_}
+use mathlib.Core.Path.{_≡_, refl, sym, ap, subst, _∙_}
 use Prim.Native.Nat.{ℕ, _+_, _-_, _≤_, _<_}
 use native.Mathlib.Decide.{ℕ-discrete}
 use native.Mathlib.Nat.{le-of-eq}
 use native.Mathlib.Omega.{arith}
-use lib.ListN.{getD}
+use lib.ListN.{length, getD}
 use Rattle.sizes.specs.Sizes as Size
 use Rattle.plans.specs.System.{Visit}
-use Rattle.plans.specs.Sweep.{at, lower}
+use Rattle.plans.specs.Sweep.{at}
 use Rattle.plans.specs.Idle.{Needs}
-use Rattle.plans.proofs.Laws.{rule-other, lower-stores}
-use Rattle.calculation.proofs.Sweeps.{unaltered}
 use Rattle.reading.specs.Choice.{pick}
 use Rattle.sweep_awake.specs.Turns.{bitAt}
 use Rattle.netlist_table.specs.Gates.{gateLine, gateLines}
 use Rattle.sweep_awake.specs.Lines.{ReadersWoken, DriverWoken}
 use Rattle.sweep_groups.specs.Tables.{byRole, groupVisit, gatePins, visitCount, visitPlace, gateVisit}
-use Rattle.sweep_groups.specs.Fits.{LinesFit}
-use Rattle.sweep_groups.proofs.Roles.{role-set, role-observed}
+use Rattle.sweep_links.specs.Lines.{Chained, Driven}
+use Rattle.sweep_turns.specs.Fits.{WakeFits, GateReadFits}
 use Rattle.sweep_turns.specs.Order.{gateOfTurn, turnVisits}
 use Rattle.sweep_turns.specs.Renewed.{Renewed}
-use Rattle.sweep_turns.specs.Wakes.{Asleep, visitLine, DrivenOnce, NeedsByLine, LineWoken, ChangesWoken}
-use Rattle.sweep_turns.proofs.Visits.{turn-inside}
+use Rattle.sweep_turns.specs.Wakes.{Asleep, visitLine, OwnUnread, DrivenOnce, NeedsByLine, LineWoken, ChangesWoken}
+use Rattle.sweep_turns.proofs.Visits.{visit-keeps, turn-inside}
 
--- ---- the line that a visit renews a number of
+-- ---- whether a pin reads the gate's own line
 
-module _ (role : ℕ) (lines : List ℕ) (pins i : ℕ) (fit : LinesFit lines pins) (turn : i < visitCount role pins) where
-  pub line-inside : visitLine role lines i ≤ Size.lines
-  line-inside = go (ℕ-discrete role 0)
-    where
-      go : Dec (role ≡ 0) → visitLine role lines i ≤ Size.lines
-      go (yes e) = rw (role-set role (getD lines 0 0) (getD lines (i + 1) 0) e) (fit .most 0 (omega arith))
-      go (no e) =
-          rw (role-observed role (getD lines 0 0) (getD lines (i + 1) 0) e)
-          (fit .most (i + 1) (omega (arith, rw (role-observed role Size.values pins e) at turn)))
+pub unread-none : (lines : List ℕ) → OwnUnread lines 0
+unread-none lines i least most = absurd (omega arith)
 
-  pub visit-few : i < Size.pins
-  visit-few = go (ℕ-discrete role 0)
-    where
-      go : Dec (role ≡ 0) → i < Size.pins
-      go (yes e) = omega (arith, rw (role-set role Size.values pins e) at turn)
-      go (no e) = omega (arith, fit .count, rw (role-observed role Size.values pins e) at turn)
+pub unread-more : (lines : List ℕ) (pins : ℕ) → OwnUnread lines pins → (getD lines (pins + 1) 0 ≡ getD lines 0 0 → ⊥) → OwnUnread lines (pins + 1)
+unread-more lines pins u other i least most = go (ℕ-discrete i (pins + 1))
+  where
+    go : Dec (i ≡ pins + 1) → getD lines i 0 ≡ getD lines 0 0 → ⊥
+    go (yes e) = rw e other
+    go (no e) = u i least (omega arith)
 
 -- ---- the gates that need a line
 
@@ -74,10 +65,25 @@ driver-woken {role} {netlist} {gates} {line} {changed} {before} {after} a h once
         let e : gates - 1 - (gates - 1 - t) ≡ t = omega arith in
         rw e at (r .driver (gates - 1 - t) (omega arith) n (λ g c m. le-of-eq (once g (gates - 1 - t) c (omega arith) (m ∙ sym n))))
 
--- The same for a count and a line that are those.
-pub woken-same : {role : ℕ} {netlist : List ℕ} {gates n line l : ℕ} {changed : Bool} {before after : List ℕ} → gates ≡ n → line ≡ l
-    → LineWoken role netlist gates line changed before after → LineWoken role netlist n l changed before after
-woken-same e f w = rw (← e, ← f) w
+-- At a gate of the netlist, where its gates were counted.
+module _ {role kind : ℕ} {library netlist links numbers before : List ℕ} {gate cell pins : ℕ} (f : GateReadFits role kind library netlist links numbers before gate cell pins)
+    {gates : ℕ} (counted : gates ≡ getD netlist 0 0) where
+  chained : Chained netlist gates links
+  chained = subst (λ (n : ℕ). Chained netlist n links) (sym counted) (f .visitsFit .linksFit .linked .chained)
+
+  driven : Driven netlist gates links
+  driven = subst (λ (n : ℕ). Driven netlist n links) (sym counted) (f .visitsFit .linksFit .linked .driven)
+
+  pub wake-fits : {line : ℕ} {awake : List ℕ} → line ≤ Size.lines → length awake ≡ Size.awakeWords → WakeFits role line gates links awake
+  wake-fits inside size =
+      record { roleFits = f .visitsFit .linksFit .roleFits; inside = inside; netlist = netlist; chained = chained; driven = driven; size = size }
+
+  pub line-woken : {line l : ℕ} {changed : Bool} {awake after : List ℕ} → line ≡ l
+      → ((net : List ℕ) → Chained net gates links → Driven net gates links → DrivenOnce net gates → LineWoken role net gates line changed awake after)
+      → LineWoken role netlist (getD netlist 0 0) l changed awake after
+  line-woken {line} {l} {changed} {awake} {after} e w =
+      rw (← e, ← counted)
+      (w netlist chained driven (subst (DrivenOnce netlist) (sym counted) (f .visitsFit .linksFit .needs .once)))
 
 module _ (role kind : ℕ) (library netlist : List ℕ) where
   abbrev gates : ℕ
@@ -88,14 +94,11 @@ module _ (role kind : ℕ) (library netlist : List ℕ) where
   pub changes-none : (awake xs : List ℕ) → ChangesWoken role kind library netlist awake xs awake xs
   changes-none awake xs = record { slept = λ t h a. a; unmoved = λ t h a v m n d. refl; size = refl }
 
-  -- A visit changes no number but its own, and that only where it says so.
-  visit-keeps : (v : Visit) {xs ys : List ℕ} {changed : Bool} → Renewed v xs ys changed
-      → (n : ℕ) → (changed ≡ true → v .node ≡ n → ⊥) → at ys n ≡ at xs n
-  visit-keeps v {xs} {ys} {changed} r n other = rw (r .numbers) (side changed refl)
-    where
-      side : (b : Bool) → changed ≡ b → at (lower xs v) n ≡ at xs n
-      side true e = rule-other lower lower-stores xs v n (other e)
-      side false e = ap (λ (zs : List ℕ). at zs n) (unaltered lower lower-stores v xs (sym (r .flag) ∙ e))
+  -- Where nothing has changed yet, whoever is woken.
+  pub changes-first : (before xs : List ℕ) {line : ℕ} {changed : Bool} (after : List ℕ)
+      → LineWoken role netlist gates line changed before after → ChangesWoken role kind library netlist before xs after xs
+  changes-first before xs after w =
+      record { slept = λ t h. w .slept t; unmoved = λ t h a v m n d. refl; size = w .size }
 
   module _ (l : NeedsByLine role kind library netlist) (h i : ℕ) (inside : h < gates) (turn : i < visitCount role (gatePins library netlist h)) where
     pub changes-on : {before xs between ys after zs : List ℕ} {changed : Bool}
@@ -118,3 +121,12 @@ module _ (role kind : ℕ) (library netlist : List ℕ) where
         needed t b a q v m d =
             let g : gateOfTurn role gates t < gates = turn-inside role gates t b in
             omega (arith, a, w .woken q t b (l .needs (gateOfTurn role gates t) h i g inside turn v m d))
+
+    -- The same where gates are woken behind visits that renew numbers of one line: one visit more.
+    pub changes-later : {before xs ys zs : List ℕ} {a b : Bool}
+        → ((after : List ℕ) → LineWoken role netlist gates (visitLine role (gateLines netlist h) i) a before after → ChangesWoken role kind library netlist before xs after ys)
+        → Renewed (gateVisit role kind library netlist h i) ys zs b
+        → (after : List ℕ) → LineWoken role netlist gates (visitLine role (gateLines netlist h) i) (a || b) before after → ChangesWoken role kind library netlist before xs after zs
+    changes-later {a = a} {b} c r after w =
+        changes-on (c after (record { slept = w .slept; woken = λ q. w .woken (ap (λ (x : Bool). x || b) q); size = w .size })) r
+        (record { slept = λ t s. s; woken = λ q. w .woken (ap (λ (x : Bool). a || x) q ∙ or-true a); size = refl })

@@ -1,15 +1,19 @@
 -- What visits ask of the tables and the numbers (specs/Fits.antt of crate `sweep_groups`).
 -- Assumes nothing.
-use mathlib.Core.Bool.{Bool}
+use mathlib.Core.Bool.{Bool, true}
 use mathlib.Core.List.{List}
 use mathlib.Core.Path.{_≡_}
-use Prim.Native.Nat.{ℕ, _≤_, _<_}
+use Prim.Native.Nat.{ℕ, _+_, _≤_, _<_}
 use lib.ListN.{length, getD}
 use Rattle.sizes.specs.Sizes as Size
+use Rattle.sizes.specs.Places.{cellPlace}
+use Rattle.netlist_table.specs.Gates.{gateCell}
 use Rattle.sweep_sums.specs.declared.Sum.{Sum}
 use Rattle.sweep_sums.specs.Sums.{sumKind, placeKind}
 use Rattle.sweep_links.specs.Lines.{Chained, Driven, Links}
-use Rattle.sweep_groups.specs.Fits.{Gathered, GroupFits, LeastFits, TablesFit}
+use Rattle.sweep_groups.specs.Tables.{gatePins, roleColumns, visitCount}
+use Rattle.sweep_groups.specs.Fits.{LinesFit, Gathered, GroupFits, LeastFits, TablesFit}
+use Rattle.sweep_turns.specs.Order.{turnGroup}
 use Rattle.sweep_turns.specs.Wakes.{NeedsByLine}
 
 -- A sum may be stored at a place of the numbers: one whose kind is the sum's.
@@ -31,6 +35,17 @@ pub record CostsOf (kind : ℕ) (library : List ℕ) (group : ℕ) (lines : List
   pub few : count ≤ Size.columns
   pub gathered : Gathered count kind lines pins numbers costs
   pub groupFits : GroupFits library group count
+
+-- Visit i of a gate, out of what was read of it, over the costs of its columns.
+pub record TurnFits (role kind : ℕ) (library : List ℕ) (cell : ℕ) (wired : Bool) (lines : List ℕ) (pins : ℕ) (costs numbers : List ℕ) (i : ℕ) : Type 0 where
+  pub kindFits : kind ≤ 1
+  pub linesFit : LinesFit lines pins
+  pub turn : i < visitCount role pins
+  pub room : cell + Size.cellWords ≤ length library
+  pub rows : GroupFits library (turnGroup role kind cell i) (roleColumns role pins)
+  pub setting : wired ≡ true → role ≡ 0
+  pub size : length numbers ≡ Size.numbers
+  pub gathered : Gathered (roleColumns role pins) kind lines pins numbers costs
 
 -- The gates that need a line's number may be woken.
 pub record WakeFits (role line gates : ℕ) (links awake : List ℕ) : Type 0 where
@@ -55,3 +70,9 @@ pub record GateVisitsFit (role kind : ℕ) (library netlist links numbers awake 
   pub inside : gate < getD netlist 0 0
   pub size : length numbers ≡ Size.numbers
   pub awakeSize : length awake ≡ Size.awakeWords
+
+-- The same, where its cell was found and its pins were read.
+pub record GateReadFits (role kind : ℕ) (library netlist links numbers awake : List ℕ) (gate cell pins : ℕ) : Type 0 where
+  pub visitsFit : GateVisitsFit role kind library netlist links numbers awake gate
+  pub cellIs : cell ≡ cellPlace (gateCell netlist gate)
+  pub pinsAre : pins ≡ gatePins library netlist gate

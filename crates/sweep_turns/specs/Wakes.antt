@@ -30,6 +30,10 @@ NeedsLine (suc role) netlist g l = gateLine netlist g 0 ≡ l
 abbrev pub visitLine : ℕ → List ℕ → ℕ → ℕ
 visitLine role lines i = byRole role (getD lines 0 0) (getD lines (i + 1) 0)
 
+-- No pin reads the gate's own line.
+abbrev pub OwnUnread : List ℕ → ℕ → Type 0
+OwnUnread lines pins = (i : ℕ) → 1 ≤ i → i ≤ pins → getD lines i 0 ≡ getD lines 0 0 → ⊥
+
 -- No line is driven twice.
 abbrev pub DrivenOnce : List ℕ → ℕ → Type 0
 DrivenOnce netlist gates = (g h : ℕ) → g < gates → h < gates → gateLine netlist g 0 ≡ gateLine netlist h 0 → g ≡ h

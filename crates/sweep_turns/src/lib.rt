@@ -13,8 +13,8 @@ use sweep_awake::wake_readers;
 use sweep_groups::cell_place;
 use sweep_groups::gather::column_costs;
 use sweep_groups::least_of;
+use sweep_groups::turns::OBSERVING;
 use sweep_groups::turns::SETTING;
-use sweep_groups::turns::visit_count;
 use sweep_groups::turns::visit_group;
 use sweep_groups::turns::visit_place;
 use sweep_links::is_tied;
@@ -25,19 +25,19 @@ use sweep_sums::lesser_of;
 use sweep_sums::number_of;
 use sweep_sums::sum_of;
 ghost use mathlib.Core.Path.{_≡_};
-ghost use mathlib.Core.Bool.{true, _||_};
+ghost use mathlib.Core.Bool.{true, false, _||_};
 ghost use mathlib.Core.List.{List};
 ghost use Prim.Native.Nat.{ℕ, _+_, _*_, _≤_, _<_};
 ghost use lib.ListN.{length, getD};
 ghost use Rattle.sizes.specs.Sizes as Size;
 ghost use Rattle.cost.specs.Cost.{never};
 ghost use Rattle.sweep_sums.specs.Sums.{sumNumber};
-ghost use Rattle.sweep_groups.specs.Tables.{visitWired, groupVisit};
-ghost use Rattle.sweep_links.specs.Lines.{Chained, Driven, Tied};
-ghost use Rattle.sweep_turns.specs.Fits.{StoreFits, VisitFits, CostsOf, WakeFits, GateVisitsFit};
-ghost use Rattle.sweep_turns.specs.Order.{gateVisits};
+ghost use Rattle.sweep_groups.specs.Tables.{groupVisit};
+ghost use Rattle.sweep_links.specs.Lines.{Chained, Driven};
+ghost use Rattle.sweep_turns.specs.Fits.{StoreFits, VisitFits, CostsOf, TurnFits, WakeFits, GateVisitsFit, GateReadFits};
+ghost use Rattle.sweep_turns.specs.Order.{readVisit, gateVisits};
 ghost use Rattle.sweep_turns.specs.Renewed.{Stored, Led, Renewed, Swept};
-ghost use Rattle.sweep_turns.specs.Wakes.{visitLine, LineWoken, ChangesWoken, DrivenOnce};
+ghost use Rattle.sweep_turns.specs.Wakes.{OwnUnread, LineWoken, ChangesWoken, DrivenOnce};
 
 pub fn either(a: bool, b: bool) -> bool
     ensures { λ r. ⌜ r ≡ (a || b) ⌝ }
@@ -105,18 +105,6 @@ fn visit(
     store(numbers, place, sum)
 }
 
-// The line whose number a visit renews.
-fn visit_line(role: usize, lines: &[u32; sizes::GATE_LINES], i: usize) -> u32
-    requires { ⌜ i < Size.pins ⌝ }
-    ensures { λ r. ⌜ r ≡ visitLine role (now (lines .entry)) i ⌝ }
-{
-    if role == SETTING {
-        lines[0]
-    } else {
-        lines[i + 1]
-    }
-}
-
 // Where a number of a line changed, wakes the gates that need it: where lines are set those that read
 // the line, where they are observed the one that drives it.
 fn wake_needing(
@@ -143,23 +131,179 @@ fn wake_needing(
     }
 }
 
-// Whether the rows of a gate's visits are read as those of one wire, by what was noted of the gate.
-fn wired_of(role: usize, links: &[u16; sizes::LINKS], gate: usize) -> bool
-    requires { ⌜ gate < Size.gates ⌝ }
+// One visit of a gate, out of what was read of it: where its cell starts, its lines and its pins.
+fn visit_in_turn(
+    role: usize,
+    kind: usize,
+    library: &[u32],
+    cell: usize,
+    wired: bool,
+    lines: &[u32; sizes::GATE_LINES],
+    pins: usize,
+    costs: &[u32; sizes::COLUMNS],
+    numbers: &mut [u32],
+    i: usize,
+) -> bool
+    requires { ⌜ TurnFits role kind (now library) cell wired (now lines) pins (now costs) (now numbers) i ⌝ }
     ensures { λ r.
-        ⌜ ((library netlist : List ℕ) (gates : ℕ)
-        → Tied library netlist gates (now (links .entry)) → gate < gates
-        → r ≡ visitWired role library netlist gate) ⌝ }
+        ⌜ (Led role (getD (now (costs .entry)) (2 * pins + 2) 0) (now (numbers .entry))
+        (readVisit role kind (now (library .entry)) cell wired (now (lines .entry)) pins i)
+        → Renewed
+        (readVisit role kind (now (library .entry)) cell wired (now (lines .entry)) pins i)
+        (now (numbers .entry)) (now (numbers .exit)) r) ⌝ }
 {
-    if role != SETTING {
-        return false;
-    }
-    is_tied(links, gate)
+    let group = cell + sizes::GROUPS_AT + visit_group(role, kind, i) * sizes::GROUP_WORDS;
+    let place = visit_place(role, kind, lines, pins, i);
+    visit(
+        role,
+        kind,
+        library,
+        group,
+        wired,
+        lines,
+        costs,
+        numbers,
+        place,
+        pins,
+    )
 }
 
-// A gate's visits, "the output's 0 before its 1" or "pins in order"; whether a number changed. The costs
-// of its columns are gathered once, and again after a visit that changed a number: the output's 1 sees
-// its 0, and a pin may read the gate's own line.
+// Whether a number of a gate's own line changed, and one of its pins reads the line.
+fn own_read(changed: bool, lines: &[u32; sizes::GATE_LINES], pins: usize) -> bool
+    requires { ⌜ pins ≤ Size.pins ⌝ }
+    ensures { λ r. ⌜ (r ≡ false → changed ≡ true → OwnUnread (now (lines .entry)) pins) ⌝ }
+{
+    if !changed {
+        return false;
+    }
+    let mut i = 0;
+    while i < pins {
+        i += 1;
+        if lines[i] == lines[0] {
+            return true;
+        }
+    }
+    false
+}
+
+// Whether the number of a pin's line changed, and the line is the gate's own.
+fn own_observed(changed: bool, lines: &[u32; sizes::GATE_LINES], i: usize) -> bool
+    requires { ⌜ i < Size.pins ⌝ }
+    ensures { λ r. ⌜ (r ≡ false → changed ≡ true
+        → getD (now (lines .entry)) (i + 1) 0 ≡ getD (now (lines .entry)) 0 0 → ⊥) ⌝ }
+{
+    if !changed {
+        return false;
+    }
+    lines[i + 1] == lines[0]
+}
+
+// A gate's visits where lines are set, "the output's 0 before its 1"; whether a number changed. The costs of its
+// columns are gathered once, and again where a pin reads the gate's own line: the output's 1 then sees its 0. The
+// gates that read the line are woken once, behind both visits.
+fn set_gate(
+    kind: usize,
+    library: &[u32],
+    netlist: &[u32],
+    links: &[u16; sizes::LINKS],
+    numbers: &mut [u32],
+    awake: &mut [u64; sizes::AWAKE_WORDS],
+    gate: usize,
+    cell: usize,
+    pins: usize,
+) -> bool
+    requires { ⌜ GateReadFits 0 kind (now library) (now netlist) (now links) (now numbers) (now awake)
+        gate cell pins ⌝ }
+    ensures swept { λ r.
+        ⌜ Swept
+        (gateVisits 0 kind (now (library .entry)) (now (netlist .entry)) gate)
+        (now (numbers .entry)) (now (numbers .exit)) r ⌝ }
+    ensures wakes { λ _.
+        ⌜ ChangesWoken 0 kind (now (library .entry)) (now (netlist .entry)) (now (awake .entry))
+        (now (numbers .entry)) (now (awake .exit)) (now (numbers .exit)) ⌝ }
+{
+    let gates = unchecked::count(netlist);
+    let lines = unchecked::lines_of(netlist, gate);
+    let wired = is_tied(links, gate);
+    let mut costs = [0u32; sizes::COLUMNS];
+    let mut stale = true;
+    let mut changed = false;
+    let mut i = 0;
+    while i < sizes::VALUES {
+        column_costs(stale, SETTING, kind, &lines, pins, numbers, &mut costs);
+        let renewed = visit_in_turn(
+            SETTING,
+            kind,
+            library,
+            cell,
+            wired,
+            &lines,
+            pins,
+            &costs,
+            numbers,
+            i,
+        );
+        stale = own_read(renewed, &lines, pins);
+        changed = either(changed, renewed);
+        i += 1;
+    }
+    wake_needing(SETTING, changed, lines[0], gates, links, awake);
+    changed
+}
+
+// A gate's visits where lines are observed, "pins in order"; whether a number changed. The costs of its columns are
+// gathered once, and again after a pin that reads the gate's own line: they have the output observed.
+fn observe_gate(
+    kind: usize,
+    library: &[u32],
+    netlist: &[u32],
+    links: &[u16; sizes::LINKS],
+    numbers: &mut [u32],
+    awake: &mut [u64; sizes::AWAKE_WORDS],
+    gate: usize,
+    cell: usize,
+    pins: usize,
+) -> bool
+    requires { ⌜ GateReadFits 1 kind (now library) (now netlist) (now links) (now numbers) (now awake)
+        gate cell pins ⌝ }
+    ensures swept { λ r.
+        ⌜ Swept
+        (gateVisits 1 kind (now (library .entry)) (now (netlist .entry)) gate)
+        (now (numbers .entry)) (now (numbers .exit)) r ⌝ }
+    ensures wakes { λ _.
+        ⌜ ChangesWoken 1 kind (now (library .entry)) (now (netlist .entry)) (now (awake .entry))
+        (now (numbers .entry)) (now (awake .exit)) (now (numbers .exit)) ⌝ }
+{
+    let gates = unchecked::count(netlist);
+    let lines = unchecked::lines_of(netlist, gate);
+    let mut costs = [0u32; sizes::COLUMNS];
+    let mut stale = true;
+    let mut changed = false;
+    let mut i = 0;
+    while i < pins {
+        column_costs(stale, OBSERVING, kind, &lines, pins, numbers, &mut costs);
+        let renewed = visit_in_turn(
+            OBSERVING,
+            kind,
+            library,
+            cell,
+            false,
+            &lines,
+            pins,
+            &costs,
+            numbers,
+            i,
+        );
+        stale = own_observed(renewed, &lines, i);
+        wake_needing(OBSERVING, renewed, lines[i + 1], gates, links, awake);
+        changed = either(changed, renewed);
+        i += 1;
+    }
+    changed
+}
+
+// A gate's visits in a sweep; whether a number changed. Each role has a loop of its own, in which no visit asks for
+// the role.
 pub fn visit_gate(
     role: usize,
     kind: usize,
@@ -180,36 +324,30 @@ pub fn visit_gate(
         ⌜ ChangesWoken role kind (now (library .entry)) (now (netlist .entry)) (now (awake .entry))
         (now (numbers .entry)) (now (awake .exit)) (now (numbers .exit)) ⌝ }
 {
-    let gates = unchecked::count(netlist);
     let cell = cell_place(netlist, gate);
     let pins = wide(library[cell + sizes::PINS_AT]);
-    let lines = unchecked::lines_of(netlist, gate);
-    let count = visit_count(role, pins);
-    let wired = wired_of(role, links, gate);
-    let mut costs = [0u32; sizes::COLUMNS];
-    let mut stale = true;
-    let mut changed = false;
-    let mut i = 0;
-    while i < count {
-        column_costs(stale, role, kind, &lines, pins, numbers, &mut costs);
-        let group = cell + sizes::GROUPS_AT + visit_group(role, kind, i) * sizes::GROUP_WORDS;
-        let place = visit_place(role, kind, &lines, pins, i);
-        stale = visit(
-            role,
+    if role == SETTING {
+        return set_gate(
             kind,
             library,
-            group,
-            wired,
-            &lines,
-            &costs,
+            netlist,
+            links,
             numbers,
-            place,
+            awake,
+            gate,
+            cell,
             pins,
         );
-        let line = visit_line(role, &lines, i);
-        wake_needing(role, stale, line, gates, links, awake);
-        changed = either(changed, stale);
-        i += 1;
     }
-    changed
+    observe_gate(
+        kind,
+        library,
+        netlist,
+        links,
+        numbers,
+        awake,
+        gate,
+        cell,
+        pins,
+    )
 }

@@ -1,0 +1,18 @@
+-- `own_observed` compares the two lines. Assumes nothing.
+use mathlib.Core.Bool.{true≢false}
+use mathlib.Core.Path.{sym, _∙_}
+use borrow.Author.Needs.{needs}
+use borrow.Author.Tests.{not-true, eqb-false}
+use Rattle.sweep_turns.proofs.own_observed.Statement.{statement}
+use Rattle.sweep_turns.proofs.own_observed.Tie as tie
+
+pub own-observed-spec : {M : Type 1} → statement M
+own-observed-spec =
+    tie.close
+    (tie.spec
+    (λ c e q. absurd (true≢false (sym q ∙ not-true _ (c .if1 .taken))))
+    (λ c. search needs)
+    (λ c. search needs)
+    (λ c. search needs)
+    (λ c. search needs)
+    (λ c e q. eqb-false _ _ e))
