@@ -13,8 +13,8 @@ use Rattle.plans.specs.Sweep.{lower}
 use Rattle.plans.specs.Idle.{inTurn, Skipped}
 use Rattle.plans.specs.Trace.{Trace, traceSweep}
 use Rattle.sweep_groups.specs.Tables.{byRole}
-use Rattle.sweep_turns.specs.Order.{gateVisits}
-use Rattle.sweep_turns.proofs.Visits.{swept-none}
+use Rattle.sweep_visits.specs.Order.{gateVisits}
+use Rattle.sweep_visits.proofs.Visits.{swept-none}
 use Rattle.sweep_runs.specs.Order.{firstGates}
 use Rattle.sweep_runs.proofs.Asleep.{skipped-swept}
 use Rattle.plan_visits.specs.Marks.{Stands}

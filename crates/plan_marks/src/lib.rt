@@ -15,7 +15,7 @@ use sweep_awake::rest;
 use sweep_links::link;
 use sweep_start::LOW;
 use sweep_start::start;
-use sweep_turns::either;
+use sweep_visits::either;
 ghost use mathlib.Core.List.{List};
 ghost use mathlib.Core.Path.{_≡_};
 ghost use Rattle.library_table.specs.Cells.{Cell};

@@ -15,9 +15,9 @@ use Rattle.plans.specs.Trace.{traceSweep}
 use Rattle.plans.proofs.Laws.{numbers-fall, lower-stores}
 use Rattle.calculation.proofs.Sweeps.{unchanged}
 use Rattle.sweep_groups.specs.Tables.{byRole}
-use Rattle.sweep_turns.specs.Order.{gateVisits}
-use Rattle.sweep_turns.specs.Renewed.{Swept}
-use Rattle.sweep_turns.proofs.Visits.{next-turn}
+use Rattle.sweep_visits.specs.Order.{gateVisits}
+use Rattle.sweep_visits.specs.Renewed.{Swept}
+use Rattle.sweep_visits.proofs.Visits.{next-turn}
 use Rattle.plan_visits.specs.Visits.{turnVisit, Traced}
 use Rattle.plan_visits.proofs.Remembered.{trace-append, trace-time}
 

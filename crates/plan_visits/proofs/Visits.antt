@@ -24,9 +24,9 @@ use Rattle.sweep_sums.specs.Sums.{sumNumber, placeKind, Summed}
 use Rattle.sweep_sums.proofs.Sums.{setting-kind}
 use Rattle.sweep_groups.specs.Tables.{readRow, groupColumns, gatePins, byRole, roleColumns, visitGroup, visitPlace, gateTied, groupVisit}
 use Rattle.sweep_groups.specs.Fits.{LinesFit, Gathered, GatherFits, GroupFits, GateFits, ReadFits, LeastFits}
-use Rattle.sweep_turns.specs.Renewed.{Stored, Swept}
+use Rattle.sweep_visits.specs.Renewed.{Stored, Swept}
 use Rattle.sweep_turns.proofs.Groups as Group
-use Rattle.sweep_turns.proofs.Visits.{visited, swept-one}
+use Rattle.sweep_visits.proofs.Visits.{visited, swept-one}
 use Rattle.plan_rows.specs.Rows.{wayRow, FirstOf}
 use Rattle.plan_rows.proofs.Rows.{first-same}
 use Rattle.plan_visits.specs.Marks.{rowPlace, gateRow, lastPin, writtenRow, askingRow, Stands}

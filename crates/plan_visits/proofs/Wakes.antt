@@ -14,7 +14,7 @@ use Rattle.netlist_table.specs.Gates.{gateLine, gateLines}
 use Rattle.netlist_table.proofs.HeldGates.{line-at}
 use Rattle.sweep_awake.specs.Lines.{ReadersWoken}
 use Rattle.sweep_groups.specs.Tables.{byRole}
-use Rattle.sweep_turns.specs.Renewed.{Renewed, Swept}
+use Rattle.sweep_visits.specs.Renewed.{Renewed, Swept}
 use Rattle.sweep_turns.specs.Wakes.{visitLine, NeedsByLine, ChangesWoken}
 use Rattle.sweep_turns.proofs.Wakes.{readers-woken, changes-none, changes-on}
 use Rattle.plan_visits.specs.Visits.{turnVisit}

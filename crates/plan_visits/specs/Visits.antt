@@ -11,7 +11,7 @@ use Rattle.plans.specs.Sweep.{lower, Bounded}
 use Rattle.plans.specs.Trace.{Trace, traceSweep}
 use Rattle.sweep_groups.specs.Tables.{gateVisit}
 use Rattle.sweep_turns.specs.Fits.{LinksFit}
-use Rattle.sweep_turns.specs.Renewed.{Swept}
+use Rattle.sweep_visits.specs.Renewed.{Swept}
 use Rattle.plan_visits.specs.Marks.{Stands}
 
 -- The tables, the links and the arrays beside them.

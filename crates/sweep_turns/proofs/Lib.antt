@@ -1,4 +1,3 @@
-pub mod Visits
 pub mod Wakes
 pub mod Turns
 pub mod Groups

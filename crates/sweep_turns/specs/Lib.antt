@@ -1,4 +1,2 @@
-pub mod Order
-pub mod Renewed
 pub mod Wakes
 pub mod Fits

@@ -1,109 +1,35 @@
 // One gate's turn in a sweep, document 01, "Sweeps": the visits of the gate, each of which renews one
 // number, and the gates that a changed number wakes.
 //
-// For the crates above: `visit_gate` and `store`, with what they ask of the tables (specs/Fits.antt), since the
-// loop of the sweeps tests no bounds; and `either`, of two answers whether a number changed.
+// For the crates above: `visit_gate`, with what it asks of the tables (specs/Fits.antt), since the loop of the sweeps
+// tests no bounds. A visit itself is made by crate `sweep_visits`.
 //
 // All goes by a role's number, 0 setting (CC, SC) and 1 observing (CO, SO), and by a kind's number,
 // 0 combinational (CC, CO) and 1 sequential (SC, SO).
-use cost::NEVER;
 use netlist_table::gates::unchecked;
 use sweep_awake::wake_driver;
 use sweep_awake::wake_readers;
 use sweep_groups::cell_place;
 use sweep_groups::gather::column_costs;
-use sweep_groups::least_of;
 use sweep_groups::turns::OBSERVING;
 use sweep_groups::turns::SETTING;
 use sweep_groups::turns::visit_group;
 use sweep_groups::turns::visit_place;
 use sweep_links::is_tied;
-use sweep_sums::Sum;
-use sweep_sums::is_lower;
 use sweep_sums::kinds::wide;
-use sweep_sums::lesser_of;
-use sweep_sums::number_of;
-use sweep_sums::sum_of;
+use sweep_visits::either;
+use sweep_visits::visit;
 ghost use mathlib.Core.Path.{_≡_};
-ghost use mathlib.Core.Bool.{true, false, _||_};
+ghost use mathlib.Core.Bool.{true, false};
 ghost use mathlib.Core.List.{List};
 ghost use Prim.Native.Nat.{ℕ, _+_, _*_, _≤_, _<_};
-ghost use lib.ListN.{length, getD};
+ghost use lib.ListN.{getD};
 ghost use Rattle.sizes.specs.Sizes as Size;
-ghost use Rattle.cost.specs.Cost.{never};
-ghost use Rattle.sweep_sums.specs.Sums.{sumNumber};
-ghost use Rattle.sweep_groups.specs.Tables.{groupVisit};
 ghost use Rattle.sweep_links.specs.Lines.{Chained, Driven};
-ghost use Rattle.sweep_turns.specs.Fits.{StoreFits, VisitFits, CostsOf, TurnFits, WakeFits, GateVisitsFit, GateReadFits};
-ghost use Rattle.sweep_turns.specs.Order.{readVisit, gateVisits};
-ghost use Rattle.sweep_turns.specs.Renewed.{Stored, Led, Renewed, Swept};
+ghost use Rattle.sweep_turns.specs.Fits.{TurnFits, WakeFits, GateVisitsFit, GateReadFits};
+ghost use Rattle.sweep_visits.specs.Order.{readVisit, gateVisits};
+ghost use Rattle.sweep_visits.specs.Renewed.{Led, Renewed, Swept};
 ghost use Rattle.sweep_turns.specs.Wakes.{OwnUnread, LineWoken, ChangesWoken, DrivenOnce};
-
-pub fn either(a: bool, b: bool) -> bool
-    ensures { λ r. ⌜ r ≡ (a || b) ⌝ }
-{
-    if a { true } else { b }
-}
-
-// Stores a sum at a place of its kind, and says whether another number stood there.
-pub fn store(numbers: &mut [u32], place: usize, sum: Sum) -> bool
-    requires { ⌜ StoreFits place sum (now numbers) ⌝ }
-    ensures { λ r. ⌜ Stored place (sumNumber sum) (now (numbers .entry)) (now (numbers .exit)) r ⌝ }
-{
-    let number = number_of(sum);
-    if numbers[place] == number {
-        return false;
-    }
-    numbers[place] = number;
-    true
-}
-
-// Whether no row sum is below a number: where lines are observed, the cost of the gate's output observed
-// is a term of each. A raw number above never is no cost yet: its visit makes one of it.
-fn lowest_already(role: usize, kind: usize, number: u32, observed: u32) -> bool
-    requires { ⌜ kind ≤ 1 ⌝ }
-    ensures { λ r. ⌜ (r ≡ true → (role ≡ 0 → ⊥) × (number ≤ observed) × (number ≤ never)) ⌝ }
-{
-    if role == SETTING {
-        return false;
-    }
-    if NEVER < number {
-        return false;
-    }
-    !is_lower(sum_of(kind, observed), sum_of(kind, number))
-}
-
-// Renews the number at a place by the row sums of a group, over the costs of its columns; whether it
-// changed. Sums that cannot be below the number are not taken.
-fn visit(
-    role: usize,
-    kind: usize,
-    library: &[u32],
-    group: usize,
-    wired: bool,
-    lines: &[u32; sizes::GATE_LINES],
-    costs: &[u32; sizes::COLUMNS],
-    numbers: &mut [u32],
-    place: usize,
-    pins: usize,
-) -> bool
-    requires { ⌜ VisitFits wired kind (now library) group (now costs) (now numbers) place pins ⌝ }
-    ensures { λ r.
-        ⌜ (CostsOf kind (now (library .entry)) group (now (lines .entry)) pins
-        (now (numbers .entry)) (now (costs .entry))
-        → Led role (getD (now (costs .entry)) (2 * pins + 2) 0) (now (numbers .entry))
-        (groupVisit wired kind (now (lines .entry)) pins (now (library .entry)) group place)
-        → Renewed
-        (groupVisit wired kind (now (lines .entry)) pins (now (library .entry)) group place)
-        (now (numbers .entry)) (now (numbers .exit)) r) ⌝ }
-{
-    if lowest_already(role, kind, numbers[place], costs[2 * pins + 2]) {
-        return false;
-    }
-    let least = least_of(wired, kind, library, group, lines, pins, costs);
-    let sum = lesser_of(numbers[place], least);
-    store(numbers, place, sum)
-}
 
 // Where a number of a line changed, wakes the gates that need it: where lines are set those that read
 // the line, where they are observed the one that drives it.

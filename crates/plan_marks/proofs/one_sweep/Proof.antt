@@ -9,8 +9,8 @@ use Rattle.sizes.specs.Sizes as Size
 use Rattle.reading.specs.Choice.{pick}
 use Rattle.plans.specs.Idle.{inTurn}
 use Rattle.sweep_groups.specs.Tables.{byRole}
-use Rattle.sweep_turns.specs.Order.{turnVisits}
-use Rattle.sweep_turns.proofs.Visits.{swept-length}
+use Rattle.sweep_visits.specs.Order.{turnVisits}
+use Rattle.sweep_visits.proofs.Visits.{swept-length}
 use Rattle.sweep_runs.specs.Asleep.{Resting}
 use Rattle.sweep_runs.specs.Order.{firstGates}
 use Rattle.sweep_runs.proofs.Asleep.{come, skipped, rests-on}

@@ -8,7 +8,7 @@ use borrow.Author.Needs.{needs}
 use borrow.Author.Tests.{not-true}
 use Rattle.sizes.specs.Sizes as Size
 use Rattle.plans.specs.Sweep.{Bounded}
-use Rattle.sweep_turns.proofs.Visits.{swept-length}
+use Rattle.sweep_visits.proofs.Visits.{swept-length}
 use Rattle.sweep_runs.specs.Asleep.{Resting}
 use Rattle.sweep_runs.proofs.Asleep.{all-rest}
 use Rattle.sweep_runs.proofs.FourRuns.{room, link-fits}

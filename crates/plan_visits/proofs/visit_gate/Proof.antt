@@ -6,7 +6,7 @@ use borrow.Author.Needs.{needs}
 use borrow.Author.Tests.{not-true, not-false}
 use Rattle.netlist_table.proofs.HeldGates.{line-at}
 use Rattle.sweep_groups.specs.Fits.{GateFits}
-use Rattle.sweep_turns.proofs.Visits.{swept-length}
+use Rattle.sweep_visits.proofs.Visits.{swept-length}
 use Rattle.plan_visits.proofs.Turns.{swept-bounded, traced-gate}
 use Rattle.plan_visits.proofs.Wakes.{nobody-woken, gate-woken}
 use Rattle.plan_visits.proofs.visit_gate.Statement.{statement}

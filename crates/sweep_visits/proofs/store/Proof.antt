@@ -7,8 +7,8 @@ use borrow.Author.Tests.{eq-eqb, ne-eqb}
 use borrow.Author.Needs.{needs}
 use Rattle.plans.specs.Sweep.{at}
 use Rattle.plans.proofs.Laws.{at-getD}
-use Rattle.sweep_turns.proofs.store.Statement.{statement}
-use Rattle.sweep_turns.proofs.store.Tie as tie
+use Rattle.sweep_visits.proofs.store.Statement.{statement}
+use Rattle.sweep_visits.proofs.store.Tie as tie
 
 returns : tie.Need-returns
 returns c =

@@ -21,9 +21,9 @@ use Rattle.calculation.proofs.Sweeps.{alters-lower, same-alters, changes-append
 use Rattle.netlist_table.specs.Gates.{gateCell, gateLines}
 use Rattle.sweep_groups.specs.Tables.{groupVisit, gatePins, byRole, visitGroup, visitPlace, visitWired, gateVisit}
 use Rattle.sweep_groups.proofs.Roles.{role-set, role-observed}
-use Rattle.sweep_turns.specs.Order.{gateOfTurn}
+use Rattle.sweep_visits.specs.Order.{gateOfTurn}
 use Rattle.plans.specs.Idle.{inTurn}
-use Rattle.sweep_turns.specs.Renewed.{Stored, Led, Renewed, Swept}
+use Rattle.sweep_visits.specs.Renewed.{Stored, Led, Renewed, Swept}
 
 -- ---- one number
 module _ (v : Visit) (xs : List ℕ) (inside : v .node < length xs) {number : ℕ} {ys : List ℕ} {changed : Bool} (s : Stored (v .node) number xs ys changed) where

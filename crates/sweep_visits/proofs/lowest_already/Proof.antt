@@ -9,8 +9,8 @@ use lib.Dec.{ltb}
 use Rattle.cost.specs.Cost.{never, counted}
 use Rattle.sweep_sums.specs.declared.Sum.{Sum}
 use Rattle.sweep_sums.specs.Sums.{Summed, sumNumber}
-use Rattle.sweep_turns.proofs.lowest_already.Statement.{statement}
-use Rattle.sweep_turns.proofs.lowest_already.Tie as tie
+use Rattle.sweep_visits.proofs.lowest_already.Statement.{statement}
+use Rattle.sweep_visits.proofs.lowest_already.Tie as tie
 
 not-lower : {kind observed number : ℕ} {a b : Sum} {r : Bool} → Summed kind observed a → Summed kind number b
     → r ≡ ltb (counted (sumNumber a)) (counted (sumNumber b)) → number ≤ never → not r ≡ true → number ≤ observed

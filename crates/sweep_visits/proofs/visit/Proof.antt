@@ -6,9 +6,9 @@ use lib.ListN.{length}
 use borrow.Author.Needs.{needs}
 use Rattle.sweep_groups.specs.Tables.{readRow, groupVisit}
 use Rattle.sweep_groups.proofs.Gathered.{group-same, read-narrow}
-use Rattle.sweep_turns.proofs.Visits.{visited, led-still}
-use Rattle.sweep_turns.proofs.visit.Statement.{statement}
-use Rattle.sweep_turns.proofs.visit.Tie as tie
+use Rattle.sweep_visits.proofs.Visits.{visited, led-still}
+use Rattle.sweep_visits.proofs.visit.Statement.{statement}
+use Rattle.sweep_visits.proofs.visit.Tie as tie
 
 abbrev began : tie.After-lowest-already → tie.Start
 began c = c .before .before .before .before .before
