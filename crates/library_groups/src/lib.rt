@@ -50,6 +50,7 @@ pub struct Passed {
     pub least: u32,
 }
 
+// A field that is no row: what stands before the next one, and whether a field so far is out of place.
 pub fn marked(p: Passed, before: u32, bad: bool) -> Passed
     ensures { λ r. ⌜ r ≡ marked p before bad ⌝ }
 {

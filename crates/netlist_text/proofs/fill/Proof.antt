@@ -38,7 +38,7 @@ returns c cells lib =
     let k = clears r in
     let s = begins k in
     whole-read _ (now (s .args .table)) _ (r .read-all .result) _ (r .read-all .ensures cells lib)
-    (ap (drop Size.netlist) (k .clear .ensures) ∙ cleared-past (now (s .args .table)) (s .pre .1)) (search needs)
+    (ap (drop Size.netlist) (k .clear .ensures) ∙ cleared-past (now (s .args .table)) (s .pre .1)) (c .enum-told .given .1)
 
 returns-2 : tie.Need-returns-2
 returns-2 c cells lib =
