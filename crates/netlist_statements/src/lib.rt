@@ -121,7 +121,7 @@ fn pins_from(line: &[u8], from: usize) -> Pins
     }
 }
 
-// A gate, from the field of its name on.
+// A gate, from the field of its name on. Its cell is looked for before its numbers are read (D162).
 fn gate_from(line: &[u8], at: usize, library: &[u32]) -> RawStatement
     ensures { λ r. ⌜ ((cells : List Cell) → CellsTold (now (library .entry)) cells
         → StandsFor r (gateOf cells (fieldsFrom (now (line .entry)) at))) ⌝ }
@@ -138,6 +138,7 @@ fn gate_from(line: &[u8], at: usize, library: &[u32]) -> RawStatement
     if n < next {
         return malformed();
     }
+    let cell = find(library, name);
     let f = field(line, next);
     let number = decimal(f);
     let Numeral::Value(l) = number else {
@@ -148,7 +149,7 @@ fn gate_from(line: &[u8], at: usize, library: &[u32]) -> RawStatement
     RawStatement {
         form: p.form,
         kind: netlist_table::GATE,
-        cell: find(library, name),
+        cell: cell,
         line: l,
         pins: pins,
         count: p.count,

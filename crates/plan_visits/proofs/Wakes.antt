@@ -16,7 +16,7 @@ use Rattle.sweep_awake.specs.Lines.{ReadersWoken}
 use Rattle.sweep_groups.specs.Tables.{byRole}
 use Rattle.sweep_visits.specs.Renewed.{Renewed, Swept}
 use Rattle.sweep_turns.specs.Wakes.{visitLine, NeedsByLine, ChangesWoken}
-use Rattle.sweep_turns.proofs.Wakes.{readers-woken, changes-none, changes-on}
+use Rattle.sweep_turns.proofs.Wakes.{readers-woken, changes-none, changes-first, changes-later}
 use Rattle.plan_visits.specs.Visits.{turnVisit}
 use Rattle.plan_visits.proofs.Turns.{swept-still}
 
@@ -40,8 +40,7 @@ module _ (kind : ℕ) (library netlist : List ℕ) where
       → ReadersWoken netlist (getD netlist 0 0) line awake after
       → ChangesWoken 0 kind library netlist awake xs after zs
   unfolding byRole pick
-  gate-woken needs g inside {awake} {after} {xs} {line = line} e f s r =
-      let again : ReadersWoken netlist (getD netlist 0 0) line after after = record { slept = λ t h. h; readers = r .readers; size = refl } in
-      changes-on 0 kind library netlist needs g 1 inside (omega arith)
-      (changes-on 0 kind library netlist needs g 0 inside (omega arith) (changes-none 0 kind library netlist awake xs) (one-renewed f) (readers-woken refl (rw (e ∙ line-is g 0) at r)))
-      (one-renewed s) (readers-woken refl (rw (e ∙ line-is g 1) at again))
+  gate-woken needs g inside {awake} {after} {xs} e f s r =
+      changes-later 0 kind library netlist needs g 1 inside (omega arith)
+      (changes-later 0 kind library netlist needs g 0 inside (omega arith) (changes-first 0 kind library netlist awake xs {changed = false}) (one-renewed f))
+      (one-renewed s) after (readers-woken refl (rw (e ∙ line-is g 0) at r))

@@ -25,7 +25,7 @@ abbrev named : tie.After-after → tie.Else2
 named c = c .before
 
 abbrev numbered : tie.After-decimal → tie.Else3
-numbered c = c .before .before
+numbered c = c .before .before .before
 
 abbrev told : tie.After-after2 → tie.After-decimal
 told c = c .before .before .before .before
@@ -84,7 +84,7 @@ returns-4 c cells lib =
 
 returns-5 : tie.Need-returns-5
 returns-5 c cells lib =
-    let p = c .before .before in
+    let p = c .before in
     let d = told (p .before) in
     let f = numbered d .before in
     let n = named f .before in
@@ -92,7 +92,7 @@ returns-5 c cells lib =
     let l = number .0 .0 in
     let from = p .before .after2 .ensures ∙ ap (nextAfter (line n) (f .after .result)) (d .before .field2 .ensures) in
     let cell =
-    c .find .ensures
+    d .before .before .find .ensures
     ∙ lib .named _
     ∙ ap (λ (x : List ℕ). cellNamed x cells) (n .before .field .ensures)
     in
@@ -117,11 +117,11 @@ gate-from-spec =
     returns-3
     (λ c κs. search needs)
     (λ c κs. search needs)
+    (λ c κs. search needs)
     (λ c. search needs)
     (λ c. search needs)
     (λ c κs. search needs)
     returns-4
-    (λ c κs. search needs)
     (λ c κs. search needs)
     (λ c κs. search needs)
     returns-5)
