@@ -1,6 +1,6 @@
 // Statements admitted into the netlist table: refusals 10 to 15 and 20 to 22. One statement over plain numbers is checked and
 // stored by its kind (crate `netlist_kinds`); what a line of text says is read by `netlist_text`, what a record says by
-// `analysis_records`.
+// `netlist_records`.
 //
 // For the crates above: `admit`, which checks a `RawStatement` and stores it, and behind all statements `undeclared` and
 // `some_undeclared`, which ask the table. netlist_table/specs/Admission.antt says what they come to.

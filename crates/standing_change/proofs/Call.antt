@@ -19,16 +19,12 @@ use Rattle.reading.specs.declared.Verdict.the-variants.{Accepted, Refused}
 use Rattle.reading.proofs.Laws.{or-left, or-right, weigh-one, refused-read, bind-read, then-read, done-read, done-refused}
 use Rattle.library_table.specs.Cells.{Cell}
 use Rattle.library_table.specs.Library.{library}
-use Rattle.library_table.specs.Layout.{libraryWords, CellsTold}
-use Rattle.library_table.proofs.Laws.{library-sound, sound-fits}
-use Rattle.library_table.proofs.Names.{holds-told}
+use Rattle.library_table.specs.Layout.{libraryWords}
+use Rattle.library_table.proofs.Laws.{library-sound}
 use Rattle.netlist_table.specs.declared.Rules.the-variants.{New}
-use Rattle.netlist_table.specs.Netlist.{Statement, netlist}
 use Rattle.netlist_table.specs.Layout.{netlistWords}
-use Rattle.netlist_table.proofs.Laws.{netlist-sound}
 use Rattle.netlist_table.proofs.Places.{length-netlistWords}
 use Rattle.netlist_table.proofs.Reread.{text-rereadable}
-use Rattle.netlist_text.specs.Reader.{Fills}
 use Rattle.calculation.specs.Growth.{grown}
 use Rattle.calculation.specs.Pads.{padded, State, statementsOf, placeable}
 use Rattle.calculation.specs.Stored.{Holds, Ready}
@@ -38,14 +34,15 @@ use Rattle.demands.proofs.Acceptance.{read-as}
 use Rattle.standing_table.specs.StandingTable.{padsHeld, stateHeld}
 use Rattle.standing_texts.specs.Held.{entered, foreign, heldBy}
 use Rattle.standing_calls.specs.Calls.{tableShort}
-use Rattle.standing_texts.specs.Parts.{PadsJudged, HeldRead}
+use Rattle.standing_texts.specs.Parts.{HeldRead}
 use Rattle.standing_texts.proofs.Texts.{done-both}
-use Rattle.standing_change.specs.Calls.{Change, readUnder, changed, changedBy, comes}
-use Rattle.standing_change.specs.Parts.{AgainFits, Again, ReadAgain, StateHeld, SomeState, Changes}
+use Rattle.standing_runs.specs.Parts.{readUnder, AgainFits, ReadAgain}
+use Rattle.standing_runs.proofs.Runs.{count-few}
+use Rattle.standing_change.specs.Calls.{Change, changed, changedBy, comes}
+use Rattle.standing_change.specs.Parts.{StateHeld, SomeState, Changes}
 use Rattle.standing_change.specs.Promise.{ChangePromised}
 use Rattle.standing_change.proofs.Promise.{promised}
 use Rattle.standing_change.proofs.NewNetlist.{stop, changes-refused, on-holds, again-read}
-use Rattle.standing_change.proofs.Runs.{count-few}
 
 -- ---- the netlist again
 
@@ -82,34 +79,6 @@ again-fits net library netlist table s =
       wide = omega (arith, ap length (h .statementsStand), length-append (netlistWords (statementsOf (s .state))) (h .past), length-netlistWords (statementsOf (s .state)));
       long = s .long;
     }
-
-module _ (net library before table : List ℕ) (v : Verdict) (after : List ℕ)
-    (ensures : (cells : List Cell) → CellsTold library cells → Fills (netlist New cells net) before v after) where
-  lines-read : (cells : List Cell) → HoldsCells library cells → Fills (netlist New cells net) before v after
-  lines-read cells h = ensures cells (holds-told library cells (record { past = h .past; words = h .stand; fits = sound-fits cells (h .sound) }))
-
-  pub again-stopped : (r : Refusal) → v ≡ Refused r → (cells : List Cell) → HoldsCells library cells → ReadAgain net library cells table after (verdictRead v)
-  unfolding verdictRead
-  again-stopped r e cells h =
-      let n = done-refused (netlist New cells net) (r .number) (r .line) (rw e at (lines-read cells h .answers)) in
-      rw (n, e) refl
-
-  pub again-marked : v ≡ Accepted → (said : Read (Unit {0})) (marked : List ℕ)
-      → ((cells : List Cell) (ss : List Statement) → Holds library after cells ss → PadsJudged library cells ss table marked said)
-      → (cells : List Cell) → HoldsCells library cells → ReadAgain net library cells table marked said
-  again-marked e said marked judged cells h =
-      done-read (netlist New cells net) (unfold verdictRead in rw e at (lines-read cells h .answers))
-      (λ ss n. subst (λ (x : Read (List Statement)). Again x library cells table marked said) (sym n) (judged cells ss (holds ss n)))
-    where
-      holds : (ss : List Statement) → netlist New cells net ≡ read ss → Holds library after cells ss
-      holds ss n =
-          record {
-            behind = h .past;
-            past = drop Size.netlist before;
-            cellsStand = h .stand;
-            statementsStand = lines-read cells h .filled ss n;
-            sound = record { library = h .sound; netlist = netlist-sound cells New net ss n };
-          }
 
 -- ---- the new library
 

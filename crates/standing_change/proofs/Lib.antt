@@ -1,4 +1,3 @@
-pub mod Runs
 pub mod NewNetlist
 pub mod Promise
 pub mod Call

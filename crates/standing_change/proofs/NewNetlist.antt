@@ -26,8 +26,9 @@ use Rattle.library_growth.specs.Held.{HoldsCells}
 use Rattle.standing_table.specs.StandingTable.{standingWords, padsHeld, stateHeld}
 use Rattle.standing_texts.specs.Held.{foreign}
 use Rattle.standing_texts.specs.Parts.{PadsJudged}
-use Rattle.standing_change.specs.Calls.{goneOn, Change, changeOf, readUnder, changed, answerOf, tableAfter}
-use Rattle.standing_change.specs.Parts.{Stores, lesserHeld, Again, ReadAgain, StateHeld, Changes}
+use Rattle.standing_runs.specs.Parts.{Stores, lesserHeld, readUnder, Again, ReadAgain}
+use Rattle.standing_change.specs.Calls.{goneOn, Change, changeOf, changed, answerOf, tableAfter}
+use Rattle.standing_change.specs.Parts.{StateHeld, Changes}
 
 -- One refusal, whatever was to be read.
 pub stop : {A B : Type 0} {number line : ℕ} (m k : ℕ) → _≡_ {A = Read A} (refused m k) (refused number line) → _≡_ {A = Read B} (refused m k) (refused number line)

@@ -11,8 +11,7 @@ use Rattle.reading.specs.Numbers as No
 use Rattle.reading.specs.Refusal.{Read, refused, read, _>>=_, _>>_, weigh}
 use Rattle.library_table.specs.Cells.{Cell}
 use Rattle.library_table.specs.Library.{library}
-use Rattle.netlist_table.specs.declared.Rules.the-variants.{New}
-use Rattle.netlist_table.specs.Netlist.{Statement, gatesOf, netlist}
+use Rattle.netlist_table.specs.Netlist.{Statement, gatesOf}
 use Rattle.calculation.specs.Runs.{lesserRuns}
 use Rattle.calculation.specs.Growth.{grown}
 use Rattle.calculation.specs.Pads.{State, statementsOf}
@@ -51,9 +50,6 @@ changeOf s more ss =
 -- Under the cells of the new library, and what the netlist comes to under them.
 unfoldable pub changed : State → List Cell → Read (List Statement) → Read Change
 changed s more r = r >>= λ ss. read (changeOf s more ss)
-
-abbrev pub readUnder : List Cell → List ℕ → Read (List Statement)
-readUnder cells net = netlist New cells net
 
 -- The new library, then the netlist under it.
 unfoldable pub changedBy : Given → State → Read Change

@@ -16,7 +16,8 @@ use Rattle.calculation.specs.Stored.{Ready}
 use Rattle.library_growth.specs.Held.{HoldsCells}
 use Rattle.standing_texts.proofs.Texts.{accepted-is, refused-is}
 use Rattle.standing_change.specs.Calls.{changedRead}
-use Rattle.standing_change.specs.Parts.{StateHeld, ReadAgain}
+use Rattle.standing_runs.specs.Parts.{ReadAgain}
+use Rattle.standing_change.specs.Parts.{StateHeld}
 use Rattle.standing_change.proofs.Call.{some-cells, on-ready, again-fits, again-ready}
 use Rattle.standing_change.proofs.NewNetlist.{on-holds, gone, again-refused, again-read, begun}
 use Rattle.standing_change.proofs.change_to.Statement.{statement}

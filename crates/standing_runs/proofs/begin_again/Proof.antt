@@ -8,10 +8,10 @@ use borrow.Author.Needs.{needs}
 use Rattle.sizes.specs.Sizes as Size
 use Rattle.calculation.specs.Calculation.{Analysed}
 use Rattle.standing_table.proofs.Slices.{ready-size}
-use Rattle.standing_change.specs.Parts.{Stores}
-use Rattle.standing_change.proofs.Runs.{begun-length, begun-whole}
-use Rattle.standing_change.proofs.begin_again.Statement.{statement}
-use Rattle.standing_change.proofs.begin_again.Tie as tie
+use Rattle.standing_runs.specs.Parts.{Stores}
+use Rattle.standing_runs.proofs.Runs.{begun-length, begun-whole}
+use Rattle.standing_runs.proofs.begin_again.Statement.{statement}
+use Rattle.standing_runs.proofs.begin_again.Tie as tie
 
 abbrev begins : tie.After-numbers → tie.Start
 begins c = c .before .before .before .before

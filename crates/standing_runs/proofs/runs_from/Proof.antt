@@ -10,8 +10,8 @@ use Rattle.sizes.specs.Sizes as Size
 use Rattle.calculation.specs.Stored.{Ready}
 use Rattle.sweep_reruns.specs.Kept.{GoneOn}
 use Rattle.standing_table.proofs.Slices.{part-is, ready-size}
-use Rattle.standing_change.proofs.runs_from.Statement.{statement}
-use Rattle.standing_change.proofs.runs_from.Tie as tie
+use Rattle.standing_runs.proofs.runs_from.Statement.{statement}
+use Rattle.standing_runs.proofs.runs_from.Tie as tie
 
 abbrev begins : tie.After-go-on-arg2 → tie.Start
 begins c = c .before .before .before .before .before

@@ -5,9 +5,9 @@ use borrow.Author.Needs.{needs}
 use Rattle.reading.specs.Verdict.{verdictRead}
 use Rattle.netlist_text.specs.Reader.{NoStatements}
 use Rattle.netlist_text.proofs.Walk.{cleared-none}
-use Rattle.standing_change.proofs.Call.{again-stopped, again-marked}
-use Rattle.standing_change.proofs.read_again.Statement.{statement}
-use Rattle.standing_change.proofs.read_again.Tie as tie
+use Rattle.standing_runs.proofs.Again.{again-stopped, again-marked}
+use Rattle.standing_runs.proofs.read_again.Statement.{statement}
+use Rattle.standing_runs.proofs.read_again.Tie as tie
 
 abbrev begins : tie.After-clear → tie.Start
 begins c = c .before .before .before .before .before .before

@@ -7,10 +7,10 @@ use borrow.Author.Needs.{needs}
 use Rattle.sizes.specs.Sizes as Size
 use Rattle.calculation.specs.Calculation.{Analysed}
 use Rattle.standing_table.proofs.Slices.{ready-size}
-use Rattle.standing_change.specs.Parts.{Stores}
-use Rattle.standing_change.proofs.Runs.{gone-length, gone-whole}
-use Rattle.standing_change.proofs.go_on_from.Statement.{statement}
-use Rattle.standing_change.proofs.go_on_from.Tie as tie
+use Rattle.standing_runs.specs.Parts.{Stores}
+use Rattle.standing_runs.proofs.Runs.{gone-length, gone-whole}
+use Rattle.standing_runs.proofs.go_on_from.Statement.{statement}
+use Rattle.standing_runs.proofs.go_on_from.Tie as tie
 
 abbrev begins : tie.After-numbers → tie.Start
 begins c = c .before .before .before .before .before

@@ -21,7 +21,7 @@ use Rattle.calculation.proofs.AnyNumbers.{lesser-runs}
 use Rattle.sweep_reruns.specs.Kept.{held, GoneOn}
 use Rattle.sweep_reruns.proofs.Kept.{held-length, held-bounded}
 use Rattle.standing_table.specs.StandingTable.{standingWords, padsHeld, analysisHeld}
-use Rattle.standing_change.specs.Parts.{Stores, lesserHeld}
+use Rattle.standing_runs.specs.Parts.{Stores, lesserHeld}
 
 module _ (table : List ℕ) (long : Size.standing ≤ length table) where
   room : Size.numbers ≤ length (drop Size.standingNumbers table)

@@ -4,9 +4,9 @@ use native.Mathlib.Omega.{arith}
 use denote.Ref.{now}
 use borrow.Author.Needs.{needs}
 use Rattle.calculation.specs.Stored.{whole}
-use Rattle.standing_change.proofs.Runs.{kept-stored}
-use Rattle.standing_change.proofs.put_kept.Statement.{statement}
-use Rattle.standing_change.proofs.put_kept.Tie as tie
+use Rattle.standing_runs.proofs.Runs.{kept-stored}
+use Rattle.standing_runs.proofs.put_kept.Statement.{statement}
+use Rattle.standing_runs.proofs.put_kept.Tie as tie
 
 abbrev begins : tie.After-wide → tie.Start
 begins c = c .before .before .before .before .before
