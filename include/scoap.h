@@ -44,18 +44,18 @@ extern "C" {
  * Stack that a thread should have left for the call. Most that was measured, in bytes, by how many lines the analyser
  * takes: of 1000 the published archive, of more those of make large:
  *   lines                1000     2000     4000     8000
- *   scoap_report       217584   343744   596000  1100496
+ *   scoap_report       217584   343712   595968  1100464
  *   scoap_plan         504552   918680  1746920  3403432
  *   scoap_cell           5008     5008     5008     5008
  *   scoap_built_in       6464     6464     6464     6464
- *   scoap_qualifies    150876   210892   330892   570892
- *   scoap_stand        217616   343776   596032  1100528
- *   scoap_ask          193536   295696   499952   908448
- *   scoap_commit       193456   295616   499872   908368
- *   scoap_change       301568   425856   674352  1171360
+ *   scoap_qualifies    150876   210876   330876   570876
+ *   scoap_stand        217616   343744   596000  1100496
+ *   scoap_ask          193536   295664   499920   908416
+ *   scoap_commit       193456   295584   499840   908336
+ *   scoap_change       301568   425824   674320  1171328
  *   scoap_best         256944   422944   754944  1418944
- *   scoap_advise       240528   389824   688320  1285328
- *   scoap_rank         240528   389824   688320  1285312
+ *   scoap_advise       240528   389792   688288  1285296
+ *   scoap_rank         240528   389792   688288  1285280
  */
 #define SCOAP_STACK 524288u
 
