@@ -42,20 +42,20 @@ extern "C" {
 
 /*
  * Stack that a thread should have left for the call. Most that was measured, in bytes, by how many lines the analyser
- * takes: of 1000 the published archive, of more those of make large:
- *   lines                1000     2000     4000     8000
- *   scoap_report       217584   343712   595968  1100464
- *   scoap_plan         504552   918680  1746920  3403432
- *   scoap_cell           5008     5008     5008     5008
- *   scoap_built_in       6464     6464     6464     6464
- *   scoap_qualifies    150876   210876   330876   570876
- *   scoap_stand        217616   343744   596000  1100496
- *   scoap_ask          193536   295664   499920   908416
- *   scoap_commit       193456   295584   499840   908336
- *   scoap_change       301568   425824   674320  1171328
- *   scoap_best         256944   422944   754944  1418944
- *   scoap_advise       240528   389792   688288  1285296
- *   scoap_rank         240528   389792   688288  1285280
+ * takes: of 1000 the published archive, of more those of make large, where a link has 32 bits from 8192 on:
+ *   lines                1000     2000     4000     8000    32767
+ *   scoap_report       217584   343712   595968  1100464  4945072
+ *   scoap_plan         504552   918680  1746920  3403432 14380936
+ *   scoap_cell           5008     5008     5008     5008     5008
+ *   scoap_built_in       6464     6464     6464     6464     6464
+ *   scoap_qualifies    150876   210876   330876   570876  2056892
+ *   scoap_stand        217616   343744   596000  1100496  4945104
+ *   scoap_ask          193536   295664   499920   908416  4158624
+ *   scoap_commit       193456   295584   499840   908336  4158544
+ *   scoap_change       301568   425824   674320  1171328  5690368
+ *   scoap_best         256944   422944   754944  1418944  5989008
+ *   scoap_advise       240528   389792   688288  1285296  6423504
+ *   scoap_rank         240528   389792   688288  1285280  6423504
  */
 #define SCOAP_STACK 524288u
 

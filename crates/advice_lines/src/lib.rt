@@ -177,7 +177,7 @@ fn left_by(netlist: &[u32], numbers: &[u32; sizes::NUMBERS]) -> Left
 fn try_line(
     library: &[u32],
     netlist: &[u32],
-    links: &[u16; sizes::LINKS],
+    links: &[sizes::Link; sizes::LINKS],
     numbers: &[u32; sizes::NUMBERS],
     l: u32,
 ) -> Left
@@ -208,7 +208,7 @@ fn better(found: Advice, l: u32, x: u32) -> Advice
 fn consider(
     library: &[u32],
     netlist: &[u32],
-    links: &[u16; sizes::LINKS],
+    links: &[sizes::Link; sizes::LINKS],
     numbers: &[u32; sizes::NUMBERS],
     barred: &[bool; sizes::LINE_PLACES],
     found: Advice,
@@ -231,7 +231,7 @@ fn consider(
 fn choose(
     library: &[u32],
     netlist: &[u32],
-    links: &[u16; sizes::LINKS],
+    links: &[sizes::Link; sizes::LINKS],
     numbers: &[u32; sizes::NUMBERS],
     barred: &[bool; sizes::LINE_PLACES],
 ) -> Advice
@@ -268,7 +268,7 @@ fn put_rank(table: &mut [u32], l: u32, nevers: u32, overs: u32, largest: u32, to
 fn rank_line(
     library: &[u32],
     netlist: &[u32],
-    links: &[u16; sizes::LINKS],
+    links: &[sizes::Link; sizes::LINKS],
     numbers: &[u32; sizes::NUMBERS],
     barred: &[bool; sizes::LINE_PLACES],
     table: &mut [u32],
@@ -296,7 +296,7 @@ fn rank_line(
 fn rank_lines(
     library: &[u32],
     netlist: &[u32],
-    links: &[u16; sizes::LINKS],
+    links: &[sizes::Link; sizes::LINKS],
     numbers: &[u32; sizes::NUMBERS],
     barred: &[bool; sizes::LINE_PLACES],
     table: &mut [u32],
@@ -323,7 +323,7 @@ fn rank_lines(
 fn analyse(
     library: &[u32],
     netlist: &[u32],
-    links: &mut [u16; sizes::LINKS],
+    links: &mut [sizes::Link; sizes::LINKS],
     numbers: &mut [u32; sizes::NUMBERS],
 )
     requires { ⌜ Holding (now library) (now netlist) × (now links ≡ replicate Size.links 0)
@@ -343,7 +343,7 @@ pub fn advise_on(library: &[u32], netlist: &[u32], forbidden: &[u32]) -> Advice
         → Holds (now (library .entry)) (now (netlist .entry)) cells ss
         → r ≡ advice cells ss (now (forbidden .entry))) ⌝ }
 {
-    let mut links = [0u16; sizes::LINKS];
+    let mut links: [sizes::Link; sizes::LINKS] = [0; sizes::LINKS];
     let mut numbers = [0u32; sizes::NUMBERS];
     analyse(library, netlist, &mut links, &mut numbers);
     let mut barred = [false; sizes::LINE_PLACES];
@@ -358,7 +358,7 @@ pub fn rank_on(library: &[u32], netlist: &[u32], forbidden: &[u32], table: &mut 
         → Holds (now (library .entry)) (now (netlist .entry)) cells ss
         → AllRanked cells ss (now (forbidden .entry)) (now (table .entry)) (now (table .exit)) r) ⌝ }
 {
-    let mut links = [0u16; sizes::LINKS];
+    let mut links: [sizes::Link; sizes::LINKS] = [0; sizes::LINKS];
     let mut numbers = [0u32; sizes::NUMBERS];
     analyse(library, netlist, &mut links, &mut numbers);
     let mut barred = [false; sizes::LINE_PLACES];

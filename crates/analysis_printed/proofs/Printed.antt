@@ -28,6 +28,7 @@ use Rattle.demands.specs.declared.Summary.{Summary}
 use Rattle.demands.specs.Answer.{answerRead}
 use Rattle.demands.specs.Demands.{Promised}
 use Rattle.demands.specs.Outcome as O
+use Rattle.demands.proofs.EntryChecks.{own-entry}
 use Rattle.demands.specs.Outcome.{Given, Lent, givenBy, givenTexts}
 use Rattle.demands.specs.Own.{ownTables}
 use Rattle.demands.specs.Printed.{reported, printed}
@@ -74,8 +75,7 @@ module _ (lib net before : List ℕ) where
   lent = ownTables before
 
   tables-long : O.entry given lent ≡ weigh 0 ((No.textLong, O.textLong lib || O.textLong net) ∷ [])
-  unfolding O.entry O.tableShort givenBy ownTables weigh pick
-  tables-long = refl
+  tables-long = own-entry _ lib net before
 
   outcome-reported : Size.reportBytes ≡ length before → reportsOf (O.outcome given lent) ≡ reported lib net
   unfolding O.outcome O.reading ownTables reported

@@ -22,6 +22,7 @@ use Rattle.demands.specs.Own.{ownTables}
 use Rattle.demands.proofs.Bounds.{pair-within, behind-entry}
 use Rattle.demands.proofs.Given.{texts-checked}
 use Rattle.demands.proofs.EntryChecks.{own-fit}
+use Rattle.demands.proofs.EntryChecks as Entry
 use Rattle.demands.proofs.Room.{entry-number, entry-short, pair-number}
 use Rattle.analysis_texts.specs.declared.Progress.{Progress}
 use Rattle.analysis_texts.specs.declared.Progress.the-variants.{Unrefused, AtEntry, Later}
@@ -104,8 +105,7 @@ module _ (lib net : List ℕ) where
 
   own-entry : O.entryBy (length lib) (length net) (length {A = ℕ} (replicate Size.library 0)) (length {A = ℕ} (replicate Size.netlist 0)) Size.numbers
       ≡ O.entry given (ownTables [])
-  unfolding O.entryBy O.entry O.tableShort O.givenBy O.textLong ownTables
-  own-entry = refl
+  own-entry = Entry.own-entry-by lib net ∙ sym (Entry.own-entry _ lib net [])
 
   module _ (library′ netlist′ : List ℕ) (s : Progress)
       (h : Reached given

@@ -1,7 +1,7 @@
 -- From the parts of the call to its promise.
 -- Assumes nothing.
-use mathlib.Core.Bool.{true, false, true≢false}
-use mathlib.Core.List.{List}
+use mathlib.Core.Bool.{true, false, true≢false, _||_}
+use mathlib.Core.List.{List, [], _∷_}
 use mathlib.Core.Path.{_≡_, refl, sym, ap, subst, _∙_}
 use Prim.Native.Nat.{ℕ, _≤_, _<_}
 use native.Mathlib.Omega.{arith}
@@ -19,6 +19,7 @@ use Rattle.netlist_table.specs.Netlist.{Statement}
 use Rattle.calculation.specs.Stored.{Holds}
 use Rattle.calculation.proofs.Laws.{within-budget}
 use Rattle.demands.specs.Outcome.{Pair, entryBy, textLong, givenTexts, readPair}
+use Rattle.demands.proofs.EntryChecks.{own-entry-by}
 use Rattle.demands.proofs.Given.{texts-checked}
 use Rattle.demands.proofs.Room.{pair-number}
 use Rattle.analysis_texts.specs.declared.Progress.{Progress}
@@ -103,8 +104,10 @@ module _ (lib net : List ℕ) (budget : ℕ) (before : List ℕ) where
     first = entryBy (length lib) (length net) (length {A = ℕ} (replicate Size.library 0)) (length {A = ℕ} (replicate Size.netlist 0)) Size.numbers
 
     first-is : first ≡ bestEntry lib net (length before)
-    unfolding entryBy bestEntry textLong weigh pick
-    first-is = rw (le-ltb (length before) Size.best room)
+    first-is = own-entry-by lib net ∙ best-is
+      where
+        best-is : weigh 0 ((No.textLong, textLong lib || textLong net) ∷ []) ≡ bestEntry lib net (length before)
+        best-is = unfold bestEntry weigh pick in rw (le-ltb (length before) Size.best room) refl
 
     module _ (library′ netlist′ : List ℕ) (s : Progress)
         (h : Reached (givenTexts lib net) first (replicate Size.library 0) (replicate Size.netlist 0) library′ netlist′ s) where

@@ -221,3 +221,11 @@ empty-queue =
   where
     cost : (i : ℕ) → i < Size.leaves → costAt (replicate Size.queue none) i ≡ never
     cost i h = cost-alike Size.queue none i (omega arith)
+
+-- The length is a variable, so that no list is computed.
+alike : (n : ℕ) {x y : ℕ} → x ≡ y → Empty (replicate n y) → Empty (replicate n x)
+alike n e h = rw e h
+
+-- The same of a key that is that of never.
+pub empty-key : {x : ℕ} → x ≡ none → Empty (replicate Size.queue x)
+empty-key e = alike Size.queue e empty-queue

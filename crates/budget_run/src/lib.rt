@@ -45,7 +45,7 @@ ghost use Rattle.budget_run.specs.Queued.{PricesFit, Priced, Unbegun, Ra
 fn offer_of(
     library: &[u32],
     netlist: &[u32],
-    links: &[u16; sizes::LINKS],
+    links: &[sizes::Link; sizes::LINKS],
     numbers: &[u32; sizes::NUMBERS],
     gate: usize,
     value: usize,
@@ -99,7 +99,7 @@ pub fn leaf_place(leaf: usize) -> usize
 fn refresh_value(
     library: &[u32],
     netlist: &[u32],
-    links: &[u16; sizes::LINKS],
+    links: &[sizes::Link; sizes::LINKS],
     numbers: &[u32; sizes::NUMBERS],
     queue: &mut [u64; sizes::QUEUE],
     gate: usize,
@@ -125,7 +125,7 @@ fn refresh_value(
 fn refresh_gate(
     library: &[u32],
     netlist: &[u32],
-    links: &[u16; sizes::LINKS],
+    links: &[sizes::Link; sizes::LINKS],
     numbers: &[u32; sizes::NUMBERS],
     queue: &mut [u64; sizes::QUEUE],
     gate: usize,
@@ -144,7 +144,7 @@ fn refresh_gate(
 fn refresh_all(
     library: &[u32],
     netlist: &[u32],
-    links: &[u16; sizes::LINKS],
+    links: &[sizes::Link; sizes::LINKS],
     numbers: &[u32; sizes::NUMBERS],
     queue: &mut [u64; sizes::QUEUE],
 )
@@ -160,13 +160,13 @@ fn refresh_all(
     }
 }
 
-fn place_of(x: u16) -> usize
+fn place_of(x: sizes::Link) -> usize
     ensures { λ r. ⌜ r ≡ x ⌝ }
 {
     x as usize
 }
 
-fn link_at(links: &[u16; sizes::LINKS], at: usize) -> usize
+fn link_at(links: &[sizes::Link; sizes::LINKS], at: usize) -> usize
     requires { ⌜ at < Size.links ⌝ }
     ensures { λ r. ⌜ r ≡ getD (now (links .entry)) at 0 ⌝ }
 {
@@ -188,7 +188,7 @@ fn gate_of(pin: usize) -> usize
 fn refresh_unless(
     library: &[u32],
     netlist: &[u32],
-    links: &[u16; sizes::LINKS],
+    links: &[sizes::Link; sizes::LINKS],
     numbers: &[u32; sizes::NUMBERS],
     queue: &mut [u64; sizes::QUEUE],
     gate: usize,
@@ -210,7 +210,7 @@ fn refresh_unless(
 fn refresh_readers(
     library: &[u32],
     netlist: &[u32],
-    links: &[u16; sizes::LINKS],
+    links: &[sizes::Link; sizes::LINKS],
     numbers: &[u32; sizes::NUMBERS],
     queue: &mut [u64; sizes::QUEUE],
     line: usize,
@@ -235,7 +235,7 @@ fn refresh_readers(
 fn one_step(
     library: &[u32],
     netlist: &[u32],
-    links: &[u16; sizes::LINKS],
+    links: &[sizes::Link; sizes::LINKS],
     numbers: &mut [u32; sizes::NUMBERS],
     queue: &mut [u64; sizes::QUEUE],
 ) -> u32
@@ -300,7 +300,7 @@ pub fn run(
         (now (netlist .entry)) cells ss
         → RanWithin cells ss budget (r .steps) (r .last) (now (numbers .exit)) (now (queue .exit))) ⌝ }
 {
-    let mut links = [0u16; sizes::LINKS];
+    let mut links: [sizes::Link; sizes::LINKS] = [0; sizes::LINKS];
     link(library, netlist, &mut links);
     let mut prices = [0u32; sizes::NUMBERS];
     start(netlist, &mut prices, LOW);

@@ -1,24 +1,51 @@
 -- The entry: what its two checks say of the lengths.
 -- Assumes nothing.
-use mathlib.Core.Bool.{false, _||_}
-use mathlib.Core.List.{List, []}
+use mathlib.Core.Bool.{Bool, false, _||_}
+use mathlib.Core.List.{List, [], _∷_}
 use mathlib.Core.Path.{_≡_, refl}
 use Prim.Native.Nat.{ℕ, _≤_}
-use borrow.Author.Tests.{ltb-false}
+use borrow.Author.Tests.{ltb-false, le-ltb}
 use lib.Dec.{ltb}
-use lib.ListN.{length}
+use native.Mathlib.Omega.{arith}
+use lib.ListN.{length, replicate, length-replicate}
 use Rattle.sizes.specs.Sizes as Size
 use Rattle.reading.specs.Numbers as No
-use Rattle.reading.specs.Refusal.{read}
+use Rattle.reading.specs.Choice.{pick}
+use Rattle.reading.specs.Refusal.{read, weigh}
 use Rattle.reading.proofs.Laws.{or-left, or-right, weigh-one}
 use Rattle.netlist_table.specs.declared.Rules.{Rules}
 use Rattle.demands.specs.Outcome.{Lent, entry, entryBy, givenBy, tableShort, textLong}
 use Rattle.demands.specs.Own.{ownTables}
 
--- Tables of a call's own have the published sizes.
+-- Tables of a call's own have the published sizes. The lengths are variables first, so that no list is computed.
+long : (n : ℕ) → ltb (length {A = ℕ} (replicate n 0)) n ≡ false
+long n = rw (length-replicate {A = ℕ} n 0) (le-ltb n n (omega arith))
+
+none-of : {a b c : Bool} → a ≡ false → b ≡ false → c ≡ false → (a || (b || c)) ≡ false
+none-of x y z = rw (x, y, z)
+
 pub own-fit : (report : List ℕ) → tableShort (ownTables report) ≡ false
 unfolding tableShort ownTables
-own-fit report = refl
+own-fit report = none-of (long Size.library) (long Size.netlist) (long Size.numbers)
+
+-- So the entry weighs the texts alone: with tables of the call's own, and by lengths.
+pub own-entry : (rules : Rules) (lib net report : List ℕ)
+    → entry (givenBy rules lib net) (ownTables report) ≡ weigh 0 ((No.textLong, textLong lib || textLong net) ∷ [])
+unfolding entry givenBy weigh pick
+own-entry rules lib net report = rw (own-fit report) refl
+
+by-long : (lib net library netlist numbers : ℕ) → ltb library Size.library ≡ false → ltb netlist Size.netlist ≡ false → ltb numbers Size.numbers ≡ false
+    → entryBy lib net library netlist numbers ≡ weigh 0 ((No.textLong, ltb Size.textBytes lib || ltb Size.textBytes net) ∷ [])
+unfolding entryBy weigh pick
+by-long lib net library netlist numbers x y z = rw (x, y, z) refl
+
+pub own-entry-by : (lib net : List ℕ)
+    → entryBy (length lib) (length net) (length {A = ℕ} (replicate Size.library 0)) (length {A = ℕ} (replicate Size.netlist 0)) Size.numbers
+    ≡ weigh 0 ((No.textLong, textLong lib || textLong net) ∷ [])
+unfolding textLong
+own-entry-by lib net =
+    by-long (length lib) (length net) (length {A = ℕ} (replicate Size.library 0)) (length {A = ℕ} (replicate Size.netlist 0)) Size.numbers
+    (long Size.library) (long Size.netlist) (le-ltb Size.numbers Size.numbers (omega arith))
 
 -- Of two texts the entry is weighed by their lengths.
 pub texts-entry : (rules : Rules) (lib net : List ℕ) (m : Lent)

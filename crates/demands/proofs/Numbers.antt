@@ -34,7 +34,7 @@ module _ {cells : List Cell} {ss : List Statement} (sound : BothSound cells ss) 
       let price = pricesOf ss in
       let figures = own-figures sound in
       record {
-        calculated = rw stand (take-at (analysed cells ss .numbers) rest Size.numbers (numbers-length cells ss sound price figures));
+        calculated = ap (λ (y : List ℕ). take Size.numbers y) stand ∙ take-at (analysed cells ss .numbers) rest Size.numbers (numbers-length cells ss sound price figures);
         settled = settled cells ss sound price figures;
         settledOnce = settled-once cells ss sound price figures;
         fewSweeps = few-sweeps cells ss sound price figures;

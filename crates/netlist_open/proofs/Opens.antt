@@ -3,7 +3,7 @@
 use mathlib.Core.Bool.{Bool, true, false, _||_}
 use mathlib.Core.List.{List, [], _∷_, _++_, append-nil, append-assoc}
 use mathlib.Core.Path.{_≡_, refl, sym, ap, fun-ext, _∙_}
-use Prim.Native.Nat.{ℕ, zero, suc, _+_, _*_, _≤_, _<_}
+use Prim.Native.Nat.{ℕ, zero, suc, _+_, _*_, _-_, _≤_, _<_}
 use native.Mathlib.Omega.{arith}
 use borrow.Author.Tests.{le-ltb}
 use lib.ListN.{length, drop, length-append, replicate, length-replicate}
@@ -41,7 +41,7 @@ use Rattle.analysis_texts.specs.declared.Progress.the-variants.{Unrefused, AtEn
 use Rattle.analysis_texts.specs.Progress.{Reached}
 use Rattle.demands.specs.Outcome.{entryBy, givenBy, readPair, textLong, reportOf}
 use Rattle.demands.proofs.Acceptance.{read-as}
-use Rattle.demands.proofs.EntryChecks.{entered}
+use Rattle.demands.proofs.EntryChecks.{entered, own-entry-by}
 use Rattle.demands.specs.Printed.{reported, printed}
 use Rattle.netlist_open.specs.Copied.{copyBytes, copied, copyPrinted, Accepted, Copied}
 
@@ -74,11 +74,11 @@ module _ (p : ℕ → Bool) where
 
   -- ---- their length
 
-  open-length : (l : ℕ) → l < 10000 → length (openLine l) ≤ 10
+  open-length : (l : ℕ) → l < Size.numbersEnd → length (openLine l) ≤ 6 + Size.numberDigits
   unfolding openLine bytes
-  open-length l h = simp length-append (omega (arith, decimal-below 3 l h))
+  open-length l h = simp length-append (omega (arith, decimal-below (Size.numberDigits - 1) l h))
 
-  opens-length : (n first : ℕ) → first + n ≤ 10000 → length (openLines (linesWhere p n first)) ≤ n * 10
+  opens-length : (n first : ℕ) → first + n ≤ Size.numbersEnd → length (openLines (linesWhere p n first)) ≤ n * (6 + Size.numberDigits)
   unfolding linesWhere openLines pick
   opens-length zero first h = omega arith
   opens-length (suc n) first h =
@@ -180,8 +180,7 @@ module _ (lib net : List ℕ) where
   first = entryBy (length lib) (length net) (length {A = ℕ} (replicate Size.library 0)) (length {A = ℕ} (replicate Size.netlist 0)) Size.numbers
 
   first-is : first ≡ weigh 0 ((No.textLong, textLong lib || textLong net) ∷ [])
-  unfolding entryBy textLong weigh pick
-  first-is = refl
+  first-is = own-entry-by lib net
 
   module _ (lib′ table : List ℕ) (said : Progress)
       (h : Reached (givenBy Old lib net) first (replicate Size.library 0) (replicate Size.netlist 0) lib′ table said) where

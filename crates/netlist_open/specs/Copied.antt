@@ -21,9 +21,9 @@ use Rattle.demands.specs.Printed.{printed}
 use Rattle.netlist_copy.specs.Copy.{copyOf}
 use Rattle.netlist_copy.specs.Kept.{Kept}
 
--- The bytes of the buffer, `COPY_BYTES`: the longest text, and ten for each line.
+-- The bytes of the buffer, `COPY_BYTES`: the longest text, and for each line its digits and six.
 abbrev pub copyBytes : ℕ
-copyBytes = Size.textBytes + Size.lines * 10
+copyBytes = Size.textBytes + Size.lines * (6 + Size.numberDigits)
 
 -- The copy, of whatever length, or the refusal by the old rules, 2 to 15: the texts are read in `scoap`'s order.
 unfoldable pub copied : List ℕ → List ℕ → Read (List ℕ)

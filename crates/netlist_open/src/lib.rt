@@ -20,7 +20,7 @@ ghost use Rattle.netlist_copy.specs.Copy.{openLine, openLines};
 ghost use Rattle.netlist_open.specs.Copied.{Copied};
 
 // The most bytes of a copy: those of a text, and a line `open,L` for each line.
-pub const COPY_BYTES: usize = sizes::TEXT_BYTES + sizes::LINES * 10;
+pub const COPY_BYTES: usize = sizes::TEXT_BYTES + sizes::LINES * (6 + sizes::NUMBER_DIGITS);
 
 const LINE_END: u8 = 10;
 

@@ -78,8 +78,12 @@ no-words : netlistWords [] ≡ replicate Size.netlist 0
 unfolding netlistWords lineParts blocks gatesOf flatMap
 no-words = zeros Size.lines (Size.gates * Size.gateWords) _ (no-gates (Size.gates * Size.gateWords))
 
+-- The lengths and the words are variables here too.
+cleared-as : (n m : ℕ) (before words : List ℕ) → m ≡ n → words ≡ replicate n 0 → _≡_ {A = List ℕ} (replicate m 0 ++ drop m before) (words ++ drop n before)
+cleared-as n m before words e w = rw (e, w)
+
 -- A table whose published size is cleared holds no statement.
 pub cleared-empty : (before : List ℕ) → Size.netlist ≤ length before
     → cleared Size.netlist before ≡ netlistWords [] ++ drop Size.netlist before
 unfolding cleared
-cleared-empty before h = let e : min Size.netlist (length before) ≡ Size.netlist = omega arith in rw (e, no-words)
+cleared-empty before h = cleared-as Size.netlist (min Size.netlist (length before)) before (netlistWords []) (omega arith) no-words

@@ -38,7 +38,7 @@ module _ (before : List ℕ) (long : Size.netlist ≤ length before) where
       (drop-at (netlistWords []) (drop Size.netlist before) Size.netlist (length-netlistWords []))
 
   pub cleared-none : NoStatements (cleared Size.netlist before)
-  cleared-none = cleared-empty before long ∙ ap (λ (past : List ℕ). netlistWords [] ++ past) (sym cleared-past)
+  cleared-none = record { words = cleared-empty before long ∙ ap (λ (past : List ℕ). netlistWords [] ++ past) (sym cleared-past) }
 
 -- ---- the walk
 
@@ -75,7 +75,7 @@ pub reading-start : (rules : Rules) (cells : List Cell) (text table : List ℕ) 
     → Reading rules cells text 0 1 table (drop Size.netlist table)
 unfolding textStatements
 reading-start rules cells text table none =
-    record { statements = []; rest = rw (linesFrom-start text); sound = sound-none cells; held = none }
+    record { statements = []; rest = rw (linesFrom-start text); sound = sound-none cells; held = none .words }
 
 module _ {rules : Rules} {cells : List Cell} {text : List ℕ} {at number : ℕ} {table past : List ℕ}
     (so-far : Reading rules cells text at number table past) where

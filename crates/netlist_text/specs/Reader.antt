@@ -27,8 +27,8 @@ netlistEntry text library table =
     ∷ [])
 
 -- A table that holds no statement: zero up to its published size.
-abbrev pub NoStatements : List ℕ → Type 0
-NoStatements table = table ≡ netlistWords [] ++ drop Size.netlist table
+pub record NoStatements (table : List ℕ) : Type 0 where
+  pub words : table ≡ netlistWords [] ++ drop Size.netlist table
 
 -- What a reading answers, and leaves in the table where nothing is refused; what a refusal leaves is the caller's to clear.
 pub record Fills (o : Read (List Statement)) (before : List ℕ) (verdict : Verdict) (after : List ℕ) : Type 0 where

@@ -55,23 +55,24 @@ module _ (kind : ℕ) (library netlist : List ℕ) where
   visits-count : length run-visits ≡ 2 * getD netlist 0 0
   visits-count = gates-length kind library netlist (getD netlist 0 0)
 
-  -- At the start nothing is marked.
-  abbrev no-marks : List (Option Mark)
-  no-marks = replicate Size.numbers none
-
-  unmarked : (n : ℕ) → markAt no-marks n ≡ none
+  -- At the start nothing is marked. The lengths are variables, so that no list is computed.
+  unmarked : (k n : ℕ) → markAt (replicate k none) n ≡ none
   unfolding markAt
-  unmarked n = place (decLt n Size.numbers)
+  unmarked k n = place (decLt n k)
     where
-      place : Dec (n < Size.numbers) → getD no-marks n none ≡ none
-      place (yes h) = getD-replicate Size.numbers n none none h
-      place (no h) = List·getD-eq-default no-marks none {n = n} (rw (length-replicate {A = Option Mark} Size.numbers none) (omega arith))
+      place : Dec (n < k) → getD (replicate {A = Option Mark} k none) n none ≡ none
+      place (yes h) = getD-replicate k n none none h
+      place (no h) = List·getD-eq-default (replicate {A = Option Mark} k none) none {n = n} (rw (length-replicate {A = Option Mark} k none) (omega arith))
 
-  none-noted : (n l v : ℕ) → 1 ≤ l → l ≤ Size.lines → v ≤ 1 → NotedAs kind library netlist (markAt no-marks n) l v (replicate Size.marks 0)
+  none-noted : (k m n l v : ℕ) → markPlace l v + 2 < m → NotedAs kind library netlist (markAt (replicate k none) n) l v (replicate m 0)
   unfolding NotedAs
-  none-noted n l v a b c =
-      rw (unmarked n)
-      (record { visit = getD-replicate Size.marks (markPlace l v) 0 0 (omega arith); columns = getD-replicate Size.marks (markPlace l v + 2) 0 0 (omega arith) })
+  none-noted k m n l v h =
+      rw (unmarked k n)
+      (record { visit = getD-replicate m (markPlace l v) 0 0 (omega arith); columns = getD-replicate m (markPlace l v + 2) 0 0 h })
+
+  noted-none : (k m n l v : ℕ) {marks : List ℕ} → marks ≡ replicate m 0 → markPlace l v + 2 < m
+      → NotedAs kind library netlist (markAt (replicate k none) n) l v marks
+  noted-none k m n l v e h = rw e (none-noted k m n l v h)
 
   pub begins : (numbers marks : List ℕ) → numbers ≡ linesStart false netlist Size.lines 1 → marks ≡ replicate Size.marks 0
       → Stands kind library netlist (after 0) numbers marks × (after 0 .time ≡ 0)
@@ -81,7 +82,7 @@ module _ (kind : ℕ) (library netlist : List ℕ) where
         record {
           numbersAre = e;
           long = length-replicate {A = Option Mark} (length (linesStart false netlist Size.lines 1)) none ∙ long;
-          noted = λ l v a b c. rw (m, long) (none-noted (settingPlace kind l v) l v a b c);
+          noted = λ l v a b c. noted-none (length (linesStart false netlist Size.lines 1)) Size.marks (settingPlace kind l v) l v m (omega arith);
         },
         refl,
       )

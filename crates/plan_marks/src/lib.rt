@@ -34,7 +34,7 @@ fn one_sweep(
     kind: usize,
     library: &[u32],
     netlist: &[u32],
-    links: &[u16; sizes::LINKS],
+    links: &[sizes::Link; sizes::LINKS],
     clock: u32,
     numbers: &mut [u32; sizes::NUMBERS],
     marks: &mut [u32; sizes::MARKS],
@@ -83,7 +83,7 @@ pub fn trace(kind: usize, library: &[u32], netlist: &[u32], marks: &mut [u32; si
         (now (marks .exit))) ⌝ }
 {
     let gates = unchecked::count(netlist);
-    let mut links = [0u16; sizes::LINKS];
+    let mut links: [sizes::Link; sizes::LINKS] = [0; sizes::LINKS];
     link(library, netlist, &mut links);
     let mut numbers = [0u32; sizes::NUMBERS];
     start(netlist, &mut numbers, LOW);

@@ -3,7 +3,7 @@
 use mathlib.Core.Bool.{Bool}
 use mathlib.Core.List.{List, [], _∷_, _++_}
 use mathlib.Core.Path.{_≡_, refl, ap}
-use Prim.Native.Nat.{ℕ, zero, suc, _+_, _*_, _-_, _^_, _≤_, _<_}
+use Prim.Native.Nat.{ℕ, zero, suc, _+_, _*_, _-_, _^_, _≤_, _<_, min}
 use native.Mathlib.Omega.{arith}
 use lib.Dec.{leb, ltb, eqb}
 use lib.ListN.{length, getD, length-append}
@@ -107,13 +107,21 @@ numbers-then (suc n) more l =
     let same : l + suc n ≡ suc l + n = omega arith in
     rw (one, same) (omega (arith, numbers-then n more (suc l)))
 
+-- The numbers of four digits among the lines, and those of five.
+abbrev fours : ℕ
+fours = min 9000 (Size.lines - 999)
+
+abbrev fives : ℕ
+fives = Size.lines - 999 - fours
+
 -- The decades one after the other.
 lines-digits : numbersLength Size.lines 1 ≤ lineDigits
 lines-digits =
     let ones = numbers-then 9 (Size.lines - 9) 1 in
     let tens = numbers-then 90 (Size.lines - 99) 10 in
     let hundreds = numbers-then 900 (Size.lines - 999) 100 in
-    omega (arith, ones, tens, hundreds, decade 0 9 1 (omega arith), decade 1 90 10 (omega arith), decade 2 900 100 (omega arith), decade 3 (Size.lines - 999) 1000 (omega arith))
+    let thousands = numbers-then fours fives 1000 in
+    omega (arith, ones, tens, hundreds, thousands, decade 0 9 1 (omega arith), decade 1 90 10 (omega arith), decade 2 900 100 (omega arith), decade 3 fours 1000 (omega arith), decade 4 fives (1000 + fours) (omega arith))
 
 report-digits : (m : ℕ → Bool) (ns : List ℕ) (k : Counts) (digits : ℕ) → length (decimalBytes (k .cc)) ≤ digits → length (decimalBytes (k .sc)) ≤ digits
     → length (decimalBytes (k .co)) ≤ digits → length (decimalBytes (k .so)) ≤ digits → length (reportBytes m ns k) ≤ headerBytes + lineDigits + Size.lines * behindNumber + sweepsBeside + 4 * digits
@@ -121,10 +129,9 @@ unfolding reportBytes header sweepsBytes bytes
 report-digits m ns k digits cc sc co so = simp length-append (omega (arith, lines-length m ns Size.lines 1, lines-digits))
 
 count-digits : (x : ℕ) → x ≤ mostSweeps → length (decimalBytes x) ≤ sweepDigits
-count-digits x h = by-test (ltb x 10000) (λ t. decimal-four (ltb-true x 10000 t)) (λ t. omega (arith, ltb-false x 10000 t, decimal-below 4 x (omega arith)))
-  where
-    decimal-four : x < 10000 → length (decimalBytes x) ≤ sweepDigits
-    decimal-four b = omega (arith, decimal-below 3 x b)
+count-digits x h =
+    by-test (ltb x Size.numbersEnd) (λ t. omega (arith, decimal-below (Size.numberDigits - 1) x (ltb-true x Size.numbersEnd t)))
+    (λ t. omega (arith, ltb-false x Size.numbersEnd t, decimal-below Size.numberDigits x (omega arith)))
 
 -- "With G gates, CC and SC take at most 2G + 1 sweeps each, CO and SO at most G + 1".
 pub report-length : (m : ℕ → Bool) (ns : List ℕ) (k : Counts) (gates : ℕ) → gates ≤ Size.gates → FewSweeps gates k → length (reportBytes m ns k) ≤ longestReport

@@ -47,16 +47,17 @@ reportBytes mentioned numbers k = header ++ (linesBytes mentioned numbers Size.l
 unfoldable pub highLine : List ℕ
 highLine = bytes "high" ++ (10 ∷ [])
 
--- The digits of all line numbers, of a size from 1,000 to 9,999 lines: four each, but that 9 have one, 90 two and 900 three.
+-- The digits of all line numbers: as many each as the highest has, but that from 0 on 10 have one, 100 at most two, and so on:
+-- of 1,000 to 9,999 lines that is 1,111 less.
 abbrev pub lineDigits : ℕ
-lineDigits = 4 * Size.lines - 1107
+lineDigits = Size.numberDigits * (Size.lines + 1) - (Size.numbersEnd - 1) / 9
 
--- The digits of the highest count of sweeps, of such a size: four, and a fifth from 10,000 on.
+-- The digits of the highest count of sweeps: those of the highest line, and one more from the first number on that has more.
 abbrev pub mostSweeps : ℕ
 mostSweeps = 2 * Size.gates + 1
 
 abbrev pub sweepDigits : ℕ
-sweepDigits = 4 + mostSweeps / 10000
+sweepDigits = Size.numberDigits + mostSweeps / Size.numbersEnd
 
 -- What stands behind the number of a line: each cost of nine digits at most behind its comma, and the line's end.
 abbrev pub behindNumber : ℕ

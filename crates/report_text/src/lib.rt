@@ -6,7 +6,7 @@
 // Open to others: `put_report` and `put_high`, for every input.
 ghost use mathlib.Core.Path.{_≡_};
 ghost use mathlib.Core.List.{[], _∷_, _++_};
-ghost use Prim.Native.Nat.{_+_};
+ghost use Prim.Native.Nat.{_+_, _<_};
 ghost use Rattle.sizes.specs.Sizes as Size;
 ghost use Rattle.reading.specs.Choice.{pick};
 ghost use Rattle.netlist_table.specs.Lines.{highestMentioned};
@@ -55,24 +55,27 @@ fn put_costs(report: &mut [u8], at: usize, numbers: &[u32], place: u32) -> usize
 }
 
 // The line whose numbers are a row of the table: the rows count from 0, the lines from 1.
-fn put_line(report: &mut [u8], at: usize, numbers: &[u32], row: u16) -> usize
+fn put_line(report: &mut [u8], at: usize, numbers: &[u32], row: u32) -> usize
+    requires { ⌜ row < Size.lines ⌝ }
     ensures { λ r.
         ⌜ Put at (lineBytes (now (numbers .entry)) (row + 1)) (now (report .entry))
         (now (report .exit)) r ⌝ }
 {
-    let costs = put_decimal(report, at, row as u32 + 1);
-    let end = put_costs(report, costs, numbers, row as u32 * COSTS);
+    let costs = put_decimal(report, at, row + 1);
+    let end = put_costs(report, costs, numbers, row * COSTS);
     put_byte(report, end, LINE_END)
 }
 
 // Whether the netlist table mentions the row's line.
-fn mentioned(netlist: &[u32], row: u16) -> bool
+fn mentioned(netlist: &[u32], row: u32) -> bool
+    requires { ⌜ row < Size.lines ⌝ }
     ensures { λ r. ⌜ r ≡ marked (now (netlist .entry)) (row + 1) ⌝ }
 {
-    lines::mentioned(netlist, row as u32 + 1)
+    lines::mentioned(netlist, row + 1)
 }
 
-fn put_row(report: &mut [u8], at: usize, netlist: &[u32], numbers: &[u32], row: u16) -> usize
+fn put_row(report: &mut [u8], at: usize, netlist: &[u32], numbers: &[u32], row: u32) -> usize
+    requires { ⌜ row < Size.lines ⌝ }
     ensures { λ r.
         ⌜ Put at (pick (marked (now (netlist .entry)) (row + 1))
         (lineBytes (now (numbers .entry)) (row + 1)) []) (now (report .entry))
@@ -86,10 +89,10 @@ fn put_row(report: &mut [u8], at: usize, netlist: &[u32], numbers: &[u32], row: 
 }
 
 // The highest line that the netlist table mentions.
-fn last_line(netlist: &[u32]) -> u16
+fn last_line(netlist: &[u32]) -> u32
     ensures { λ r. ⌜ r ≡ highestMentioned (now (netlist .entry)) ⌝ }
 {
-    lines::highest(netlist) as u16
+    lines::highest(netlist) as u32
 }
 
 // The lines that the netlist table mentions. Of those past the highest there is nothing to print, and they are not asked for.

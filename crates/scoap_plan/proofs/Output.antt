@@ -23,13 +23,13 @@ use Rattle.files.proofs.Output.{prints-outputs, put-outputs, long-shown, either
 use Rattle.plan_arguments.specs.declared.Arguments.{Arguments}
 use Rattle.plan_arguments.specs.declared.Arguments.the-variants.{Plan, Usage}
 use Rattle.plan_arguments.specs.Arguments.{usage}
+use Rattle.demands.proofs.EntryChecks.{own-entry}
 use Rattle.scoap_plan.specs.Output.{planShown, planOutput, PlanOutputs}
 
 -- ---- the plan
 
 entry-own : (lib net before : List ℕ) → O.entry (givenTexts lib net) (ownTables before) ≡ weigh 0 ((No.textLong, textLong lib || textLong net) ∷ [])
-unfolding O.entry O.tableShort givenBy ownTables weigh pick
-entry-own lib net before = refl
+entry-own lib net before = own-entry _ lib net before
 
 pub plan-long : (line value kind : ℕ) → LongRefused (planShown line value kind)
 unfolding planShown planPrinted planOutcome

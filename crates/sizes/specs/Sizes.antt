@@ -22,6 +22,13 @@ lines = 1000
 abbrev pub gates : ℕ
 gates = lines
 
+-- The digits of the highest line, and the first number that has more.
+abbrev pub numberDigits : ℕ
+numberDigits = 4
+
+abbrev pub numbersEnd : ℕ
+numbersEnd = 10000
+
 -- "A library has at most 32 entries"
 abbrev pub cells : ℕ
 cells = 32

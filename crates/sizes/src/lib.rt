@@ -16,6 +16,11 @@ pub const LINES: usize = 1000;
 
 pub const GATES: usize = LINES;
 
+// The digits of the highest line, and the first number that has more.
+pub const NUMBER_DIGITS: usize = 4;
+
+pub const NUMBERS_END: usize = 10000;
+
 // "A library has at most 32 entries", each with a name of at most 8 bytes and at most 8 pins; "1 to 16
 // rows" a group, each of "1 to 7 digits", in an entry that begins with Name3 "up to 8"; "Decimal fields have 1 to 5 digits".
 pub const CELLS: usize = 32;
@@ -141,6 +146,9 @@ pub const WORD_BITS: usize = 64;
 pub const AWAKE_WORDS: usize = GATES / WORD_BITS + 1;
 
 // ---- the links of crate `sweep_links`
+
+// What a link is: it tells a pin of a gate, or a gate, and there are eight pins to a gate.
+pub type Link = u16;
 
 // A number for each line, and one for each pin of each gate. Both count from 1: place 0 is for none.
 pub const LINE_PLACES: usize = 1 + LINES;

@@ -25,6 +25,7 @@ use Rattle.demands.specs.Demands.{PairRead, Promised}
 use Rattle.demands.specs.Outcome.{Given, Lent, entry, outcome, answer, reading, left, leftFrom, leftLater, filled, summary}
 use Rattle.demands.specs.Outcome as O
 use Rattle.demands.proofs.Acceptance.{concluded, Accepts, accepts}
+use Rattle.demands.proofs.EntryChecks.{own-fit}
 use Rattle.demands.proofs.Given.{Checked}
 use Rattle.demands.proofs.Room.{pair-sound, entry-number, later-number, longest-most}
 use Rattle.demands.specs.Own.{ownTables}
@@ -52,8 +53,8 @@ module _ (g : Given) (checks : Checked g) (before report : List ℕ) where
     m = ownTables report
 
     entry-is : entered (tableShort before) g ≡ entry g m
-    unfolding entered entry O.tableShort ownTables
-    entry-is = rw long
+    unfolding entered entry
+    entry-is = rw (long, own-fit report)
 
     answers-so : told ≡ answer (standing g before report)
     unfolding standing weigh pick _>>_

@@ -74,14 +74,18 @@ pub fn next_awake(awake: &[u64; sizes::AWAKE_WORDS], from: usize, end: usize) ->
 
 // ---- the gates that read a line
 
-fn place_of(x: u16) -> usize
+fn place_of(x: sizes::Link) -> usize
     ensures { λ r. ⌜ r ≡ x ⌝ }
 {
     x as usize
 }
 
 // Wakes every gate that has a line among its pins.
-pub fn wake_readers(awake: &mut [u64; sizes::AWAKE_WORDS], links: &[u16; sizes::LINKS], line: usize)
+pub fn wake_readers(
+    awake: &mut [u64; sizes::AWAKE_WORDS],
+    links: &[sizes::Link; sizes::LINKS],
+    line: usize,
+)
     requires { ⌜ ReadersFit (now links) line (now awake) ⌝ }
     ensures { λ _.
         ⌜ ((netlist : List ℕ) (gates : ℕ) → Chained netlist gates (now (links .entry))
@@ -99,7 +103,7 @@ pub fn wake_readers(awake: &mut [u64; sizes::AWAKE_WORDS], links: &[u16; sizes::
 // Wakes the gate that drives a line, if one does, by its turn in reverse order.
 pub fn wake_driver(
     awake: &mut [u64; sizes::AWAKE_WORDS],
-    links: &[u16; sizes::LINKS],
+    links: &[sizes::Link; sizes::LINKS],
     gates: usize,
     line: usize,
 )

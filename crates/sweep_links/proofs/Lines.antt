@@ -6,7 +6,7 @@ use mathlib.Core.Path.{_≡_, refl, sym, ap, _∙_}
 use Prim.Native.Nat.{ℕ, _+_, _-_, _≤_, _<_}
 use native.Mathlib.Decide.{ℕ-discrete}
 use native.Mathlib.Omega.{arith}
-use lib.ListN.{length, getD, set, length-set, length-replicate, getD-replicate}
+use lib.ListN.{length, getD, set, replicate, length-set, length-replicate, getD-replicate}
 use lib.Seq.{getD-set-same, getD-set-other}
 use Rattle.sizes.specs.Sizes as Size
 use Rattle.reading.specs.Choice.{pick}
@@ -148,12 +148,16 @@ kept-then k m =
 
 -- ---- what `link` comes to
 
+-- A place of an array that is all 0. The length is a variable, so that no list is computed.
+at-none : (n : ℕ) {links : List ℕ} → links ≡ replicate n 0 → (p : ℕ) → p < n → getD links p 0 ≡ 0
+at-none n e p h = rw e (getD-replicate n p 0 0 h)
+
 module _ {netlist : List ℕ} {gates : ℕ} (counted : gates ≡ getD netlist 0 0) where
   pub chain-fits : {library links : List ℕ} → LinkFits library netlist links → PartFits Size.readersAt netlist gates links
   chain-fits f =
       record {
         linesStand = rw counted (f .linesStand);
-        none = λ l h. rw (f .none) (getD-replicate Size.links (Size.readersAt + l) 0 0 (omega arith));
+        none = λ l h. at-none Size.links (f .none) (Size.readersAt + l) (omega arith);
         size = ap length (f .none) ∙ length-replicate {A = ℕ} Size.links 0;
       }
 
@@ -162,7 +166,7 @@ module _ {netlist : List ℕ} {gates : ℕ} (counted : gates ≡ getD netlist 0 
       record {
         linesStand = rw counted (f .linesStand);
         none = λ l h.
-            k .above (Size.driversAt + l) (omega arith) ∙ rw (f .none) (getD-replicate Size.links (Size.driversAt + l) 0 0 (omega arith));
+            k .above (Size.driversAt + l) (omega arith) ∙ at-none Size.links (f .none) (Size.driversAt + l) (omega arith);
         size = k .size ∙ ap length (f .none) ∙ length-replicate {A = ℕ} Size.links 0;
       }
 

@@ -29,7 +29,7 @@ fn line_of(netlist: &[u32], gate: usize, i: usize) -> usize
 
 // Puts each pin of a gate in front of those before it that read the same line. A gate has eight places, and a place
 // without a pin has line 0; so the compiler needs no test between them.
-fn chain_gate(netlist: &[u32], gate: usize, links: &mut [u16; sizes::LINKS])
+fn chain_gate(netlist: &[u32], gate: usize, links: &mut [sizes::Link; sizes::LINKS])
     requires { ⌜ GateFits (now netlist) gate (now links) ⌝ }
     ensures chained { λ _. ⌜ Chained (now (netlist .entry)) (gate + 1) (now (links .exit)) ⌝ }
     ensures kept { λ _.
@@ -41,12 +41,12 @@ fn chain_gate(netlist: &[u32], gate: usize, links: &mut [u16; sizes::LINKS])
         let line = line_of(netlist, gate, pin - before + 1);
         pin += 1;
         links[sizes::NEXT_AT + pin] = links[sizes::READERS_AT + line];
-        links[sizes::READERS_AT + line] = pin as u16;
+        links[sizes::READERS_AT + line] = pin as sizes::Link;
     }
 }
 
 // Lays the chains of the pins that read the same line, one gate after the other.
-fn chain(netlist: &[u32], gates: usize, links: &mut [u16; sizes::LINKS])
+fn chain(netlist: &[u32], gates: usize, links: &mut [sizes::Link; sizes::LINKS])
     requires { ⌜ PartFits Size.readersAt (now netlist) gates (now links) ⌝ }
     ensures chained { λ _. ⌜ Chained (now (netlist .entry)) gates (now (links .exit)) ⌝ }
     ensures kept { λ _.
@@ -60,7 +60,7 @@ fn chain(netlist: &[u32], gates: usize, links: &mut [u16; sizes::LINKS])
 }
 
 // Notes for each line the gate that drives it, from 1; 0 where none does.
-fn note_drivers(netlist: &[u32], gates: usize, links: &mut [u16; sizes::LINKS])
+fn note_drivers(netlist: &[u32], gates: usize, links: &mut [sizes::Link; sizes::LINKS])
     requires { ⌜ PartFits Size.driversAt (now netlist) gates (now links) ⌝ }
     ensures driven { λ _. ⌜ Driven (now (netlist .entry)) gates (now (links .exit)) ⌝ }
     ensures kept { λ _.
@@ -70,18 +70,23 @@ fn note_drivers(netlist: &[u32], gates: usize, links: &mut [u16; sizes::LINKS])
     while gate < gates {
         let line = line_of(netlist, gate, 0);
         gate += 1;
-        links[sizes::DRIVERS_AT + line] = gate as u16;
+        links[sizes::DRIVERS_AT + line] = gate as sizes::Link;
     }
 }
 
-fn told(b: bool) -> u16
+fn told(b: bool) -> sizes::Link
     ensures { λ r. ⌜ r ≡ pick b 1 0 ⌝ }
 {
     if b { 1 } else { 0 }
 }
 
 // Notes for each gate whether its CC and SC rows are read as those of one wire.
-fn note_tied(library: &[u32], netlist: &[u32], gates: usize, links: &mut [u16; sizes::LINKS])
+fn note_tied(
+    library: &[u32],
+    netlist: &[u32],
+    gates: usize,
+    links: &mut [sizes::Link; sizes::LINKS],
+)
     requires { ⌜ NoteFits (now library) (now netlist) gates (now links) ⌝ }
     ensures tied { λ _.
         ⌜ Tied (now (library .entry)) (now (netlist .entry)) gates (now (links .exit)) ⌝ }
@@ -99,7 +104,7 @@ fn note_tied(library: &[u32], netlist: &[u32], gates: usize, links: &mut [u16; s
 }
 
 // Whether a gate's CC and SC rows are read as those of one wire.
-pub fn is_tied(links: &[u16; sizes::LINKS], gate: usize) -> bool
+pub fn is_tied(links: &[sizes::Link; sizes::LINKS], gate: usize) -> bool
     requires { ⌜ gate < Size.gates ⌝ }
     ensures { λ r.
         ⌜ ((library netlist : List ℕ) (gates : ℕ)
@@ -113,7 +118,7 @@ pub fn is_tied(links: &[u16; sizes::LINKS], gate: usize) -> bool
 }
 
 // Makes the links of a netlist in an array that is all 0.
-pub fn link(library: &[u32], netlist: &[u32], links: &mut [u16; sizes::LINKS])
+pub fn link(library: &[u32], netlist: &[u32], links: &mut [sizes::Link; sizes::LINKS])
     requires { ⌜ LinkFits (now library) (now netlist) (now links) ⌝ }
     ensures { λ _.
         ⌜ Links (now (library .entry)) (now (netlist .entry)) (now (links .exit)) ⌝ }

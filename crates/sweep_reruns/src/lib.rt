@@ -76,7 +76,7 @@ pub fn observe_anew(
         (now (netlist .entry)) cells ss → ObservedAnew cells ss (now (standing .entry))
         (now (numbers .exit)) r) ⌝ }
 {
-    let mut links = [0u16; sizes::LINKS];
+    let mut links: [sizes::Link; sizes::LINKS] = [0; sizes::LINKS];
     link(library, netlist, &mut links);
     start(netlist, numbers, LOW);
     keep_numbers(standing, numbers, sizes::OBSERVED_AT);
@@ -97,7 +97,7 @@ pub fn go_on(
         (now (netlist .entry)) cells ss → GoneOn cells ss (now (standing .entry))
         (now (numbers .exit)) r) ⌝ }
 {
-    let mut links = [0u16; sizes::LINKS];
+    let mut links: [sizes::Link; sizes::LINKS] = [0; sizes::LINKS];
     link(library, netlist, &mut links);
     keep_numbers(standing, numbers, sizes::COSTS);
     let set = set_lines(library, netlist, &links, numbers);
@@ -115,7 +115,7 @@ pub fn go_on(
 pub fn try_pad(
     library: &[u32],
     netlist: &[u32],
-    links: &[u16; sizes::LINKS],
+    links: &[sizes::Link; sizes::LINKS],
     numbers: &mut [u32; sizes::NUMBERS],
     line: u32,
 ) -> u32

@@ -67,7 +67,7 @@ fn one_sweep(
     kind: usize,
     library: &[u32],
     netlist: &[u32],
-    links: &[u16; sizes::LINKS],
+    links: &[sizes::Link; sizes::LINKS],
     numbers: &mut [u32],
     awake: &mut [u64; sizes::AWAKE_WORDS],
 ) -> bool
@@ -100,7 +100,7 @@ pub fn run(
     kind: usize,
     library: &[u32],
     netlist: &[u32],
-    links: &[u16; sizes::LINKS],
+    links: &[sizes::Link; sizes::LINKS],
     numbers: &mut [u32],
     awake: &mut [u64; sizes::AWAKE_WORDS],
 ) -> u32
@@ -123,7 +123,7 @@ fn run_all(
     kind: usize,
     library: &[u32],
     netlist: &[u32],
-    links: &[u16; sizes::LINKS],
+    links: &[sizes::Link; sizes::LINKS],
     numbers: &mut [u32],
 ) -> u32
     requires { ⌜ FreshFits role kind (now library) (now netlist) (now links) (now numbers) ⌝ }
@@ -147,7 +147,7 @@ pub struct Sweeps {
 pub fn set_lines(
     library: &[u32],
     netlist: &[u32],
-    links: &[u16; sizes::LINKS],
+    links: &[sizes::Link; sizes::LINKS],
     numbers: &mut [u32],
 ) -> Sweeps
     requires { ⌜ HalfFits (now library) (now netlist) (now links) (now numbers) ⌝ }
@@ -168,7 +168,7 @@ pub fn set_lines(
 pub fn observe_lines(
     library: &[u32],
     netlist: &[u32],
-    links: &[u16; sizes::LINKS],
+    links: &[sizes::Link; sizes::LINKS],
     numbers: &mut [u32],
 ) -> Sweeps
     requires { ⌜ HalfFits (now library) (now netlist) (now links) (now numbers) ⌝ }
@@ -207,7 +207,7 @@ fn four_runs(library: &[u32], netlist: &[u32], numbers: &mut [u32], high: bool) 
         (now (netlist .entry)) cells ss
         → whole r (now (numbers .exit)) ≡ analysedAt (pricesAt high ss) cells ss) ⌝ }
 {
-    let mut links = [0u16; sizes::LINKS];
+    let mut links: [sizes::Link; sizes::LINKS] = [0; sizes::LINKS];
     link(library, netlist, &mut links);
     start(netlist, numbers, high);
     let set = set_lines(library, netlist, &links, numbers);

@@ -1,4 +1,5 @@
 -- `advise` reads both texts, and lays the advice into the answer. Assumes nothing.
+use mathlib.Core.Path.{refl}
 use denote.Ref.{now}
 use Rattle.demands.specs.Outcome.{givenTexts}
 use Rattle.demands.proofs.Given.{texts-checked}
@@ -49,7 +50,7 @@ advise-spec =
     (tie.spec
     (λ c. search needs)
     (λ c. search needs)
-    (λ c κs. search needs)
+    (λ c κs. record { cells = refl; statements = refl })
     (λ c. search needs)
     (λ c. search needs)
     (λ c. search needs)

@@ -1,4 +1,5 @@
 -- `rank` reads both texts, and lays the ranks into the table. Assumes nothing.
+use mathlib.Core.Path.{refl}
 use denote.Ref.{now}
 use Rattle.sizes.specs.Sizes as Size
 use Rattle.demands.specs.Outcome.{givenTexts}
@@ -51,7 +52,7 @@ rank-spec =
     (tie.spec
     (λ c. search needs)
     (λ c. search needs)
-    (λ c κs. search needs)
+    (λ c κs. record { cells = refl; statements = refl })
     (λ c. search needs)
     (λ c. search needs)
     (λ c. search needs)

@@ -1,7 +1,10 @@
 -- `advise_on` tries pads from the numbers of one analysis. Assumes nothing.
+use mathlib.Core.Path.{refl}
+use Prim.Native.Nat.{ℕ}
+use lib.ListN.{length-replicate}
 use denote.Ref.{now}
+use Rattle.sizes.specs.Sizes as Size
 use Rattle.advice_lines.proofs.Lines.{barred-none}
-use borrow.Author.Needs.{needs}
 use Rattle.advice_lines.proofs.advise_on.Statement.{statement}
 use Rattle.advice_lines.proofs.advise_on.Tie as tie
 
@@ -20,7 +23,7 @@ pub advise-on-spec : {M : Type 1} → statement M
 advise-on-spec =
     tie.close
     (tie.spec
-    (λ c κs. search needs)
+    (λ c κs. (c .before .before .before .before .before .pre, refl, length-replicate {A = ℕ} Size.numbers 0))
     (λ c κs. barred-none)
     (λ c κs.
     let b = barred c in

@@ -1,7 +1,8 @@
 -- `try_line` lays the numbers of the analysis, tries the pad and adds up what it leaves. Assumes nothing.
-use mathlib.Core.Path.{_≡_, refl}
+use mathlib.Core.Path.{_≡_}
+use Prim.Native.Nat.{ℕ}
 use native.Mathlib.Omega.{arith}
-use lib.ListN.{replicate}
+use lib.ListN.{replicate, length-replicate}
 use denote.Ref.{now}
 use Rattle.sizes.specs.Sizes as Size
 use Rattle.advice_lines.proofs.PadCosts.{stands-long, laid-whole, try-fits, left-leaves}
@@ -22,7 +23,7 @@ tried c = c .before .before
 
 -- The array holds the numbers of the analysis.
 whole : (c : tie.After-hand-over) → c .hand-over .last .1 .0 ≡ now (began (c .before) .args .numbers)
-whole c = laid-whole (began (c .before) .pre .stands) (replicate Size.numbers 0) (c .hand-over .last .1 .0) refl (c .hand-over .ensures)
+whole c = laid-whole (began (c .before) .pre .stands) (replicate Size.numbers 0) (c .hand-over .last .1 .0) (length-replicate {A = ℕ} Size.numbers 0) (c .hand-over .ensures)
 
 returns : tie.Need-returns
 returns c cells ss s said free =

@@ -62,23 +62,40 @@ returns-4 c =
     call-made (now (a .lib)) (now (a .net)) (a .budget) (now (a .best)) (f .if1 .left) _ _ (k .read-texts .result) (k .read-texts .ensures) (search needs)
     _ (z .fill .result) (z .fill .ensures)
 
+-- ---- what is left to search for, each by itself: together it would take more steps than one declaration may
+
+slice-library : tie.Need-slice-aggregate-read-texts
+slice-library c = search needs
+
+slice-netlist : tie.Need-slice-aggregate-read-texts-2
+slice-netlist c = search needs
+
+known : tie.Need-enum-known-progress
+known c = search needs
+
+known-2 : tie.Need-enum-known-progress-2
+known-2 c = search needs
+
+clear-requires : tie.Need-clear-requires
+clear-requires c κs = search needs
+
+told : tie.Need-enum-told
+told c = search needs
+
+fill-library : tie.Need-slice-aggregate-fill
+fill-library c = search needs
+
+fill-netlist : tie.Need-slice-aggregate-fill-2
+fill-netlist c = search needs
+
+same-length : tie.Need-same-length
+same-length c = search needs
+
+same-length-2 : tie.Need-same-length-2
+same-length-2 c = search needs
+
 pub best-within-spec : {M : Type 1} → statement M
 best-within-spec =
     tie.close
-    (tie.spec
-    returns
-    (λ c. search needs)
-    (λ c. search needs)
-    (λ c κs. (refl, refl))
-    (λ c. search needs)
-    (λ c. search needs)
-    (λ c κs. search needs)
-    (λ c. search needs)
-    (λ c. search needs)
-    (λ c. search needs)
-    fill-requires
-    returns-2
-    (λ c. search needs)
-    returns-3
-    (λ c. search needs)
-    returns-4)
+    (tie.spec returns slice-library slice-netlist (λ c κs. (refl, refl)) known known-2 clear-requires told fill-library fill-netlist fill-requires returns-2
+    same-length returns-3 same-length-2 returns-4)

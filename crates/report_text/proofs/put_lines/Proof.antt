@@ -66,7 +66,7 @@ put-lines-spec =
     μ-loop
     (λ c κs. search needs)
     loop-holds
-    (λ c κs. search needs)
+    (λ c κs. omega (arith, highest-few (begun (c .before .before) .args .netlist .now)))
     (λ c. omega arith)
     (λ c. omega arith)
     loop-again

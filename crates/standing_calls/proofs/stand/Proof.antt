@@ -64,23 +64,46 @@ returns-3 c =
     told-accepted (given s) (texts-checked _ _) (now (a .standing)) (now (a .report)) (is-long (now (a .standing)) (f .if1 .left)) _ (n .analyse-into .result)
     (n .analyse-into .ensures) (x .answer2 .given .0 .0) (search needs) _ (k .put-standing .ensures)
 
+-- ---- what is left to search for, each by itself: together it would take more steps than one declaration may
+
+refusal-requires : tie.Need-refusal-requires
+refusal-requires c κs = search needs
+
+slice-library : tie.Need-slice-aggregate-analyse-into
+slice-library c = search needs
+
+slice-netlist : tie.Need-slice-aggregate-analyse-into-2
+slice-netlist c = search needs
+
+slice-numbers : tie.Need-slice-aggregate-analyse-into-3
+slice-numbers c = search needs
+
+known : tie.Need-enum-known-answer
+known c = search needs
+
+clear-requires : tie.Need-clear-later-requires
+clear-requires c κs = search needs
+
+known-2 : tie.Need-enum-known-answer-2
+known-2 c = search needs
+
+put-requires : tie.Need-put-standing-requires
+put-requires c κs = (omega arith, fits (analyses (accepts c .before .before)) .if1 .left, search needs)
+
+same-length : tie.Need-same-length
+same-length c = search needs
+
+same-length-2 : tie.Need-same-length-2
+same-length-2 c = search needs
+
+same-length-3 : tie.Need-same-length-3
+same-length-3 c = search needs
+
+same-length-4 : tie.Need-same-length-4
+same-length-4 c = search needs
+
 pub stand-spec : {M : Type 1} → statement M
 stand-spec =
     tie.close
-    (tie.spec
-    (λ c κs. search needs)
-    returns
-    (λ c. search needs)
-    (λ c. search needs)
-    (λ c. search needs)
-    (λ c κs. (refl, refl))
-    (λ c. search needs)
-    (λ c κs. search needs)
-    (λ c. search needs)
-    (λ c κs. (omega arith, fits (analyses (accepts c .before .before)) .if1 .left, search needs))
-    (λ c. search needs)
-    (λ c. search needs)
-    returns-2
-    (λ c. search needs)
-    (λ c. search needs)
-    returns-3)
+    (tie.spec refusal-requires returns slice-library slice-netlist slice-numbers (λ c κs. (refl, refl)) known clear-requires known-2 put-requires
+    same-length same-length-2 returns-2 same-length-3 same-length-4 returns-3)

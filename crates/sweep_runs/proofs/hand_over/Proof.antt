@@ -22,13 +22,17 @@ loop-again c =
     let l = c .before .before .loop in
     (omega arith, simp length-set (l .inv .1), ap (λ (z : List ℕ). set z (l .i) (getD (s .args .found .now) (l .i) 0)) (l .inv .2) ∙ copy-next (s .args .found .now) (s .args .numbers .now) (l .i) (omega arith) (omega arith))
 
+-- The length is a variable, so that no list is computed.
+all-laid : (n i : ℕ) (found before after : List ℕ) → i ≡ n → length found ≤ n → after ≡ take i found ++ drop i before → after ≡ found ++ drop n before
+all-laid n i found before after e b h = h ∙ rw (e, take-all n found b) refl
+
 returns : tie.Need-returns Inv-loop μ-loop
 returns c =
     let s = c .before .before in
     let l = c .before .loop in
     let e : l .i ≡ Size.numbers = omega arith in
     let b : length (s .args .found .now) ≤ Size.numbers = omega arith in
-    rw (take-all Size.numbers (s .args .found .now) b) at (rw e at (l .inv .2))
+    all-laid Size.numbers (l .i) (s .args .found .now) (s .args .numbers .now) _ e b (l .inv .2)
 
 pub hand-over-spec : {M : Type 1} → statement M
 hand-over-spec =
