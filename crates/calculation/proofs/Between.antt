@@ -23,7 +23,7 @@ use Rattle.calculation.specs.Acceptance.{BothSound}
 use Rattle.calculation.specs.Calculation.{startAt, stages, analysedAt}
 use Rattle.calculation.specs.Settled.{inOrder}
 use Rattle.calculation.specs.LinePlans.{Plan, Plan.input, Plan.row, Plan.output, Plan.through, Plans, Plans.done, Plans.also, costAt, costsAt}
-use Rattle.calculation.specs.Between.{numberAt, AnalysisAt, Between}
+use Rattle.calculation.specs.Between.{numberAt, AnalysisAt, Between, costEach, costsEach, BetweenEach, EachWithin, ExactEach}
 use Rattle.calculation.proofs.Places.{Placed, node-injective, firstNumber, start-length, start-at}
 use Rattle.calculation.proofs.Prices.{within-ends, low-within, high-within, within-figures}
 use Rattle.calculation.proofs.Visits.{Has, sets-has, observes-has, Visiting, visiting-node, visiting-more, setting-from, observing-from}
@@ -48,6 +48,22 @@ module _ {cells : List Cell} {ss : List Statement} {k : Kind} (low high : Pricin
     costs-rise : {g : Gate} {cs : List Column} (ds : Plans cells ss k g cs) → costsAt low ds ≤ costsAt high ds
     costs-rise done = omega arith
     costs-rise (also p ps) = omega (arith, cost-rises p, costs-rise ps)
+
+-- The same where each value has its own price.
+module _ {cells : List Cell} {ss : List Statement} (low high : Pricing) (price : ℕ → ℕ → ℕ)
+    (within : (l v : ℕ) → isInput l ss ≡ true → (low l ≤ price l v) × (price l v ≤ high l)) where
+  mutual
+    unfolding costAt costEach inputCost
+
+    each-within : {p : Purpose} (d : Plan cells ss combinational p) → (costAt low d ≤ costEach price d) × (costEach price d ≤ costAt high d)
+    each-within (input {l = l} {v = v} h e) = within l v e
+    each-within (row g m e r q u ps) = (omega (arith, alls-within ps .0), omega (arith, alls-within ps .1))
+    each-within (output e) = (omega arith, omega arith)
+    each-within (through g m i b h e r q ps) = (omega (arith, alls-within ps .0), omega (arith, alls-within ps .1))
+
+    alls-within : {g : Gate} {cs : List Column} (ds : Plans cells ss combinational g cs) → (costsAt low ds ≤ costsEach price ds) × (costsEach price ds ≤ costsAt high ds)
+    alls-within done = (omega arith, omega arith)
+    alls-within (also p ps) = (omega (arith, each-within p .0, alls-within ps .0), omega (arith, each-within p .1, alls-within ps .1))
 
 -- ---- the runs of SC and SO
 
@@ -169,4 +185,18 @@ module _ (cells : List Cell) (ss : List Statement) (sound : BothSound cells ss) 
         same =
             le-antisymm (number-rises sequential price (lowPrice ss) f low (λ l e. le-refl 0))
             (number-rises sequential (lowPrice ss) price low f (λ l e. le-refl 0));
+      }
+
+  -- And where the two values of an input have prices of their own.
+  pub between-each : (price : ℕ → ℕ → ℕ) → EachWithin ss price → (x : ℕ) → ExactEach price cells ss p x → BetweenEach cells ss p x
+  between-each price w x e =
+      let low : Figures (lowPrice ss) ss = within-figures sound (lowPrice ss) (low-within sound) in
+      let high : Figures (highPrice ss) ss = within-figures sound (highPrice ss) (high-within sound) in
+      let lies = each-within (lowPrice ss) (highPrice ss) price (λ l v i. within-ends sound (λ m. price m v) (w v) l i) in
+      let atLow = exact cells ss sound (lowPrice ss) low combinational p placed in
+      let atHigh = exact cells ss sound (highPrice ss) high combinational p placed in
+      record {
+        above = stands-least (λ d. costEach price d) (λ d. costAt (lowPrice ss) d) (λ d. (d, lies d .0)) _ _ e atLow;
+        below = stands-least (λ d. costAt (highPrice ss) d) (λ d. costEach price d) (λ d. (d, lies d .1)) _ _ atHigh e;
+        bothNever = (λ n. atLow .isNever .1 (e .isNever .0 n), λ n. e .isNever .1 (atLow .isNever .0 n));
       }

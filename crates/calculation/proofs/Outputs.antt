@@ -51,7 +51,7 @@ mixed-at p i (x ∷ xs) (y ∷ ys) e (suc n) =
 
 -- ---- where CC and SC look
 
-abbrev Setting : ℕ → Type 0
+abbrev pub Setting : ℕ → Type 0
 Setting n = n % Size.costs < Size.observedAt
 
 -- All but SO: where CO looks.
@@ -215,6 +215,11 @@ module _
         let d : runSC xs .count ≡ runSC ys .count = sym (same-sc .0) in
         rw (e, c, d)
 
+    -- The values are the same.
+    pub values-same : (n : ℕ) → Setting n → at (runsFrom cells gs ys .numbers) n ≡ at (runsFrom cells gs xs .numbers) n
+    unfolding runsFrom
+    values-same n p = values-stand ys b n p ∙ sym (same-sc .1 .same n p) ∙ sym (values-stand xs a n p)
+
     -- A start that is nowhere higher comes to no higher number.
     pub falls : ((n : ℕ) → at ys n ≤ at xs n) → Under (runsFrom cells gs ys .numbers) (runsFrom cells gs xs .numbers)
     unfolding runsFrom
@@ -360,6 +365,13 @@ module _ (cells : List Cell) (ss ts : List Statement) (old : BothSound cells ss)
       (falls cells (gatesOf ss) (startAt price ss) (startAt price ts) within-old within-new (setting-looks cells ss old) (observing-apart cells ss old)
       (start-alike price ss ts (added .inputs))
       (λ m. unfold startAt in lines-below price ss ts (added .inputs) (added .outputs) Size.lines 1 m) .below n)
+
+  -- An output more changes no CC and no SC.
+  pub outputs-values : (n : ℕ) → Setting n → at (analysedAt price cells ts .numbers) n ≡ at (analysedAt price cells ss .numbers) n
+  outputs-values n p =
+      rw (← new-runs, analysed-runs price cells ss)
+      (values-same cells (gatesOf ss) (startAt price ss) (startAt price ts) within-old within-new (setting-looks cells ss old) (observing-apart cells ss old)
+      (start-alike price ss ts (added .inputs)) n p)
 
   -- One output more, at a place that was never: CO run from the numbers that stand with 0 there comes to the CO of the new
   -- analysis, in however few sweeps.

@@ -4,6 +4,7 @@ use mathlib.Core.Bool.{true, false, not, _&&_, _||_, and-assoc}
 use mathlib.Core.List.{List, [], _∷_, _++_, map, map-append, append-nil, append-assoc}
 use mathlib.Core.Path.{_≡_, sym, _∙_, ap, subst}
 use Prim.Native.Nat.{ℕ, _≤_}
+use native.Mathlib.Omega.{arith}
 use borrow.Author.Tests.{not-true, not-false}
 use Rattle.reading.specs.Choice.{pick}
 use Rattle.reading.proofs.Laws.{by-test, and-left, and-right, or-left, or-right}
@@ -13,12 +14,13 @@ use Rattle.netlist_table.specs.Netlist.{Statement, mark, output, mentioned, isO
 use Rattle.netlist_table.proofs.Pad.{pad-gates, pad-inputs, pad-outputs, pad-prices, pad-declared, pad-sound}
 use Rattle.calculation.specs.Acceptance.{BothSound}
 use Rattle.calculation.specs.Added.{OutputsAdded}
+use Rattle.calculation.specs.Nodes.{combinational, sequential, set, node}
 use Rattle.calculation.specs.Prices.{Pricing, Figures, pricesOf}
 use Rattle.calculation.specs.Calculation.{analysedAt, analysed}
 use Rattle.calculation.specs.Runs.{observedAnew}
-use Rattle.calculation.specs.Pads.{padded, State, statementsOf, fresh, unpaddable, takesNone, stale, placeable, placed, Operation, ask, commit, step, steps, AsNew, AllStand}
+use Rattle.calculation.specs.Pads.{padded, State, statementsOf, fresh, unpaddable, takesNone, stale, placeable, placed, Operation, ask, commit, step, steps, AsNew, AllStand, PadsValues}
 use Rattle.calculation.proofs.Prices.{own-figures}
-use Rattle.calculation.proofs.Outputs.{outputs-analysed, outputs-lower}
+use Rattle.calculation.proofs.Outputs.{Setting, outputs-analysed, outputs-lower, outputs-values}
 
 module _ (cells : List Cell) (ss : List Statement) (l : ℕ) (old : BothSound cells ss) (said : mentioned l ss ≡ true) (free : isOutput l ss ≡ false) where
   abbrev ts : List Statement
@@ -43,6 +45,12 @@ module _ (cells : List Cell) (ss : List Statement) (l : ℕ) (old : BothSound ce
   lowers n =
       subst (λ (price : Pricing). at (analysedAt price cells ts .numbers) n ≤ at (analysed cells ss .numbers) n) (sym (pad-prices ss l))
       (outputs-lower cells ss ts old both-sound pad-added (pricesOf ss) (own-figures old) pad-figures n)
+
+  -- A pad changes no CC and no SC.
+  pub values-kept : (n : ℕ) → Setting n → at (analysed cells ts .numbers) n ≡ at (analysed cells ss .numbers) n
+  values-kept n p =
+      subst (λ (price : Pricing). at (analysedAt price cells ts .numbers) n ≡ at (analysed cells ss .numbers) n) (sym (pad-prices ss l))
+      (outputs-values cells ss ts old both-sound pad-added (pricesOf ss) (own-figures old) pad-figures n p)
 
 -- ---- every list of asks and commits
 
@@ -92,6 +100,22 @@ placeable-sound cells ss [] both h = unfold padded in rw append-nil both
 placeable-sound cells ss (l ∷ ls) both h =
     let p = placed-first ss l ls h in
     rw (padded-first ss l ls) at (placeable-sound cells (ss ++ (mark output l ∷ [])) ls (both-sound cells ss l both (taken-said ss l (p .0)) (taken-free ss l (p .0))) (p .1))
+
+-- Nor do pads one after the other.
+values-pads : (cells : List Cell) (ss : List Statement) (ls : List ℕ) → BothSound cells ss → placeable ss ls ≡ true → (n : ℕ) → Setting n
+    → at (analysed cells (padded ss ls) .numbers) n ≡ at (analysed cells ss .numbers) n
+values-pads cells ss [] both h n p = unfold padded in rw append-nil
+values-pads cells ss (l ∷ ls) both h n p =
+    let q = placed-first ss l ls h in
+    let said = taken-said ss l (q .0) in
+    let free = taken-free ss l (q .0) in
+    (rw (padded-first ss l ls) at (values-pads cells (ss ++ (mark output l ∷ [])) ls (both-sound cells ss l both said free) (q .1) n p))
+    ∙ values-kept cells ss l both said free n p
+
+pub pads-values : PadsValues
+unfolding node
+pads-values cells ss pads both h combinational l v b = values-pads cells ss pads both h (node combinational (set l v)) (omega arith)
+pads-values cells ss pads both h sequential l v b = values-pads cells ss pads both h (node sequential (set l v)) (omega arith)
 
 pub placeable-declared : (cells : List Cell) (ss : List Statement) (ls : List ℕ) → BothSound cells ss → placeable ss ls ≡ true → undeclaredLines (padded ss ls) ≡ undeclaredLines ss
 placeable-declared cells ss [] both h = unfold padded in ap undeclaredLines (append-nil ss)

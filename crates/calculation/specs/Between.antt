@@ -5,16 +5,17 @@
 use mathlib.Core.List.{List}
 use mathlib.Core.Logic.{_↔_}
 use mathlib.Core.Path.{_≡_}
-use Prim.Native.Nat.{ℕ, _≤_}
+use Prim.Native.Nat.{ℕ, _+_, _≤_}
 use lib.ListN.{length, getD}
 use Rattle.cost.specs.Cost.{never}
-use Rattle.library_table.specs.Cells.{Cell}
-use Rattle.netlist_table.specs.Netlist.{Statement, gatesOf, lowPrice, highPrice}
+use Rattle.plans.specs.Exact.{Stands}
+use Rattle.library_table.specs.Cells.{Cell, Column}
+use Rattle.netlist_table.specs.Netlist.{Gate, Statement, gatesOf, lowPrice, highPrice}
 use Rattle.calculation.specs.Nodes.{Kind, combinational, sequential, Purpose, node}
-use Rattle.calculation.specs.Prices.{Pricing}
+use Rattle.calculation.specs.Prices.{Pricing, WithinRanges}
 use Rattle.calculation.specs.Calculation.{Analysed, analysedAt}
 use Rattle.calculation.specs.Settled.{SettledAt, FewSweeps}
-use Rattle.calculation.specs.LinePlans.{ExactAt}
+use Rattle.calculation.specs.LinePlans.{Plan, Plan.input, Plan.row, Plan.output, Plan.through, Plans, Plans.done, Plans.also, ExactAt}
 
 -- The number of the calculation at these prices.
 abbrev pub numberAt : Pricing → List Cell → List Statement → Kind → Purpose → ℕ
@@ -39,3 +40,32 @@ pub record Between (cells : List Cell) (ss : List Statement) (price : Pricing) (
   pub bothNever : (k : Kind) → (numberAt price cells ss k p ≡ never) ↔ (numberAt (lowPrice ss) cells ss k p ≡ never)
   -- "SC and SO ignore ranges."
   pub same : numberAt price cells ss sequential p ≡ numberAt (lowPrice ss) cells ss sequential p
+
+-- ---- the two values of an input at prices of their own
+
+-- "a combinational price somewhere from LOW to HIGH for both values": above, one price for both. Here each value has its own,
+-- `price l v`. What a plan then costs:
+unfoldable mutual
+  pub costEach : (ℕ → ℕ → ℕ) → {cells : List Cell} {ss : List Statement} {p : Purpose} → Plan cells ss combinational p → ℕ
+  costEach price (input {l = l} {v = v} h e) = price l v
+  costEach price (row g m e r q u ps) = r .depth + costsEach price ps
+  costEach price (output e) = 0
+  costEach price (through g m i b h e r q ps) = r .depth + costsEach price ps
+
+  pub costsEach : (ℕ → ℕ → ℕ) → {cells : List Cell} {ss : List Statement} {g : Gate} {cs : List Column} → Plans cells ss combinational g cs → ℕ
+  costsEach price done = 0
+  costsEach price (also p ps) = costEach price p + costsEach price ps
+
+-- Each value's prices are within the ranges.
+abbrev pub EachWithin : List Statement → (ℕ → ℕ → ℕ) → Type 0
+EachWithin ss price = (v : ℕ) → WithinRanges ss (λ l. price l v)
+
+-- Demand 3 of a number, in combinational terms, against plans at such prices.
+abbrev pub ExactEach : (ℕ → ℕ → ℕ) → List Cell → List Statement → Purpose → ℕ → Type 0
+ExactEach price cells ss p x = Stands (Plan cells ss combinational p) (λ d. costEach price d) x
+
+-- Such a number "lies between the two printed, and never is printed in both or neither".
+pub record BetweenEach (cells : List Cell) (ss : List Statement) (p : Purpose) (x : ℕ) : Type 0 where
+  pub above : numberAt (lowPrice ss) cells ss combinational p ≤ x
+  pub below : x ≤ numberAt (highPrice ss) cells ss combinational p
+  pub bothNever : (x ≡ never) ↔ (numberAt (lowPrice ss) cells ss combinational p ≡ never)

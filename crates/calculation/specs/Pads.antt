@@ -3,15 +3,17 @@
 use mathlib.Core.Bool.{Bool, true, not, _&&_, _||_}
 use mathlib.Core.List.{List, [], _∷_, _++_, map}
 use mathlib.Core.Path.{_≡_}
-use Prim.Native.Nat.{ℕ}
+use Prim.Native.Nat.{ℕ, _≤_}
 use lib.Dec.{eqb}
 use lib.ListN.{length}
 use Rattle.reading.specs.Choice.{pick}
 use Rattle.reading.specs.Numbers as No
 use Rattle.reading.specs.Refusal.{Read, read, _>>_, weigh}
+use Rattle.plans.specs.Sweep.{at}
 use Rattle.library_table.specs.Cells.{Cell}
 use Rattle.netlist_table.specs.Netlist.{Statement, mark, output, mentioned, isOutput}
 use Rattle.calculation.specs.Acceptance.{BothSound}
+use Rattle.calculation.specs.Nodes.{Kind, set, node}
 use Rattle.calculation.specs.Prices.{pricesOf}
 use Rattle.calculation.specs.Calculation.{Analysed, analysed}
 use Rattle.calculation.specs.Runs.{observedAnew}
@@ -98,3 +100,13 @@ pub record AsNew (s : State) : Type 0 where
 -- `all-stand`: "For every list of asks and commits from a freshly analysed netlist".
 abbrev pub AllStand : Type 0
 AllStand = (cells : List Cell) (ss : List Statement) → BothSound cells ss → (os : List Operation) → AsNew (steps (fresh cells ss) os)
+
+-- `pads-values`: pads change no CC and no SC. So a plan that sets a line, of the netlist without its pads, costs the number that
+-- stands with them: "a plan written out has the reported cost" (K14).
+abbrev pub PadsValues : Type 0
+PadsValues =
+    (cells : List Cell) (ss : List Statement) (pads : List ℕ) →
+    BothSound cells ss →
+    placeable ss pads ≡ true →
+    (k : Kind) (l v : ℕ) → v ≤ 1 →
+    at (analysed cells (padded ss pads) .numbers) (node k (set l v)) ≡ at (analysed cells ss .numbers) (node k (set l v))
