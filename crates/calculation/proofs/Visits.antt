@@ -1,9 +1,9 @@
 -- The visits of a sweep: each is one to a gate in a role that its cell has, and what its ways need is what columns ask for.
 -- Assumes nothing.
 use mathlib.Core.Bool.{Bool, true, false}
-use mathlib.Core.List.{List, [], _∷_, List·Memᴰ, List·Memᴰ·head, List·Memᴰ·tail, List·Memᴰ·not-nil, List·Memᴰ·append-cases, Memᴰ·append-left, Memᴰ·append-right, Memᴰ·map, Memᴰ·of-map}
+use mathlib.Core.List.{List, [], _∷_, _++_, map, map-append, List·Memᴰ, List·Memᴰ·head, List·Memᴰ·tail, List·Memᴰ·not-nil, List·Memᴰ·append-cases, Memᴰ·append-left, Memᴰ·append-right, Memᴰ·map, Memᴰ·of-map}
 use mathlib.Core.Logic.{⊎-elim}
-use mathlib.Core.Path.{_≡_, refl, sym, _∙_, ap}
+use mathlib.Core.Path.{_≡_, refl, sym, _∙_, ap, ap₂}
 use Prim.Native.Nat.{ℕ, zero, suc, _+_, _*_, _≤_, _<_}
 use native.Mathlib.Decide.{ℕ-discrete}
 use native.Mathlib.Omega.{arith}
@@ -39,6 +39,10 @@ use Rattle.calculation.specs.Ways.{
   gateVisits,
   settingVisits,
   observingVisits,
+  Turn,
+  gateTurns,
+  settingTurns,
+  observingTurns,
 }
 
 pub getD-listed : {A : Type 0} (xs : List A) (i : ℕ) (d : A) → i < length xs → List·Memᴰ (getD xs i d) xs
@@ -173,6 +177,31 @@ module _ (k : Kind) (cells : List Cell) where
   unfolding settingVisits gateVisits valueRoles
   setting-length [] = refl
   setting-length (g ∷ gs) = omega (arith, setting-length gs)
+
+-- ---- the turns of a sweep
+
+abbrev pub turnVisit : Kind → List Cell → Turn → Visit
+turnVisit k cells t = visit k cells (t .gate) (t .role)
+
+module _ (k : Kind) (cells : List Cell) where
+  gate-turned : (g : Gate) (roles : List Role) → gateVisits k cells g roles ≡ map (turnVisit k cells) (gateTurns g roles)
+  unfolding gateVisits gateTurns
+  gate-turned g [] = refl
+  gate-turned g (role ∷ roles) = ap (λ (vs : List Visit). visit k cells g role ∷ vs) (gate-turned g roles)
+
+  pub setting-turned : (gs : List Gate) → settingVisits k cells gs ≡ map (turnVisit k cells) (settingTurns gs)
+  unfolding settingVisits settingTurns
+  setting-turned [] = refl
+  setting-turned (g ∷ gs) =
+      ap₂ (λ (us vs : List Visit). us ++ vs) (gate-turned g valueRoles) (setting-turned gs)
+      ∙ sym (map-append (turnVisit k cells) (gateTurns g valueRoles) (settingTurns gs))
+
+  pub observing-turned : (gs : List Gate) → observingVisits k cells gs ≡ map (turnVisit k cells) (observingTurns cells gs)
+  unfolding observingVisits observingTurns
+  observing-turned [] = refl
+  observing-turned (g ∷ gs) =
+      ap₂ (λ (us vs : List Visit). us ++ vs) (observing-turned gs) (gate-turned g (pinRoles (cellOf cells g .pins) 1))
+      ∙ sym (map-append (turnVisit k cells) (observingTurns cells gs) (gateTurns g (pinRoles (cellOf cells g .pins) 1)))
 
 -- ---- the ways that visits offer: each is a row of a gate's cell
 

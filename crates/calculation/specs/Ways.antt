@@ -167,7 +167,26 @@ unfoldable pub observingVisits : Kind → List Cell → List Gate → List Visit
 observingVisits k cells [] = []
 observingVisits k cells (g ∷ gs) = observingVisits k cells gs ++ gateVisits k cells g (pinRoles (cellOf cells g .pins) 1)
 
+-- ---- whose visits they are
+
+-- A gate in a role: what a visit of a sweep is made for.
+pub record Turn : Type 0 where
+  pub gate : Gate
+  pub role : Role
+
+unfoldable pub gateTurns : Gate → List Role → List Turn
+gateTurns g roles = map (λ (role : Role). record { gate = g; role = role }) roles
+
+-- The same two orders, visit by visit (`setting-turned` and `observing-turned` of proofs/Visits.antt).
+unfoldable pub settingTurns : List Gate → List Turn
+settingTurns [] = []
+settingTurns (g ∷ gs) = gateTurns g valueRoles ++ settingTurns gs
+
+unfoldable pub observingTurns : List Cell → List Gate → List Turn
+observingTurns cells [] = []
+observingTurns cells (g ∷ gs) = observingTurns cells gs ++ gateTurns g (pinRoles (cellOf cells g .pins) 1)
+
 -- Opens the page's definitions, where a figure computes with them.
 unfoldable pub ways-open : ℕ
-unfolding nodes-open cells-open wordGroups cellOf pinLine asked needs purposeOf wordOf groupIndex groupOf columnsOf namedBy anyOf bothValues oneWire merges sameValue otherValue anyAsks once needsBoth asks isWay usable wayOf waysOf visit valueRoles pinRoles gateVisits settingVisits observingVisits
+unfolding nodes-open cells-open wordGroups cellOf pinLine asked needs purposeOf wordOf groupIndex groupOf columnsOf namedBy anyOf bothValues oneWire merges sameValue otherValue anyAsks once needsBoth asks isWay usable wayOf waysOf visit valueRoles pinRoles gateVisits settingVisits observingVisits gateTurns settingTurns observingTurns
 ways-open = 0

@@ -1,1 +1,2 @@
 pub mod PlanFigures
+pub mod RouteFigures

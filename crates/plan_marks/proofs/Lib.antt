@@ -1,3 +1,5 @@
 pub mod Sweeps
 pub mod Rest
 pub mod Run
+pub mod Observed
+pub mod Turned

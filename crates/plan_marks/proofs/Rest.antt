@@ -64,10 +64,10 @@ module _ (cells : List Cell) (ss : List Statement) (sound : BothSound cells ss) 
         by (renews e once above) = traces-agree visits most-sweeps (start ss) once above
 
     -- .. and come to rest, after as many as there may be.
-    settled-lower : SettlesWithin lower visits (start ss) most-sweeps most-sweeps
+    pub settled-lower : SettlesWithin lower visits (start ss) most-sweeps most-sweeps
     settled-lower = within-lowers most-sweeps most-sweeps lowering within
 
-    reached : sweeps lower visits most-sweeps (start ss) ≡ run lower visits most-sweeps (start ss) .numbers
+    pub reached : sweeps lower visits most-sweeps (start ss) ≡ run lower visits most-sweeps (start ss) .numbers
     reached = settled-stays lower visits (start ss) _ _ most-sweeps (settled-lower .0) (settled-lower .1)
 
     -- They settle by the first rule too.

@@ -1,5 +1,6 @@
 pub mod Writers
-pub mod ChosenRow
 pub mod Times
+pub mod ChosenRow
 pub mod Planned
+pub mod Figure
 pub mod Written

@@ -1,51 +1,49 @@
--- The plan that the marks tell: one for just the line, the value and the kind, at the number reported, and its text is the one
--- that is computed and the one that is written.
+-- The plan that the marks tell: one for just the purpose and the kind, at the number reported, and its text is the one that is
+-- computed and the one that is written. A line set to a value and a line observed go the same way.
 -- Assumes nothing.
 use mathlib.Core.Bool.{Bool, true, false}
-use mathlib.Core.List.{List, [], _∷_, _++_, List·Memᴰ, List·Memᴰ·head, List·Memᴰ·tail, Memᴰ·map}
-use mathlib.Core.Logic.{_⊎_, inl, inr}
+use mathlib.Core.List.{List, [], _∷_, _++_, List·Memᴰ, List·Memᴰ·head, List·Memᴰ·tail}
 use mathlib.Core.Option.{Option, none, some}
 use mathlib.Core.Path.{_≡_, refl, sym, ap, ap₂, subst, _∙_}
 use Prim.Native.Nat.{ℕ, zero, suc, _+_, _≤_, _<_}
-use native.Mathlib.Nat.{le-trans}
+use native.Mathlib.Nat.{le-trans, le-refl}
 use native.Mathlib.Omega.{arith}
-use lib.ListN.{getD}
+use lib.ListN.{length}
 use Rattle.reading.specs.Choice.{pick}
 use Rattle.cost.specs.Cost.{most, never, capped}
 use Rattle.cost.proofs.Laws.{sum-small}
 use Rattle.plans.specs.System.{Way}
 use Rattle.plans.specs.Sweep.{at, sums, way}
-use Rattle.plans.specs.Trace.{Mark, markAt, SettledBy}
-use Rattle.library_table.specs.Cells.{Row, Cell, noRow, Column, pin, output}
-use Rattle.library_table.specs.Cells as C
-use Rattle.netlist_table.specs.Netlist.{Gate, Statement, gatesOf, isInput}
+use Rattle.plans.specs.Trace.{Mark}
+use Rattle.library_table.specs.Cells.{Row, Cell, Column}
+use Rattle.netlist_table.specs.Netlist.{Gate, Statement, gatesOf, isInput, isOutput}
 use Rattle.calculation.specs.Prices.{inputCost, pricesOf}
-use Rattle.calculation.specs.Nodes.{Kind, set, node}
-use Rattle.calculation.specs.Ways.{cellOf, pinLine, asked, needs, setting, groupOf, asks, isWay, wayOf}
+use Rattle.calculation.specs.Nodes.{Kind, Purpose, set, observe, node}
+use Rattle.calculation.specs.Ways.{cellOf, asked, needs, Role, setting, observing, purposeOf, groupOf, asks, isWay, wayOf}
 use Rattle.calculation.specs.Acceptance.{BothSound}
-use Rattle.calculation.specs.Calculation.{start}
-use Rattle.calculation.specs.LinePlans.{Plan, Plan.input, Plan.row, Plans, Plans.done, Plans.also, costAt, costsAt, cost}
+use Rattle.calculation.specs.LinePlans.{Plan, Plan.input, Plan.row, Plan.output, Plan.through, Plans, Plans.done, Plans.also, costAt, costsAt, cost}
 use Rattle.calculation.proofs.Places.{Placed, start-at}
-use Rattle.calculation.proofs.Visits.{getD-listed, MayName, asks-named, usable-from}
+use Rattle.calculation.proofs.Visits.{getD-listed, Has, MayName, asks-named, usable-from}
 use Rattle.calculation.proofs.Acceptance.{asked-placed}
-use Rattle.plan_marks.proofs.Rest.{visits}
+use Rattle.plan_marks.specs.Lowered.{markFor, turnsFor, turnAt}
 use Rattle.plan_text.specs.PlanText.{
-  nodeLine,
-  rowText,
-  inputText,
   planText,
   plansText,
   wayRows,
+  LoweredBy,
   LastLowered,
   AllLastLowered,
-  driverOf,
   joined,
-  visitOf,
-  rowAt,
+  lineFor,
+  freeText,
+  wayText,
+  turnText,
   nodeText,
   treeText,
+  stampOf,
 }
-use Rattle.plan_text.proofs.ChosenRow.{node-line, node-value, trace, settled-by, unmarked, Chosen, chosen, driver-chosen}
+use Rattle.plan_text.proofs.ChosenRow.{unmarked, rowOf, Chosen, Told, told}
+use Rattle.plan_text.proofs.ChosenRow as R
 
 module _ (xs : List ℕ) where
   need-first : (n : ℕ) (ns : List ℕ) → sums xs (n ∷ ns) ≤ most → (sums xs (n ∷ ns) ≡ at xs n + sums xs ns) × (at xs n ≤ most) × (sums xs ns ≤ most)
@@ -62,208 +60,256 @@ module _ (xs : List ℕ) where
 
 -- ---- the plan
 
--- A column that a row which sets a value names is a pin.
-setting-named : (n v : ℕ) (d : Column) → MayName n (setting v) d → MayName n (setting 0) d
-setting-named n v (pin i w) h = h
-setting-named n v (output w) h = absurd h
-setting-named n v C.observe h = absurd h
-
-module _ (cells : List Cell) (ss : List Statement) (sound : BothSound cells ss) (k : Kind) (code : ℕ → ℕ → ℕ → ℕ → List ℕ) where
-  abbrev marks : List (Option Mark)
-  marks = trace cells ss sound k .marks
-
+-- What is written of a purpose, handed a visit and a depth, is `code`; it is known of the purposes that are `Covered`.
+module _ (cells : List Cell) (ss : List Statement) (sound : BothSound cells ss) (k : Kind) (Covered : Purpose → Type 0) (code : ℕ → ℕ → Purpose → List ℕ) where
   abbrev xs : List ℕ
-  xs = trace cells ss sound k .numbers
+  xs = R.xs cells ss sound k
 
   abbrev gs : List Gate
   gs = gatesOf ss
 
-  abbrev visitAt : ℕ → ℕ → ℕ
-  visitAt l v = visitOf (markAt marks (node k (set l v)))
+  abbrev stamp : Purpose → ℕ
+  stamp p = stampOf k cells ss p
+
+  abbrev pub taken : Gate → Role → Mark → Row
+  taken g role m = rowOf cells ss sound k g role m
+
+  abbrev asking : Gate → Role → Row → List Column
+  asking g role r = asks g (cellOf cells g) role r
 
   -- What is written of each column that a row names.
-  unfoldable pub columnsCode : ℕ → ℕ → Gate → List Column → List ℕ
-  columnsCode before depth g [] = []
-  columnsCode before depth g (pin i v ∷ cs) = code before depth (pinLine g i) v ++ columnsCode before depth g cs
-  columnsCode before depth g (output v ∷ cs) = columnsCode before depth g cs
-  columnsCode before depth g (C.observe ∷ cs) = columnsCode before depth g cs
+  abbrev pub columnsCode : ℕ → ℕ → Gate → List Column → List ℕ
+  columnsCode before depth g cs = joined (λ (c : Column). code before depth (asked g c)) cs
 
-  abbrev pub rowOf : (l v : ℕ) (m : Mark) → Chosen cells ss sound k l v m → Row
-  rowOf l v m c = getD (wayRows k cells (c .gate) v) (m .place) noRow
-
-  -- What is written of a line at a value, handed a visit and a depth, goes by its mark.
+  -- It goes by the purpose's mark.
   pub record Codes : Type 0 where
-    pub unmarkedCode : (l v : ℕ) → Placed (set l v) → markAt marks (node k (set l v)) ≡ none → (before depth : ℕ) → 0 < before
-        → code before depth l v ≡ nodeLine depth l v inputText
-    pub markedCode : (l v : ℕ) → Placed (set l v) → (m : Mark) → markAt marks (node k (set l v)) ≡ some m → (c : Chosen cells ss sound k l v m)
-        → (before depth : ℕ) → suc (m .time) < before
-        → code before depth l v
-        ≡ nodeLine depth l v (rowText (cellOf cells (c .gate)) (rowOf l v m c))
-        ++ columnsCode (suc (m .time)) (suc depth) (c .gate) (asks (c .gate) (cellOf cells (c .gate)) (setting v) (rowOf l v m c))
+    pub unmarkedCode : (p : Purpose) → Placed p → Covered p → markFor k cells ss p ≡ none → (before depth : ℕ) → stamp p < before
+        → code before depth p ≡ lineFor depth p (freeText p)
+    pub markedCode : (p : Purpose) → Placed p → Covered p → (m : Mark) → markFor k cells ss p ≡ some m → (c : Chosen cells ss sound k Has (turnsFor cells ss p) p m)
+        → (before depth : ℕ) → stamp p < before
+        → code before depth p
+        ≡ lineFor depth p (wayText (cellOf cells (c .gate)) (c .gate) (c .role) (taken (c .gate) (c .role) m))
+        ++ columnsCode (stamp p) (suc depth) (c .gate) (asking (c .gate) (c .role) (taken (c .gate) (c .role) m))
+    pub covers : (g : Gate) (role : Role) (d : Column) → MayName (cellOf cells g .pins) role d → Covered (purposeOf g role) → Covered (asked g d)
 
-  -- The plan of a line at a value, with all that holds of it.
-  pub record Shown (l v : ℕ) : Type 0 where
-    pub plan : Plan cells ss k (set l v)
-    pub lowered : LastLowered marks plan
-    pub costs : cost plan ≡ at xs (node k (set l v))
-    pub tree : (more depth : ℕ) → visitAt l v < more → treeText k cells gs marks more depth (node k (set l v)) ≡ planText depth plan
-    pub written : (before depth : ℕ) → visitAt l v < before → code before depth l v ≡ planText depth plan
+  -- The plan of a purpose, with all that holds of it.
+  pub record Shown (p : Purpose) : Type 0 where
+    pub plan : Plan cells ss k p
+    pub lowered : LastLowered plan
+    pub costs : cost plan ≡ at xs (node k p)
+    pub tree : (more depth : ℕ) → stamp p < more → treeText k cells ss more depth p ≡ planText depth plan
+    pub written : Covered p → (before depth : ℕ) → stamp p < before → code before depth p ≡ planText depth plan
 
   -- The plans of all that some columns ask for, each of a visit below `limit`.
   record ShownAll (limit : ℕ) (g : Gate) (cs : List Column) : Type 0 where
     plans : Plans cells ss k g cs
-    lowered : AllLastLowered marks plans
+    lowered : AllLastLowered plans
     total : costsAt (pricesOf ss) plans ≡ sums xs (needs k g cs)
-    tree : (more depth : ℕ) → limit ≤ more → joined (treeText k cells gs marks more depth) (needs k g cs) ≡ plansText depth plans
-    written : (before depth : ℕ) → limit ≤ before → columnsCode before depth g cs ≡ plansText depth plans
+    tree : (more depth : ℕ) → limit ≤ more → joined (λ (c : Column). treeText k cells ss more depth (asked g c)) cs ≡ plansText depth plans
+    written : ((c : Column) → List·Memᴰ c cs → Covered (asked g c)) → (before depth : ℕ) → limit ≤ before → columnsCode before depth g cs ≡ plansText depth plans
 
-  marked-visit : (l v : ℕ) (m : Mark) → markAt marks (node k (set l v)) ≡ some m → visitAt l v ≡ suc (m .time)
-  unfolding visitOf
-  marked-visit l v m e = rw e refl
+  -- A gate that serves in a role, by a row.
+  module _ (g : Gate) (listed : List·Memᴰ g gs) where
+    plan-by : (role : Role) → Has (cellOf cells g) role → (r : Row) → List·Memᴰ r (groupOf k (cellOf cells g) role) → isWay g (cellOf cells g) role r ≡ true
+        → Plans cells ss k g (asking g role r) → Plan cells ss k (purposeOf g role)
+    unfolding purposeOf
+    plan-by (setting e) h r i w ps = row g listed refl r i w ps
+    plan-by (observing j) h r i w ps = through g listed j (h .0) (h .1) refl r i ps
 
-  tree-row : (l v : ℕ) → Placed (set l v) → (m : Mark) → markAt marks (node k (set l v)) ≡ some m → (g : Gate) → driverOf gs l ≡ g → (ns : List ℕ) → m .way .needs ≡ ns
-      → (more depth : ℕ)
-      → treeText k cells gs marks (suc more) depth (node k (set l v))
-      ≡ nodeLine depth l v (rowText (cellOf cells g) (getD (wayRows k cells g v) (m .place) noRow)) ++ joined (treeText k cells gs marks more (suc depth)) ns
-  unfolding treeText nodeText rowAt
-  tree-row l v placed m e g d ns n more depth = rw (e, node-line k l v placed, node-value k l v placed, d, n) refl
+    module _ (r : Row) where
+      by-cost : (role : Role) (h : Has (cellOf cells g) role) (i : List·Memᴰ r (groupOf k (cellOf cells g) role)) (w : isWay g (cellOf cells g) role r ≡ true)
+          (ps : Plans cells ss k g (asking g role r)) → cost (plan-by role h r i w ps) ≡ r .depth + costsAt (pricesOf ss) ps
+      unfolding purposeOf plan-by costAt
+      by-cost (setting e) h i w ps = refl
+      by-cost (observing j) h i w ps = refl
+
+      by-text : (role : Role) (h : Has (cellOf cells g) role) (i : List·Memᴰ r (groupOf k (cellOf cells g) role)) (w : isWay g (cellOf cells g) role r ≡ true)
+          (ps : Plans cells ss k g (asking g role r)) (depth : ℕ)
+          → planText depth (plan-by role h r i w ps) ≡ lineFor depth (purposeOf g role) (wayText (cellOf cells g) g role r) ++ plansText (suc depth) ps
+      unfolding purposeOf plan-by planText lineFor wayText
+      by-text (setting e) h i w ps depth = refl
+      by-text (observing j) h i w ps depth = refl
+
+      by-lowered : (role : Role) (h : Has (cellOf cells g) role) (i : List·Memᴰ r (groupOf k (cellOf cells g) role)) (w : isWay g (cellOf cells g) role r ≡ true)
+          (ps : Plans cells ss k g (asking g role r)) → LoweredBy k cells ss (purposeOf g role) g role r → AllLastLowered ps → LastLowered (plan-by role h r i w ps)
+      unfolding purposeOf plan-by LastLowered
+      by-lowered (setting e) h i w ps a b = (a, b)
+      by-lowered (observing j) h i w ps a b = (a, b)
 
   module _ (codes : Codes) where
-    -- ---- an input
+    -- ---- an input, or an output
 
-    module _ (l v : ℕ) (placed : Placed (set l v)) (stood : markAt marks (node k (set l v)) ≡ none) where
-      input-shown : isInput l ss ≡ true → at xs (node k (set l v)) ≡ inputCost (pricesOf ss) k l → Shown l v
-      unfolding LastLowered costAt planText treeText nodeText
-      input-shown e c =
+    free-tree : (p : Purpose) → markFor k cells ss p ≡ none → (more depth : ℕ) → stamp p < more → treeText k cells ss more depth p ≡ lineFor depth p (freeText p)
+    unfolding treeText nodeText
+    free-tree p e zero depth h = absurd (omega arith)
+    free-tree p e (suc more) depth h = rw e refl
+
+    module _ (p : Purpose) (placed : Placed p) (e : markFor k cells ss p ≡ none) where
+      free : (d : Plan cells ss k p) → LastLowered d → cost d ≡ at xs (node k p) → ((depth : ℕ) → lineFor depth p (freeText p) ≡ planText depth d) → Shown p
+      free d low c text =
           record {
-            plan = input (placed .1) e;
-            lowered = stood;
-            costs = sym c;
-            tree = by-tree;
-            written = λ before depth h. codes .unmarkedCode l v placed stood before depth (omega arith);
+            plan = d;
+            lowered = low;
+            costs = c;
+            tree = λ more depth h. free-tree p e more depth h ∙ text depth;
+            written = λ q before depth h. codes .unmarkedCode p placed q e before depth h ∙ text depth;
           }
-        where
-          by-tree : (more depth : ℕ) → visitAt l v < more → treeText k cells gs marks more depth (node k (set l v)) ≡ nodeLine depth l v inputText
-          by-tree zero depth h = absurd (omega arith)
-          by-tree (suc more) depth h = rw (stood, node-line k l v placed, node-value k l v placed) refl
 
-      start-is : at xs (node k (set l v)) ≡ pick (isInput l ss) (inputCost (pricesOf ss) k l) never
-      start-is = unmarked cells ss sound k (node k (set l v)) stood ∙ start-at (pricesOf ss) ss k (set l v) placed
+    set-free : (l v : ℕ) → Placed (set l v) → markFor k cells ss (set l v) ≡ none → at xs (node k (set l v)) ≤ most → (b : Bool) → isInput l ss ≡ b → Shown (set l v)
+    unfolding pick LastLowered costAt planText lineFor freeText
+    set-free l v placed e h true q =
+        free (set l v) placed e (input (placed .1) q) e
+        (sym (unmarked cells ss sound k (set l v) placed e ∙ rw q at (start-at (pricesOf ss) ss k (set l v) placed))) (λ depth. refl)
+    set-free l v placed e h false q =
+        let n : at xs (node k (set l v)) ≡ never = unmarked cells ss sound k (set l v) placed e ∙ rw q at (start-at (pricesOf ss) ss k (set l v) placed) in
+        absurd (omega arith)
 
-      from-start : at xs (node k (set l v)) ≤ most → (b : Bool) → isInput l ss ≡ b → Shown l v
-      unfolding pick
-      from-start h true e = input-shown e (rw e at start-is)
-      from-start h false e = let n : at xs (node k (set l v)) ≡ never = rw e at start-is in absurd (omega arith)
+    see-free : (l : ℕ) → Placed (observe l) → markFor k cells ss (observe l) ≡ none → at xs (node k (observe l)) ≤ most → (b : Bool) → isOutput l ss ≡ b → Shown (observe l)
+    unfolding pick LastLowered costAt planText lineFor freeText
+    see-free l placed e h true q =
+        free (observe l) placed e (output q) e
+        (sym (unmarked cells ss sound k (observe l) placed e ∙ rw q at (start-at (pricesOf ss) ss k (observe l) placed))) (λ depth. refl)
+    see-free l placed e h false q =
+        let n : at xs (node k (observe l)) ≡ never = unmarked cells ss sound k (observe l) placed e ∙ rw q at (start-at (pricesOf ss) ss k (observe l) placed) in
+        absurd (omega arith)
+
+    free-shown : (p : Purpose) → Placed p → markFor k cells ss p ≡ none → at xs (node k p) ≤ most → Shown p
+    free-shown (set l v) placed e h = set-free l v placed e h (isInput l ss) refl
+    free-shown (observe l) placed e h = see-free l placed e h (isOutput l ss) refl
 
     -- ---- a row
 
-    module _ (limit : ℕ) (ih : (l v : ℕ) → Placed (set l v) → at xs (node k (set l v)) ≤ most → visitAt l v < limit → Shown l v)
-        (g : Gate) (listed : List·Memᴰ g gs) where
-      all-shown : (cs : List Column) → ((c : Column) → List·Memᴰ c cs → MayName (cellOf cells g .pins) (setting 0) c)
-          → ((c : Column) → List·Memᴰ c cs → visitOf (markAt marks (node k (asked g c))) < limit)
+    module _ (limit : ℕ) (ih : (p : Purpose) → Placed p → at xs (node k p) ≤ most → stamp p < limit → Shown p)
+        (g : Gate) (listed : List·Memᴰ g gs) (role : Role) where
+      all-shown : (cs : List Column) → ((c : Column) → List·Memᴰ c cs → MayName (cellOf cells g .pins) role c)
+          → ((c : Column) → List·Memᴰ c cs → stamp (asked g c) < limit)
           → sums xs (needs k g cs) ≤ most → ShownAll limit g cs
-      unfolding AllLastLowered costsAt plansText needs sums joined asked columnsCode
+      unfolding AllLastLowered costsAt plansText needs sums joined
       all-shown [] named early h =
-          record { plans = done; lowered = tt; total = refl; tree = λ more depth q. refl; written = λ before depth q. refl }
-      all-shown (output v ∷ cs) named early h = absurd (named (output v) (List·Memᴰ·head refl))
-      all-shown (C.observe ∷ cs) named early h = absurd (named C.observe (List·Memᴰ·head refl))
-      all-shown (pin i v ∷ cs) named early h =
+          record { plans = done; lowered = tt; total = refl; tree = λ more depth q. refl; written = λ a before depth q. refl }
+      all-shown (c ∷ cs) named early h =
           let here = List·Memᴰ·head refl in
-          let n = node k (set (pinLine g i) v) in
-          let e = need-first xs n (needs k g cs) h in
-          let one = ih (pinLine g i) v (asked-placed sound g listed (setting 0) (pin i v) (named (pin i v) here)) (e .1) (early (pin i v) here) in
-          let rest = all-shown cs (λ c m. named c (List·Memᴰ·tail m)) (λ c m. early c (List·Memᴰ·tail m)) (e .2) in
+          let e = need-first xs (node k (asked g c)) (needs k g cs) h in
+          let one = ih (asked g c) (asked-placed sound g listed role c (named c here)) (e .1) (early c here) in
+          let rest = all-shown cs (λ d m. named d (List·Memᴰ·tail m)) (λ d m. early d (List·Memᴰ·tail m)) (e .2) in
           record {
             plans = also (one .plan) (rest .plans);
             lowered = (one .lowered, rest .lowered);
             total = ap₂ (λ (a b : ℕ). a + b) (one .costs) (rest .total) ∙ sym (e .0);
-            tree = λ more depth q. ap₂ (λ (a b : List ℕ). a ++ b) (one .tree more depth (le-trans (early (pin i v) here) q)) (rest .tree more depth q);
-            written = λ before depth q. ap₂ (λ (a b : List ℕ). a ++ b) (one .written before depth (le-trans (early (pin i v) here) q)) (rest .written before depth q);
+            tree = λ more depth q. ap₂ (λ (a b : List ℕ). a ++ b) (one .tree more depth (le-trans (early c here) q)) (rest .tree more depth q);
+            written = λ a before depth q.
+                ap₂ (λ (x y : List ℕ). x ++ y) (one .written (a c here) before depth (le-trans (early c here) q)) (rest .written (λ d m. a d (List·Memᴰ·tail m)) before depth q);
           }
 
-    module _ (l v : ℕ) (placed : Placed (set l v)) (m : Mark) (e : markAt marks (node k (set l v)) ≡ some m) (small : at xs (node k (set l v)) ≤ most)
-        (ih : (j w : ℕ) → Placed (set j w) → at xs (node k (set j w)) ≤ most → visitAt j w < suc (m .time) → Shown j w) where
-      abbrev s : SettledBy (visits cells ss sound k) (start ss) (trace cells ss sound k) (node k (set l v)) m
-      s = settled-by cells ss sound k (node k (set l v)) m e small
+    -- The row that a mark tells.
+    module _
+        (m : Mark)
+        (g : Gate)
+        (listed : List·Memᴰ g gs)
+        (role : Role)
+        (allowed : Has (cellOf cells g) role)
+        (within : m .place < length (wayRows k cells g role))
+        (way-is : m .way ≡ wayOf k g (cellOf cells g) role (taken g role m))
+      where
+        abbrev r : Row
+        r = taken g role m
 
-      abbrev c : Chosen cells ss sound k l v m
-      c = chosen cells ss sound k l v placed m s
+        abbrev cs : List Column
+        cs = asking g role r
 
-      abbrev r : Row
-      r = rowOf l v m c
+        needs-are : m .way .needs ≡ needs k g cs
+        unfolding wayOf
+        needs-are = ap (λ (w : Way). w .needs) way-is
 
-      abbrev cs : List Column
-      cs = asks (c .gate) (cellOf cells (c .gate)) (setting v) r
+        depth-is : m .way .depth ≡ r .depth
+        unfolding wayOf
+        depth-is = ap (λ (w : Way). w .depth) way-is
 
-      needs-are : m .way .needs ≡ needs k (c .gate) cs
-      unfolding wayOf
-      needs-are = ap (λ (w : Way). w .needs) (c .taken)
+        -- The row is one of the group, and a way.
+        among : List·Memᴰ r (groupOf k (cellOf cells g) role) × (isWay g (cellOf cells g) role r ≡ true)
+        unfolding wayRows
+        among =
+            usable-from g (cellOf cells g) role (groupOf k (cellOf cells g) role) r (getD-listed (wayRows k cells g role) (m .place) _ within)
 
-      depth-is : m .way .depth ≡ r .depth
-      unfolding wayOf
-      depth-is = ap (λ (w : Way). w .depth) (c .taken)
+        tree-row : (p : Purpose) → markFor k cells ss p ≡ some m → turnAt (turnsFor cells ss p) (m .time) ≡ record { gate = g; role = role } → (more depth : ℕ)
+            → treeText k cells ss (suc more) depth p
+            ≡ lineFor depth p (wayText (cellOf cells g) g role r) ++ joined (λ (c : Column). treeText k cells ss more (suc depth) (asked g c)) cs
+        unfolding treeText nodeText turnText
+        tree-row p e turn more depth = rw (e, turn) refl
 
-      exactly : (at xs (node k (set l v)) ≡ m .way .depth + sums xs (m .way .needs)) × (sums xs (m .way .needs) ≤ most)
-      exactly =
-          let w = way-exact xs (m .way) (rw (s .sums) small) in
-          (sym (s .sums) ∙ w .0, w .1)
+        serving : (e : markFor k cells ss (purposeOf g role) ≡ some m)
+            → turnAt (turnsFor cells ss (purposeOf g role)) (m .time) ≡ record { gate = g; role = role }
+            → Placed (purposeOf g role)
+            → at xs (node k (purposeOf g role)) ≤ most
+            → way xs (m .way) ≡ at xs (node k (purposeOf g role))
+            → ((d : Column) → List·Memᴰ d cs → stamp (asked g d) < stamp (purposeOf g role))
+            → ((q : Purpose) → Placed q → at xs (node k q) ≤ most → stamp q < stamp (purposeOf g role) → Shown q)
+            → Shown (purposeOf g role)
+        serving e turn placed small total early ih =
+            record {
+              plan = plan-by g listed role allowed r (among .0) (among .1) (below .plans);
+              lowered =
+                  by-lowered g listed r role allowed (among .0) (among .1) (below .plans)
+                  (record { mark = m; marked = e; turn = turn; within = within; row = refl }) (below .lowered);
+              costs =
+                  by-cost g listed r role allowed (among .0) (among .1) (below .plans)
+                  ∙ ap₂ (λ (a b : ℕ). a + b) (sym depth-is) (below .total ∙ ap (sums xs) (sym needs-are)) ∙ sym (exactly .0) ∙ total;
+              tree = by-tree;
+              written = λ q before depth h.
+                  codes .markedCode (purposeOf g role) placed q m e
+                  (record { gate = g; role = role; listed = listed; allowed = allowed; turn = turn; serves = refl; within = within; taken = way-is }) before depth h
+                  ∙ ap (λ (f : List ℕ). lineFor depth (purposeOf g role) (wayText (cellOf cells g) g role r) ++ f)
+                  (below .written (λ d i. codes .covers g role d (asks-named g (cellOf cells g) role r d i) q) (stamp (purposeOf g role)) (suc depth) (le-refl (stamp (purposeOf g role))))
+                  ∙ sym (by-text g listed r role allowed (among .0) (among .1) (below .plans) depth);
+            }
+          where
+            exactly : (way xs (m .way) ≡ m .way .depth + sums xs (m .way .needs)) × (sums xs (m .way .needs) ≤ most)
+            exactly = way-exact xs (m .way) (rw total small)
 
-      -- Each column was last lowered earlier.
-      early : (d : Column) → List·Memᴰ d cs → visitOf (markAt marks (node k (asked (c .gate) d))) < suc (m .time)
-      unfolding visitOf needs
-      early d i = side (s .earlier (node k (asked (c .gate) d)) (subst (λ (ns : List ℕ). List·Memᴰ (node k (asked (c .gate) d)) ns) (sym needs-are) (Memᴰ·map (λ (x : Column). node k (asked (c .gate) x)) i)))
-        where
-          side : ((markAt marks (node k (asked (c .gate) d)) ≡ none) × (at xs (node k (asked (c .gate) d)) ≡ at (start ss) (node k (asked (c .gate) d))))
-              ⊎ ((j : Mark) × (markAt marks (node k (asked (c .gate) d)) ≡ some j) × (j .time < m .time))
-              → visitOf (markAt marks (node k (asked (c .gate) d))) < suc (m .time)
-          side (inl q) = omega (arith, ap visitOf (q .0))
-          side (inr q) = omega (arith, ap visitOf (q .1), q .2)
+            below : ShownAll (stamp (purposeOf g role)) g cs
+            below =
+                all-shown (stamp (purposeOf g role)) ih g listed role cs (λ d i. asks-named g (cellOf cells g) role r d i) early (rw needs-are at (exactly .1))
 
-      below : ShownAll (suc (m .time)) (c .gate) cs
-      below =
-          all-shown (suc (m .time)) ih (c .gate) (c .listed) cs
-          (λ d i. setting-named (cellOf cells (c .gate) .pins) v d (asks-named (c .gate) (cellOf cells (c .gate)) (setting v) r d i))
-          early (rw needs-are at (exactly .1))
+            by-tree : (more depth : ℕ) → stamp (purposeOf g role) < more
+                → treeText k cells ss more depth (purposeOf g role) ≡ planText depth (plan-by g listed role allowed r (among .0) (among .1) (below .plans))
+            by-tree zero depth h = absurd (omega arith)
+            by-tree (suc more) depth h =
+                tree-row (purposeOf g role) e turn more depth
+                ∙ ap (λ (f : List ℕ). lineFor depth (purposeOf g role) (wayText (cellOf cells g) g role r) ++ f) (below .tree more (suc depth) (omega arith))
+                ∙ sym (by-text g listed r role allowed (among .0) (among .1) (below .plans) depth)
 
-      -- The row is one of the group, and a way.
-      among : List·Memᴰ r (groupOf k (cellOf cells (c .gate)) (setting v)) × (isWay (c .gate) (cellOf cells (c .gate)) (setting v) r ≡ true)
-      unfolding wayRows
-      among =
-          usable-from (c .gate) (cellOf cells (c .gate)) (setting v) (groupOf k (cellOf cells (c .gate)) (setting v)) r
-          (getD-listed (wayRows k cells (c .gate) v) (m .place) noRow (c .within))
+        served : (p : Purpose) → purposeOf g role ≡ p → markFor k cells ss p ≡ some m
+            → turnAt (turnsFor cells ss p) (m .time) ≡ record { gate = g; role = role }
+            → Placed p
+            → at xs (node k p) ≤ most
+            → way xs (m .way) ≡ at xs (node k p)
+            → ((d : Column) → List·Memᴰ d cs → stamp (asked g d) < stamp p)
+            → ((q : Purpose) → Placed q → at xs (node k q) ≤ most → stamp q < stamp p → Shown q)
+            → Shown p
+        served p q =
+            subst
+            (λ (p : Purpose). markFor k cells ss p ≡ some m
+            → turnAt (turnsFor cells ss p) (m .time) ≡ record { gate = g; role = role }
+            → Placed p
+            → at xs (node k p) ≤ most
+            → way xs (m .way) ≡ at xs (node k p)
+            → ((d : Column) → List·Memᴰ d cs → stamp (asked g d) < stamp p)
+            → ((q : Purpose) → Placed q → at xs (node k q) ≤ most → stamp q < stamp p → Shown q)
+            → Shown p)
+            q serving
 
-      row-shown : Shown l v
-      unfolding LastLowered costAt planText treeText visitOf
-      row-shown =
-          record {
-            plan = row (c .gate) (c .listed) (c .drives) r (among .0) (among .1) (below .plans);
-            lowered = (record { mark = m; marked = e; within = c .within; row = refl }, below .lowered);
-            costs = ap₂ (λ (a b : ℕ). a + b) (sym depth-is) (below .total ∙ ap (sums xs) (sym needs-are)) ∙ sym (exactly .0);
-            tree = by-tree;
-            written = λ before depth h.
-                codes .markedCode l v placed m e c before depth (visit-is h)
-                ∙ ap (λ (f : List ℕ). nodeLine depth l v (rowText (cellOf cells (c .gate)) r) ++ f) (below .written (suc (m .time)) (suc depth) (omega arith));
-          }
-        where
-          visit-is : {b : ℕ} → visitAt l v < b → suc (m .time) < b
-          visit-is h = rw e at h
+    -- ---- every purpose whose number is a figure
 
-          by-tree : (more depth : ℕ) → visitAt l v < more → treeText k cells gs marks more depth (node k (set l v)) ≡ nodeLine depth l v (rowText (cellOf cells (c .gate)) r) ++ plansText (suc depth) (below .plans)
-          by-tree zero depth h = absurd (omega arith)
-          by-tree (suc more) depth h =
-              let f : suc (m .time) < suc more = visit-is h in
-              tree-row l v placed m e (c .gate) (driver-chosen cells ss sound k l v m c) (needs k (c .gate) cs) needs-are more depth
-              ∙ ap (λ (g : List ℕ). nodeLine depth l v (rowText (cellOf cells (c .gate)) r) ++ g) (below .tree more (suc depth) (omega arith))
+    from-mark : (limit : ℕ) (p : Purpose) → Placed p → at xs (node k p) ≤ most → stamp p < suc limit
+        → ((q : Purpose) → Placed q → at xs (node k q) ≤ most → stamp q < limit → Shown q)
+        → (o : Option Mark) → markFor k cells ss p ≡ o → Shown p
+    from-mark limit p placed h q ih none e = free-shown p placed e h
+    from-mark limit p placed h q ih (some m) e =
+        let t : Told cells ss sound k p m = told cells ss sound k p placed m e h in
+        let c = t .chosen in
+        served m (c .gate) (c .listed) (c .role) (c .allowed) (c .within) (c .taken) p (c .serves) e (c .turn) placed h (t .sums) (t .earlier)
+        (λ j pl small below. ih j pl small (omega (arith, below, q)))
 
-    -- ---- every line at a value whose number is a figure
-
-    from-mark : (limit l v : ℕ) → Placed (set l v) → at xs (node k (set l v)) ≤ most → visitAt l v < suc limit
-        → ((j w : ℕ) → Placed (set j w) → at xs (node k (set j w)) ≤ most → visitAt j w < limit → Shown j w)
-        → (o : Option Mark) → markAt marks (node k (set l v)) ≡ o → Shown l v
-    from-mark limit l v placed h q ih none e = from-start l v placed e h (isInput l ss) refl
-    from-mark limit l v placed h q ih (some m) e =
-        row-shown l v placed m e h (λ j w p small r. ih j w p small (omega (arith, r, marked-visit l v m e, q)))
-
-    pub shown : (limit l v : ℕ) → Placed (set l v) → at xs (node k (set l v)) ≤ most → visitAt l v < limit → Shown l v
-    shown zero l v placed h q = absurd (omega arith)
-    shown (suc limit) l v placed h q = from-mark limit l v placed h q (shown limit) (markAt marks (node k (set l v))) refl
+    pub shown : (limit : ℕ) (p : Purpose) → Placed p → at xs (node k p) ≤ most → stamp p < limit → Shown p
+    shown zero p placed h q = absurd (omega arith)
+    shown (suc limit) p placed h q = from-mark limit p placed h q (shown limit) (markFor k cells ss p) refl

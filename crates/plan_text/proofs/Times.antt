@@ -3,7 +3,7 @@
 use mathlib.Core.List.{List, [], _∷_}
 use mathlib.Core.Logic.{_⊎_, inl, inr}
 use mathlib.Core.Option.{Option, none, some, Option·some-injective, Option·none-ne-some}
-use mathlib.Core.Path.{_≡_, refl, sym, ap, _∙_}
+use mathlib.Core.Path.{_≡_, refl, sym, ap, subst, _∙_}
 use Prim.Native.Nat.{ℕ, zero, suc, _+_, _*_, _≤_, _<_}
 use native.Mathlib.Decide.{ℕ-discrete, decLt}
 use native.Mathlib.Omega.{arith}
@@ -82,3 +82,9 @@ module _ (cells : List Cell) (ss : List Statement) (sound : BothSound cells ss) 
       let before = timely-sweeps (visits cells ss sound k) (most-sweeps cells ss sound k) (untraced (start ss)) (timely-start (start ss)) n m q in
       let gates = sound .netlist .few in
       omega (arith, before, gates, sweeps-time (visits cells ss sound k) (omega (arith, gates, setting-length k cells (gatesOf ss))) (most-sweeps cells ss sound k) (untraced (start ss)))
+
+  -- .. and before their end.
+  pub timely : (n : ℕ) (m : Mark) → markAt (settingTrace k cells ss .marks) n ≡ some m → m .time < settingTrace k cells ss .time
+  timely n m =
+      subst (λ (t : Trace). markAt (t .marks) n ≡ some m → m .time < t .time) (sym (trace-lower cells ss sound k))
+      (timely-sweeps (visits cells ss sound k) (most-sweeps cells ss sound k) (untraced (start ss)) (timely-start (start ss)) n m)

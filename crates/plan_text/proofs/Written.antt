@@ -20,25 +20,19 @@ use Rattle.library_table.specs.Library.{columnCount}
 use Rattle.library_table.specs.Layout.{libraryWords, headingNumber}
 use Rattle.netlist_table.specs.Netlist.{Gate, Statement, gatesOf}
 use Rattle.netlist_table.specs.Layout.{gateLineWords, netlistWords}
-use Rattle.netlist_table.specs.Sound.{InRange}
+use Rattle.netlist_table.specs.Sound.{InRange, DrivenOnce}
 use Rattle.netlist_table.specs.Gates.{gateCell, gateLines, noGate}
 use Rattle.netlist_table.proofs.HeldGates.{cell-held, line-held, lines-held}
 use Rattle.netlist_table.proofs.Laws.{driven-once, gate-sound}
 use Rattle.library_table.proofs.Places.{cell-heading}
 use Rattle.netlist_table.proofs.Places.{netlist-count}
-use Rattle.calculation.specs.Prices.{pricesOf}
-use Rattle.calculation.specs.Nodes.{Kind, combinational, sequential, kindNumber, set, node}
-use Rattle.calculation.specs.Ways.{noCell, cellOf, pinLine, Role, setting, groupOf, groupIndex, wordOf, bothValues, oneWire, asks, isWay, usable}
+use Rattle.calculation.specs.Nodes.{Kind, combinational, sequential, kindNumber, Purpose, set, observe, lineOf, node}
+use Rattle.calculation.specs.Ways.{noCell, cellOf, pinLine, asked, Role, setting, observing, purposeOf, groupOf, groupIndex, wordOf, bothValues, oneWire, asks, isWay, usable}
 use Rattle.calculation.specs.Acceptance.{BothSound}
 use Rattle.calculation.specs.Calculation.{analysed}
-use Rattle.calculation.proofs.Laws.{own-figures, exact}
-use Rattle.calculation.proofs.Places.{Placed, node-inside}
-use Rattle.calculation.proofs.Bounds.{numbers-length}
-use Rattle.plans.specs.Sweep.{at}
-use Rattle.plans.proofs.Laws.{at-getD}
+use Rattle.calculation.proofs.Places.{Placed}
 use Rattle.cost.specs.Cost.{most}
-use Rattle.plan_marks.proofs.Rest.{reported}
-use Rattle.calculation.proofs.Visits.{getD-listed, MayName, asks-named}
+use Rattle.calculation.proofs.Visits.{getD-listed, Has, MayName, asks-named}
 use Rattle.sweep_groups.specs.Tables.{readRow, hasWay, gatePins, visitGroup, gateTied}
 use Rattle.sweep_wires.specs.Wires.{onceColumns, sharesLine}
 use Rattle.sweep_groups.proofs.RowWays.{way-told, asking-few, asking-named}
@@ -46,16 +40,17 @@ use Rattle.sweep_groups.proofs.Named.{set-node, setting-named}
 use Rattle.sweep_groups.proofs.Bridge as B
 use Rattle.plan_rows.specs.Rows.{stepRow, wayRow, asWritten, askingColumns}
 use Rattle.plan_visits.specs.Marks.{rowPlace, gateRow, Noted, Unnoted, NotedAs, AllNoted}
-use Rattle.plan_text.specs.PlanText.{nodeLine, rowText, inputText, wayRows, driverOf, joined, visitOf, cheapestText}
+use Rattle.plan_text.specs.PlanText.{nodeLine, rowText, inputText, wayRows, joined, lineFor, freeText, wayText, visitOf, stampOf, cheapestText}
 use Rattle.plan_text.specs.Writers.{visitAt, rowAt, columnsAt, lastAt, goalAt, goals, goalRow, goalLine, lineBytes, rowBytes}
-use Rattle.plan_text.proofs.ChosenRow.{driver-is, trace, Chosen, driver-chosen}
+use Rattle.plan_text.proofs.ChosenRow.{trace, Chosen}
 use Rattle.writer_bytes.specs.Put.{Put}
 use Rattle.calculation.specs.Stored.{Holds}
-use Rattle.plan_marks.specs.Lowered.{settingTrace}
+use Rattle.plan_marks.specs.Lowered.{settingTrace, markFor, turnsFor}
 use Rattle.plan_text.specs.Plan.{Cheapest}
 use Rattle.plan_text.specs.Asked.{PlanPut}
 use Rattle.plan_text.proofs.Times.{early}
 use Rattle.plan_text.proofs.Planned as P
+use Rattle.plan_text.proofs.Figure.{figure-told}
 use Rattle.plan_text.proofs.Writers.{line-some, row-none}
 
 -- A row that sets a value has two columns for each pin.
@@ -63,6 +58,28 @@ setting-width : (k : Kind) (v n : ℕ) → columnCount (wordOf k (setting v)) n 
 unfolding columnCount wordOf
 setting-width combinational v n = refl
 setting-width sequential v n = refl
+
+-- ---- the gate that drives a line
+
+one-driver : (gs : List Gate) → DrivenOnce gs → (g h : Gate) → List·Memᴰ g gs → List·Memᴰ h gs → g .line ≡ h .line → g ≡ h
+one-driver (x ∷ gs) once g h (List·Memᴰ·head a) (List·Memᴰ·head b) q = a ∙ sym b
+one-driver (x ∷ gs) once g h (List·Memᴰ·head a) (List·Memᴰ·tail j) q = absurd (once .0 h j (ap (λ (y : Gate). y .line) (sym a) ∙ q))
+one-driver (x ∷ gs) once g h (List·Memᴰ·tail i) (List·Memᴰ·head b) q = absurd (once .0 g i (ap (λ (y : Gate). y .line) (sym b) ∙ sym q))
+one-driver (x ∷ gs) once g h (List·Memᴰ·tail i) (List·Memᴰ·tail j) q = one-driver gs (once .1) g h i j q
+
+-- The role in which a gate sets a line to a value.
+valueOf : Purpose → ℕ
+valueOf (set l v) = v
+valueOf (observe l) = 0
+
+sets : Purpose → ℕ
+sets (set l v) = 1
+sets (observe l) = 0
+
+set-role : (g : Gate) (role : Role) (l v : ℕ) → purposeOf g role ≡ set l v → (g .line ≡ l) × (setting v ≡ role)
+unfolding purposeOf valueOf sets
+set-role g (setting e) l v q = (ap lineOf q, ap setting (sym (ap valueOf q)))
+set-role g (observing i) l v q = let z : _≡_ {A = ℕ} 0 1 = ap sets q in absurd (omega arith)
 
 -- Which row of the table a way is: the one that is counted so among the rows that are ways.
 module _ (g : Gate) (c : Cell) (role : Role) (read : ℕ → Option ℕ) (library : List ℕ) (d : Row) where
@@ -110,8 +127,13 @@ module _ (cells : List Cell) (ss : List Statement) (sound : BothSound cells ss) 
   gs = gatesOf ss
 
   -- What the line writer puts of a line at a value.
-  pub code : ℕ → ℕ → ℕ → ℕ → List ℕ
-  code before depth l v = lineBytes table netlist before depth (l * 2 + v)
+  pub code : ℕ → ℕ → Purpose → List ℕ
+  code before depth (set l v) = lineBytes table netlist before depth (l * 2 + v)
+  code before depth (observe l) = []
+
+  abbrev Covered : Purpose → Type 0
+  Covered (set l v) = Unit {0}
+  Covered (observe l) = ⊥
 
   module _ (noted : AllNoted (kindNumber k) library netlist (trace cells ss sound k .marks) table) where
     here : (l v : ℕ) → Placed (set l v) → (o : Option Mark) → markAt (trace cells ss sound k .marks) (node k (set l v)) ≡ o → NotedAs (kindNumber k) library netlist o l v table
@@ -129,7 +151,7 @@ module _ (cells : List Cell) (ss : List Statement) (sound : BothSound cells ss) 
     -- ---- an input
 
     unmarked-code : (l v : ℕ) → Placed (set l v) → Unnoted (kindNumber k) library netlist l v table → (before depth : ℕ) → 0 < before
-        → code before depth l v ≡ nodeLine depth l v inputText
+        → code before depth (set l v) ≡ nodeLine depth l v inputText
     unfolding code goalLine goalRow pick
     unmarked-code l v placed u before depth h =
         let goal = l * 2 + v in
@@ -143,7 +165,7 @@ module _ (cells : List Cell) (ss : List Statement) (sound : BothSound cells ss) 
 
     -- ---- a row
 
-    module _ (l v : ℕ) (placed : Placed (set l v)) (m : Mark) (nt : Noted (kindNumber k) library netlist l v m table) (c : Chosen cells ss sound k l v m) where
+    module _ (l v : ℕ) (placed : Placed (set l v)) (m : Mark) (e : markAt (trace cells ss sound k .marks) (node k (set l v)) ≡ some m) (nt : Noted (kindNumber k) library netlist l v m table) (c : Chosen cells ss sound k Has (turnsFor cells ss (set l v)) (set l v) m) where
       abbrev i : ℕ
       i = nt .gate
 
@@ -158,17 +180,20 @@ module _ (cells : List Cell) (ss : List Statement) (sound : BothSound cells ss) 
 
       same-gate : gate ≡ c .gate
       same-gate =
-          sym (driver-is gs (driven-once cells ss (sound .netlist)) gate (getD-listed gs i noGate inside))
-          ∙ ap (driverOf gs) drives ∙ driver-chosen cells ss sound k l v m c
+          one-driver gs (driven-once cells ss (sound .netlist)) gate (c .gate) (getD-listed gs i noGate inside) (c .listed)
+          (drives ∙ sym (set-role (c .gate) (c .role) l v (c .serves) .0))
+
+      same-role : setting v ≡ c .role
+      same-role = set-role (c .gate) (c .role) l v (c .serves) .1
 
       abbrev n : ℕ
       n = cellOf cells gate .pins
 
-      within : m .place < length (wayRows k cells gate v)
-      within = rw same-gate (c .within)
+      within : m .place < length (wayRows k cells gate (setting v))
+      within = rw (same-gate, same-role) (c .within)
 
       abbrev r : Row
-      r = getD (wayRows k cells gate v) (m .place) noRow
+      r = getD (wayRows k cells gate (setting v)) (m .place) noRow
 
       abbrev rows : Group
       rows = groupOf k (cellOf cells gate) (setting v)
@@ -281,9 +306,13 @@ module _ (cells : List Cell) (ss : List Statement) (sound : BothSound cells ss) 
           (asking-few gate (cellOf cells gate) v pins-few r columns-few (lone r listed) _)
           ∙ ap (map value) (asking-named gate (cellOf cells gate) v pins-few r columns-few (lone r listed))
 
+      -- What is written of each column.
+      abbrev columns : ℕ → ℕ → Gate → List Column → List ℕ
+      columns before depth g cs = P.columnsCode cells ss sound k Covered code before depth g cs
+
       joined-columns : (before depth : ℕ) (cs : List Column) → ((d : Column) → List·Memᴰ d cs → MayName n (setting v) d)
-          → joined (lineBytes table netlist before depth) (map value cs) ≡ P.columnsCode cells ss sound k code before depth gate cs
-      unfolding joined value P.columnsCode code
+          → joined (lineBytes table netlist before depth) (map value cs) ≡ columns before depth gate cs
+      unfolding joined value code asked
       joined-columns before depth [] h = refl
       joined-columns before depth (pin j w ∷ cs) h =
           ap (λ (f : List ℕ). lineBytes table netlist before depth (pinLine gate j * 2 + w) ++ f) (joined-columns before depth cs (λ d q. h d (List·Memᴰ·tail q)))
@@ -291,64 +320,68 @@ module _ (cells : List Cell) (ss : List Statement) (sound : BothSound cells ss) 
       joined-columns before depth (C.observe ∷ cs) h = absurd (h C.observe (List·Memᴰ·head refl))
 
       row-code : (before depth : ℕ) → rowBytes table netlist before depth (lastAt table (l * 2 + v)) (columnsAt table (l * 2 + v))
-          ≡ P.columnsCode cells ss sound k code before depth gate (asks gate (cellOf cells gate) (setting v) r)
+          ≡ columns before depth gate (asks gate (cellOf cells gate) (setting v) r)
       unfolding rowBytes
       row-code before depth =
           rw (asking-word, goals-are)
           (joined-columns before depth (asks gate (cellOf cells gate) (setting v) r) (λ d q. asks-named gate (cellOf cells gate) (setting v) r d q))
 
       marked-gate : (before depth : ℕ) → suc (m .time) < before
-          → code before depth l v ≡ nodeLine depth l v (rowText (cellOf cells gate) r) ++ P.columnsCode cells ss sound k code (suc (m .time)) (suc depth) gate (asks gate (cellOf cells gate) (setting v) r)
+          → code before depth (set l v) ≡ nodeLine depth l v (rowText (cellOf cells gate) r) ++ columns (suc (m .time)) (suc depth) gate (asks gate (cellOf cells gate) (setting v) r)
       unfolding code goalLine goalRow pick rowText
       marked-gate before depth h =
           let goal = l * 2 + v in
           let line : goalLine table depth goal ≡ nodeLine depth l v (rowText (cellOf cells gate) r) =
           rw (nt .visit, ne-eqb (suc (m .time)) 0 (λ q. omega arith), goal-line l v (placed .1), goal-value l v (placed .1), row-word) refl in
           let rest : rowBytes table netlist (visitAt table goal) (suc depth) (lastAt table goal) (columnsAt table goal)
-          ≡ P.columnsCode cells ss sound k code (suc (m .time)) (suc depth) gate (asks gate (cellOf cells gate) (setting v) r) =
+          ≡ columns (suc (m .time)) (suc depth) gate (asks gate (cellOf cells gate) (setting v) r) =
           ap (λ (x : ℕ). rowBytes table netlist x (suc depth) (lastAt table goal) (columnsAt table goal)) (nt .visit) ∙ row-code (suc (m .time)) (suc depth) in
           line-some table netlist before depth goal (omega (arith, nt .visit)) ∙ ap₂ (λ (a b : List ℕ). a ++ b) line rest
 
-      marked-code : (before depth : ℕ) → suc (m .time) < before
-          → code before depth l v
-          ≡ nodeLine depth l v (rowText (cellOf cells (c .gate)) (P.rowOf cells ss sound k code l v m c))
-          ++ P.columnsCode cells ss sound k code (suc (m .time)) (suc depth) (c .gate) (asks (c .gate) (cellOf cells (c .gate)) (setting v) (P.rowOf cells ss sound k code l v m c))
-      marked-code before depth h =
-          subst (λ (g : Gate). code before depth l v
-          ≡ nodeLine depth l v (rowText (cellOf cells g) (getD (wayRows k cells g v) (m .place) noRow))
-          ++ P.columnsCode cells ss sound k code (suc (m .time)) (suc depth) g (asks g (cellOf cells g) (setting v) (getD (wayRows k cells g v) (m .place) noRow)))
-          same-gate (marked-gate before depth h)
+      stamp-is : stampOf k cells ss (set l v) ≡ suc (m .time)
+      unfolding stampOf markFor visitOf
+      stamp-is = rw e refl
 
-    pub codes : P.Codes cells ss sound k code
-    unfolding NotedAs
-    codes =
-        record {
-          unmarkedCode = λ l v placed e before depth h. unmarked-code l v placed (here l v placed none e) before depth h;
-          markedCode = λ l v placed m e c before depth h. marked-code l v placed m (here l v placed (some m) e) c before depth h;
-        }
+      marked-code : (before depth : ℕ) → stampOf k cells ss (set l v) < before
+          → code before depth (set l v)
+          ≡ lineFor depth (set l v) (wayText (cellOf cells (c .gate)) (c .gate) (c .role) (P.taken cells ss sound k Covered code (c .gate) (c .role) m))
+          ++ columns (stampOf k cells ss (set l v)) (suc depth) (c .gate) (asks (c .gate) (cellOf cells (c .gate)) (c .role) (P.taken cells ss sound k Covered code (c .gate) (c .role) m))
+      unfolding lineFor wayText
+      marked-code before depth h =
+          rw (← same-gate, ← same-role, stamp-is) (marked-gate before depth (rw stamp-is at h))
+
+    pub codes : P.Codes cells ss sound k Covered code
+    unfolding NotedAs markFor lineFor freeText stampOf visitOf asked purposeOf
+    codes = record { unmarkedCode = free; markedCode = lowered; covers = covers }
+      where
+        free : (p : Purpose) → Placed p → Covered p → markFor k cells ss p ≡ none → (before depth : ℕ) → stampOf k cells ss p < before
+            → code before depth p ≡ lineFor depth p (freeText p)
+        free (set l v) placed q e before depth h = unmarked-code l v placed (here l v placed none e) before depth (omega arith)
+        free (observe l) placed q e before depth h = absurd q
+
+        lowered : (p : Purpose) → Placed p → Covered p → (m : Mark) → markFor k cells ss p ≡ some m → (c : Chosen cells ss sound k Has (turnsFor cells ss p) p m)
+            → (before depth : ℕ) → stampOf k cells ss p < before
+            → code before depth p
+            ≡ lineFor depth p (wayText (cellOf cells (c .gate)) (c .gate) (c .role) (P.taken cells ss sound k Covered code (c .gate) (c .role) m))
+            ++ P.columnsCode cells ss sound k Covered code (stampOf k cells ss p) (suc depth) (c .gate) (asks (c .gate) (cellOf cells (c .gate)) (c .role) (P.taken cells ss sound k Covered code (c .gate) (c .role) m))
+        lowered (set l v) placed q m e c before depth h = marked-code l v placed m e (here l v placed (some m) e) c before depth h
+        lowered (observe l) placed q m e c before depth h = absurd q
+
+        covers : (g : Gate) (role : Role) (d : Column) → MayName (cellOf cells g .pins) role d → Covered (purposeOf g role) → Covered (asked g d)
+        covers g (setting e) (pin i v) h q = tt
+        covers g (setting e) (output v) h q = absurd h
+        covers g (setting e) C.observe h q = absurd h
+        covers g (observing i) d h q = absurd q
 
     -- What the line writer puts is the text of the plan that the marks tell, where the number is a figure.
     pub cheapest : (l v : ℕ) → Placed (set l v) → getD (analysed cells ss .numbers) (node k (set l v)) 0 ≤ most
         → Cheapest cells ss k l v × (lineBytes table netlist 4294967295 0 (l * 2 + v) ≡ cheapestText k cells ss l v)
-    unfolding cheapestText code visitOf
+    unfolding code stampOf markFor visitOf
     cheapest l v placed small =
-        let n = node k (set l v) in
-        let entry : at (analysed cells ss .numbers) n ≡ getD (analysed cells ss .numbers) n 0 =
-        at-getD (analysed cells ss .numbers) n 0 (rw (numbers-length cells ss sound (pricesOf ss) (own-figures sound)) (node-inside k (set l v) placed)) in
-        let same : at (trace cells ss sound k .numbers) n ≡ getD (analysed cells ss .numbers) n 0 = sym (reported cells ss sound l v placed k) ∙ entry in
-        let s = P.shown cells ss sound k code codes (suc (visitOf (markAt (trace cells ss sound k .marks) n))) l v placed (rw same small) (omega arith) in
-        let text = s .tree (suc (visitOf (markAt (trace cells ss sound k .marks) n))) 0 (omega arith) in (
-          record {
-            plan = s .plan;
-            lowered = s .lowered;
-            text = text;
-            costs = s .costs ∙ same;
-            least = λ q. rw (s .costs ∙ same) (exact cells ss sound (pricesOf ss) (own-figures sound) k (set l v) placed .figure _ small .0 refl .1 q);
-          },
-          s .written 4294967295 0 (visit-early l v (markAt (trace cells ss sound k .marks) n) refl) ∙ sym text,
-        )
+        let s = figure-told cells ss sound k Covered code codes (set l v) placed small in
+        (s .0, s .1 tt 4294967295 (visit-early l v (markAt (trace cells ss sound k .marks) (node k (set l v))) refl))
       where
-        visit-early : (l v : ℕ) (o : Option Mark) → markAt (trace cells ss sound k .marks) (node k (set l v)) ≡ o → visitOf (markAt (trace cells ss sound k .marks) (node k (set l v))) < 4294967295
+        visit-early : (l v : ℕ) (o : Option Mark) → markAt (trace cells ss sound k .marks) (node k (set l v)) ≡ o → stampOf k cells ss (set l v) < 4294967295
         visit-early l v none e = omega (arith, ap visitOf e)
         visit-early l v (some m) e = omega (arith, ap visitOf e, early cells ss sound k (node k (set l v)) m e)
 

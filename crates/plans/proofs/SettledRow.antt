@@ -1,17 +1,17 @@
 -- The settled row: the way by which a figure was last lowered still sums to it where sweeps have settled.
 -- Were one of its needs lowered later, its sum would be lower now than the number, and the number would not be settled.
 -- Assumes nothing.
-use mathlib.Core.List.{List, [], _∷_, List·Memᴰ, List·Memᴰ·head, List·Memᴰ·tail}
+use mathlib.Core.List.{List, [], _∷_, _++_, List·Memᴰ, List·Memᴰ·head, List·Memᴰ·tail, Memᴰ·append-right, append-assoc, append-nil}
 use mathlib.Core.Logic.{_⊎_, inl, inr}
 use mathlib.Core.Option.{Option, none, some, Option·some-injective, Option·none-ne-some}
 use mathlib.Core.Path.{_≡_, refl, sym, _∙_, ap, subst}
-use Prim.Native.Nat.{ℕ, zero, suc, _+_, _≤_, _<_, min}
+use Prim.Native.Nat.{ℕ, zero, suc, _+_, _*_, _%_, _≤_, _<_, min}
 use native.Mathlib.Decide.{ℕ-discrete, decLe, decLt}
-use native.Mathlib.Nat.{le-refl, le-trans}
+use native.Mathlib.Nat.{le-refl, le-trans, zero-mul, suc-mul, add-comm, mod-eq-of-lt, add-mul-mod-self-right}
 use native.Mathlib.Omega.{arith}
 use borrow.Author.Tests.{le-leb, lt-leb, lt-ltb, le-ltb}
-use lib.ListN.{length, set, length-set, replicate, length-replicate, getD-replicate, List·getD-eq-default}
-use lib.Seq.{getD-set-same, getD-set-other}
+use lib.ListN.{length, length-append, set, length-set, replicate, length-replicate, getD-replicate, List·getD-eq-default}
+use lib.Seq.{getD-set-same, getD-set-other, getD-append-add}
 use Rattle.cost.specs.Cost.{most, never, _⊕_, capped, counted, lesser}
 use Rattle.reading.specs.Choice.{pick}
 use Rattle.cost.proofs.Laws.{sum-small, sum-exact, sum-left, sum-right}
@@ -20,6 +20,7 @@ use Rattle.plans.specs.Sweep.{at, sums, way, least, Rule, renew, lower, 
 use Rattle.plans.specs.Trace.{
   firstPlace,
   wayAt,
+  visitAt,
   Mark,
   Trace,
   markAt,
@@ -125,6 +126,16 @@ way-need : (xs : List ℕ) (w : Way) (k : ℕ) → List·Memᴰ k (w .needs) →
 unfolding way
 way-need xs w k i = omega (arith, sums-need xs (w .needs) k i, sum-right (capped (w .depth)) (sums xs (w .needs)))
 
+-- ---- the visit that is made at a time
+
+turn-at : (vs past us : List Visit) (v : Visit) (s t : ℕ) → vs ≡ past ++ (v ∷ us) → t ≡ length past + s * length vs → visitAt vs t ≡ v
+unfolding visitAt
+turn-at vs past us v s t e c =
+    let long : length vs ≡ length past + suc (length us) = ap length e ∙ length-append past (v ∷ us) in
+    let place : t % length vs ≡ length past + 0 =
+    ap (λ (x : ℕ). x % length vs) c ∙ add-mul-mod-self-right (length past) s (length vs) ∙ mod-eq-of-lt (omega (arith, long)) ∙ omega arith in
+    rw (place, e) (getD-append-add past (v ∷ us) 0 _)
+
 -- ---- what holds of the marks, visit by visit
 
 module _ (vs : List Visit) (xs : List ℕ) where
@@ -135,6 +146,7 @@ module _ (vs : List Visit) (xs : List ℕ) where
     same : visit .node ≡ n
     within : m .place < length (visit .ways)
     placed : wayAt (visit .ways) (m .place) ≡ m .way
+    turned : visitAt vs (m .time) ≡ visit
 
   -- It sums to the number, and its needs were lowered earlier.
   record Stands (t : Trace) (n : ℕ) (m : Mark) : Type 0 where
@@ -205,6 +217,7 @@ module _ (vs : List Visit) (xs : List ℕ) where
       (v : Visit)
       (f : Traced t)
       (listed : List·Memᴰ v vs)
+      (turn : visitAt vs (t .time) ≡ v)
       (inside : v .node < length xs)
       (falls : least (t .numbers) (v .ways) < at (t .numbers) (v .node))
     where
@@ -248,7 +261,7 @@ module _ (vs : List Visit) (xs : List ℕ) where
       marked-here =
           record {
             past = omega arith;
-            origin = record { visit = v; listed = listed; same = refl; within = first .0; placed = refl };
+            origin = record { visit = v; listed = listed; same = refl; within = first .0; placed = refl; turned = turn };
             stands = λ h.
                 inl
                 (record {
@@ -314,23 +327,29 @@ module _ (vs : List Visit) (xs : List ℕ) where
           place n m e (no q) = marked-other n m q (f .marked n m (sym (mark-other n q) ∙ e))
 
   module _ (inside : Inside vs xs) where
-    traced-visit : (t : Trace) (v : Visit) → List·Memᴰ v vs → Traced t → Traced (traceVisit lower t v)
-    traced-visit t v i f = split (decLt (least (t .numbers) (v .ways)) (at (t .numbers) (v .node)))
+    traced-visit : (t : Trace) (v : Visit) → List·Memᴰ v vs → visitAt vs (t .time) ≡ v → Traced t → Traced (traceVisit lower t v)
+    traced-visit t v i r f = split (decLt (least (t .numbers) (v .ways)) (at (t .numbers) (v .node)))
       where
         split : Dec (least (t .numbers) (v .ways) < at (t .numbers) (v .node)) → Traced (traceVisit lower t v)
-        split (yes h) = rw (visit-falls t v f i (inside v i) h) (traced-falls t v f i (inside v i) h)
+        split (yes h) = rw (visit-falls t v f i r (inside v i) h) (traced-falls t v f i r (inside v i) h)
         split (no h) = rw (visit-still t v f (omega arith)) (traced-still t v f)
 
-    traced-sweep : (us : List Visit) (t : Trace) → ((v : Visit) → List·Memᴰ v us → List·Memᴰ v vs) → Traced t → Traced (traceSweep lower us t)
-    unfolding traceSweep
-    traced-sweep [] t i f = f
-    traced-sweep (v ∷ us) t i f =
-        traced-sweep us (traceVisit lower t v) (λ u m. i u (List·Memᴰ·tail m)) (traced-visit t v (i v (List·Memᴰ·head refl)) f)
+    -- After the visits `past` of sweep s, those left are `us`.
+    traced-sweep : (s : ℕ) (past us : List Visit) (t : Trace) → vs ≡ past ++ us → t .time ≡ length past + s * length vs → Traced t
+        → Traced (traceSweep lower us t) × (traceSweep lower us t .time ≡ length vs + s * length vs)
+    unfolding traceSweep traceVisit
+    traced-sweep s past [] t e c f = (f, c ∙ ap (λ (x : ℕ). x + s * length vs) (sym (ap length (e ∙ append-nil past))))
+    traced-sweep s past (v ∷ us) t e c f =
+        traced-sweep s (past ++ (v ∷ [])) us (traceVisit lower t v) (e ∙ sym (append-assoc past (v ∷ []) us))
+        (rw (length-append past (v ∷ [])) (omega (arith, c)))
+        (traced-visit t v (rw e (Memᴰ·append-right past (List·Memᴰ·head refl))) (turn-at vs past us v s (t .time) e c) f)
 
-    traced-sweeps : (k : ℕ) (t : Trace) → Traced t → Traced (traceSweeps lower vs k t)
+    traced-sweeps : (k s : ℕ) (t : Trace) → t .time ≡ s * length vs → Traced t → Traced (traceSweeps lower vs k t)
     unfolding traceSweeps
-    traced-sweeps zero t f = f
-    traced-sweeps (suc k) t f = traced-sweeps k (traceSweep lower vs t) (traced-sweep vs t (λ v m. m) f)
+    traced-sweeps zero s t c f = f
+    traced-sweeps (suc k) s t c f =
+        let r = traced-sweep s [] vs t refl (omega (arith, c)) f in
+        traced-sweeps k (suc s) (traceSweep lower vs t) (r .1 ∙ sym (suc-mul s (length vs) ∙ add-comm (s * length vs) (length vs))) (r .0)
 
 -- ---- the numbers are those of the sweeps
 
@@ -386,7 +405,7 @@ traces-agree vs k xs once above = traces-same vs once k (untraced xs) above
 pub unmarked-stood : UnmarkedStood
 unmarked-stood vs k xs bounded inside n e =
     rw (← traced-numbers lower vs k xs)
-    (traced-sweeps vs xs inside k (untraced xs) (traced-start vs xs bounded) .unmarked n e)
+    (traced-sweeps vs xs inside k 0 (untraced xs) (unfold untraced in sym (zero-mul (length vs))) (traced-start vs xs bounded) .unmarked n e)
 
 pub settled-row : SettledRow
 settled-row vs k xs bounded inside rest n m e h =
@@ -396,7 +415,7 @@ settled-row vs k xs bounded inside rest n m e h =
     t = traceSweeps lower vs k (untraced xs)
 
     f : Traced vs xs t
-    f = traced-sweeps vs xs inside k (untraced xs) (traced-start vs xs bounded)
+    f = traced-sweeps vs xs inside k 0 (untraced xs) (unfold untraced in sym (zero-mul (length vs))) (traced-start vs xs bounded)
 
     settled : Rests lower vs (t .numbers)
     settled = rw (traced-numbers lower vs k xs) rest
@@ -423,6 +442,7 @@ settled-row vs k xs bounded inside rest n m e h =
           same = r .origin .same;
           within = r .origin .within;
           placed = r .origin .placed;
+          turned = r .origin .turned;
           sums = s .sums;
           earlier = λ j i. need j m (s .earlier j i) (markAt (t .marks) j) refl;
         }

@@ -6,7 +6,7 @@ use mathlib.Core.List.{List, [], _∷_, List·Memᴰ}
 use mathlib.Core.Logic.{_⊎_}
 use mathlib.Core.Option.{Option, none, some}
 use mathlib.Core.Path.{_≡_}
-use Prim.Native.Nat.{ℕ, zero, suc, _<_}
+use Prim.Native.Nat.{ℕ, zero, suc, _%_, _<_}
 use lib.Dec.{leb, ltb}
 use lib.ListN.{length, getD, set, replicate}
 use Rattle.reading.specs.Choice.{pick}
@@ -27,6 +27,11 @@ pub record Mark : Type 0 where
   pub way : Way
   pub place : ℕ
   pub time : ℕ
+
+-- The visit that is made at a time, where sweeps over these visits began at time 0: of several visits to one node, as those of
+-- the pins that read a line, a mark's time tells which one it was.
+unfoldable pub visitAt : List Visit → ℕ → Visit
+visitAt vs t = getD vs (t % length vs) (record { node = 0; ways = [] })
 
 -- The time is the count of visits before, over all sweeps.
 pub record Trace : Type 0 where
@@ -72,7 +77,7 @@ untraced xs = record { numbers = xs; marks = replicate (length xs) none; time = 
 
 -- To compute the marks of a closed system, say `unfolding sweep-open trace-open`.
 unfoldable pub trace-open : ℕ
-unfolding firstPlace wayAt markAt markOf traceVisit traceSweep traceSweeps untraced
+unfolding firstPlace wayAt visitAt markAt markOf traceVisit traceSweep traceSweeps untraced
 trace-open = 0
 
 -- What holds of a mark of the node `n` where sweeps have settled and the number is a figure. `xs` are the numbers at the
@@ -84,6 +89,8 @@ pub record SettledBy (vs : List Visit) (xs : List ℕ) (t : Trace) (n : ℕ) (m 
   pub same : visit .node ≡ n
   pub within : m .place < length (visit .ways)
   pub placed : wayAt (visit .ways) (m .place) ≡ m .way
+  -- which is the one made at the mark's time
+  pub turned : visitAt vs (m .time) ≡ visit
   -- it still sums to the number
   pub sums : way (t .numbers) (m .way) ≡ at (t .numbers) n
   -- and each node that it needs was never lowered, or last at an earlier visit
