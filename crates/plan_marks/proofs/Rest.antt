@@ -83,7 +83,7 @@ module _ (cells : List Cell) (ss : List Statement) (sound : BothSound cells ss) 
     -- ---- the numbers reported
 
     -- A node of the kind that sets a line.
-    abbrev Own : ℕ → Type 0
+    abbrev pub Own : ℕ → Type 0
     Own n = (l : ℕ) × (v : ℕ) × Placed (set l v) × (n ≡ node k (set l v))
 
     pub visits-inside : Inside visits (start ss)
@@ -104,7 +104,7 @@ module _ (cells : List Cell) (ss : List Statement) (sound : BothSound cells ss) 
     own-asked g m (setting e) s C.observe h = absurd h
     own-asked g m (observing i) s C.observe h = absurd s
 
-    looks : Looks Own visits
+    pub looks : Looks Own visits
     looks =
         record {
           visits = λ v m.

@@ -34,7 +34,7 @@ use Rattle.plan_marks.proofs.Turned.{Serves, setting-turn, observing-turn, turn
 use Rattle.plan_text.proofs.Times.{timely}
 
 -- A column that a row which sets a value names is a pin.
-pin-only : (c : Cell) (n : ℕ) (role : Role) (d : Column) → Sets c role → MayName n role d → (i : ℕ) × (v : ℕ) × (d ≡ pin i v)
+pub pin-only : (c : Cell) (n : ℕ) (role : Role) (d : Column) → Sets c role → MayName n role d → (i : ℕ) × (v : ℕ) × (d ≡ pin i v)
 pin-only c n role (pin i v) s h = (i, v, refl)
 pin-only c n (setting e) (output v) s h = absurd h
 pin-only c n (observing i) (output v) s h = absurd s

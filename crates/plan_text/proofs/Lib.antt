@@ -4,3 +4,5 @@ pub mod ChosenRow
 pub mod Planned
 pub mod Figure
 pub mod Written
+pub mod Padded
+pub mod Route

@@ -1,16 +1,18 @@
--- Runs on tables that are alike at the nodes that the run looks at.
+-- Runs on tables that are alike at the nodes that the run looks at, and what they remember.
 -- Assumes nothing.
 use mathlib.Core.List.{List, [], _∷_, List·Memᴰ, List·Memᴰ·head, List·Memᴰ·tail}
+use mathlib.Core.Option.{none}
 use mathlib.Core.Path.{_≡_, refl, sym, _∙_, ap, ap₂}
 use Prim.Native.Nat.{ℕ, zero, suc, _≤_, _<_}
 use native.Mathlib.Decide.{ℕ-discrete, decLt}
 use native.Mathlib.Omega.{arith}
-use lib.ListN.{length}
+use lib.ListN.{length, replicate}
 use Rattle.cost.specs.Cost.{lesser}
 use Rattle.plans.specs.System.{Way, Visit}
 use Rattle.plans.specs.Sweep.{at, least, Rule, renew, lower, sweep, sweeps, Rests, Settles}
 use Rattle.plans.specs.Idle.{Needs}
-use Rattle.plans.specs.Continued.{Alike, Looks, Reads, AlikeSettles}
+use Rattle.plans.specs.Continued.{Alike, Looks, Reads, AlikeSettles, AlikeTraces}
+use Rattle.plans.specs.Trace.{firstPlace, markOf, Trace, traceVisit, traceSweep, traceSweeps, untraced}
 use Rattle.plans.proofs.Numbers.{at-set-same, at-ext}
 use Rattle.plans.proofs.Lowered.{way-same, lower-here, lower-past}
 use Rattle.plans.proofs.Kept.{Stores, rule-length, rule-other, sweep-length, sweep-other, sweeps-length}
@@ -111,3 +113,58 @@ alike-settles rule stores reads P vs xs ys zs k l a s = (sweeps rule vs (s .chan
           changed = λ i h e.
               s .changed i h (rests-alike rule stores reads P vs l (alike-sym rule stores reads P (sweeps-alike rule stores reads P vs l i a)) e);
         }
+
+-- ---- and what they remember
+
+first-same : (xs ys : List ℕ) (ws : List Way) → ((w : Way) → List·Memᴰ w ws → (n : ℕ) → List·Memᴰ n (w .needs) → at xs n ≡ at ys n) → firstPlace xs ws ≡ firstPlace ys ws
+unfolding firstPlace
+first-same xs ys [] h = refl
+first-same xs ys (w ∷ ws) h =
+    let rest : (u : Way) → List·Memᴰ u ws → (n : ℕ) → List·Memᴰ n (u .needs) → at xs n ≡ at ys n = λ u m. h u (List·Memᴰ·tail m) in
+    rw (way-same xs ys w (h w (List·Memᴰ·head refl)), least-same xs ys ws rest, first-same xs ys ws rest) refl
+
+-- Numbers that are alike, and the same marks at the same time.
+record Remember (P : ℕ → Type 0) (t u : Trace) : Type 0 where
+  alike : Alike P (t .numbers) (u .numbers)
+  marks : t .marks ≡ u .marks
+  time : t .time ≡ u .time
+
+module _ (rule : Rule) (stores : Stores rule) (reads : Reads rule) (P : ℕ → Type 0) where
+  visit-remembers : (t u : Trace) (v : Visit) → P (v .node) → ((n : ℕ) → Needs v n → P n) → Remember P t u → Remember P (traceVisit rule t v) (traceVisit rule u v)
+  unfolding traceVisit markOf
+  visit-remembers t u v own needs a =
+      let same : (n : ℕ) → Needs v n → at (t .numbers) n ≡ at (u .numbers) n = λ n d. a .alike .same n (needs n d) in
+      record {
+        alike = visit-alike rule stores reads P v own needs (a .alike);
+        marks =
+            rw (
+              visit-same (t .numbers) (u .numbers) v same,
+              first-same (t .numbers) (u .numbers) (v .ways) (λ w m n i. same n (record { way = w; listed = m; among = i })),
+              a .alike .same (v .node) own,
+              a .marks,
+              a .time,
+            )
+            refl;
+        time = ap suc (a .time);
+      }
+
+  sweep-remembers : (vs : List Visit) (t u : Trace) → Looks P vs → Remember P t u → Remember P (traceSweep rule vs t) (traceSweep rule vs u)
+  unfolding traceSweep
+  sweep-remembers [] t u l a = a
+  sweep-remembers (v ∷ vs) t u l a =
+      sweep-remembers vs (traceVisit rule t v) (traceVisit rule u v)
+      (record { visits = λ w m. l .visits w (List·Memᴰ·tail m); needs = λ w m. l .needs w (List·Memᴰ·tail m) })
+      (visit-remembers t u v (l .visits v (List·Memᴰ·head refl)) (l .needs v (List·Memᴰ·head refl)) a)
+
+  sweeps-remember : (vs : List Visit) (k : ℕ) (t u : Trace) → Looks P vs → Remember P t u → Remember P (traceSweeps rule vs k t) (traceSweeps rule vs k u)
+  unfolding traceSweeps
+  sweeps-remember vs zero t u l a = a
+  sweeps-remember vs (suc k) t u l a = sweeps-remember vs k (traceSweep rule vs t) (traceSweep rule vs u) l (sweep-remembers vs t u l a)
+
+pub alike-traces : (rule : Rule) → Stores rule → Reads rule → (P : ℕ → Type 0) → AlikeTraces rule P
+unfolding untraced
+alike-traces rule stores reads P vs k xs ys l a =
+    let r : Remember P (traceSweeps rule vs k (untraced xs)) (traceSweeps rule vs k (untraced ys)) =
+    sweeps-remember rule stores reads P vs k (untraced xs) (untraced ys) l
+    (record { alike = a; marks = ap (λ (n : ℕ). replicate n none) (a .long); time = refl }) in
+    (r .marks, r .time)

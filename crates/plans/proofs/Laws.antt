@@ -45,7 +45,7 @@ pub use Rattle.plans.proofs.Comparison.{stands-least, stands-carried, e
 -- ---- runs from numbers that stand, as specs/Continued.antt states them: K11, K13 and K14
 pub use Rattle.plans.proofs.Numbers.{at-ext}
 pub use Rattle.plans.proofs.Continued.{exact-table, standing-start, standing-above, continued, settled-stays, lower-start, between-settles, pad-settles, pad-idle, lowered-stages, lowered-under}
-pub use Rattle.plans.proofs.Alike.{lower-reads, renew-reads, rests-alike, alike-settles}
+pub use Rattle.plans.proofs.Alike.{lower-reads, renew-reads, rests-alike, alike-settles, alike-traces}
 -- ---- numbers within a budget (K12), as specs/Budget.antt states it; `way-fixed`, what an offer is, for a reader
 pub use Rattle.plans.proofs.Budget.{way-fixed, fixed-exact, other-between, budget-stops, steps-counted, more-budget, budget-ends, budget-same, idle-same, among-most, first-cheapest, step-first, step-none, bid-kept, offered-one, offered-none, at-none}
 -- ---- what request K3 rests on

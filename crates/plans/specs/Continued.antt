@@ -11,6 +11,7 @@ use Rattle.plans.specs.Sweep.{at, Rule, lower, sweeps, Rests, Settles, I
 use Rattle.plans.specs.Exact.{Exact, Start}
 use Rattle.plans.specs.Stages.{Stage, allVisits, Stages, Apart, AllWork, AllWithin}
 use Rattle.plans.specs.Idle.{Needs}
+use Rattle.plans.specs.Trace.{traceSweeps, untraced}
 
 -- ---- by plans: all runs, one after the other
 
@@ -137,6 +138,15 @@ AlikeSettles rule P =
     Alike P xs ys →
     Settles rule vs xs k zs →
     (ws : List ℕ) × Settles rule vs ys k ws × Alike P zs ws
+
+-- `alike-traces`: .. and sweeps that remember have the same marks: request E1, whose pads change the start of CO and SO alone.
+abbrev pub AlikeTraces : Rule → (ℕ → Type 0) → Type 0
+AlikeTraces rule P =
+    (vs : List Visit) (k : ℕ) (xs ys : List ℕ) →
+    Looks P vs →
+    Alike P xs ys →
+    (traceSweeps rule vs k (untraced xs) .marks ≡ traceSweeps rule vs k (untraced ys) .marks)
+    × (traceSweeps rule vs k (untraced xs) .time ≡ traceSweeps rule vs k (untraced ys) .time)
 
 -- ---- stages that keep the lesser, whatever their rule
 
