@@ -161,7 +161,7 @@ module _ (cells : List Cell) (ss : List Statement) (sound : BothSound cells ss) 
 -- ---- the numbers
 
 module _ (cells : List Cell) (ss : List Statement) (sound : BothSound cells ss) (p : Purpose) (placed : Placed p) where
-  number-rises : (k : Kind) (low high : Pricing) → Figures low ss → Figures high ss
+  pub number-rises : (k : Kind) (low high : Pricing) → Figures low ss → Figures high ss
       → ((l : ℕ) → isInput l ss ≡ true → inputCost low k l ≤ inputCost high k l)
       → numberAt low cells ss k p ≤ numberAt high cells ss k p
   number-rises k low high f g h =

@@ -25,3 +25,6 @@ pub use Rattle.calculation.proofs.Budget.{within-budget}
 pub use Rattle.calculation.proofs.AnyNumbers.{setting-within, observing-within, last-runs}
 pub use Rattle.calculation.proofs.Rows.{ways-added, on-settled, on-few, on-numbers, goes-on-lower}
 pub use Rattle.calculation.proofs.Outputs.{analysed-runs, outputs-analysed, outputs-lower}
+-- ---- one pad more, and where its effect spreads, as specs/Effects.antt states them
+pub use Rattle.calculation.proofs.Effects.{pad-lesser, never-falls, falls-just}
+pub use Rattle.calculation.proofs.Spread.{falls-spread}

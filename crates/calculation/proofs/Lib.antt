@@ -18,4 +18,7 @@ pub mod Trials
 pub mod AdvisedLine
 pub mod StandingAnalysis
 pub mod NewLibrary
+pub mod Parted
+pub mod Effects
+pub mod Spread
 pub mod Laws

@@ -2,6 +2,7 @@
 -- Assumes nothing.
 use mathlib.Core.Bool.{true}
 use mathlib.Core.List.{List, List·Memᴰ}
+use mathlib.Core.Logic.{_⊎_}
 use mathlib.Core.Path.{_≡_}
 use Prim.Native.Nat.{ℕ}
 use Rattle.library_table.specs.Cells.{Row, Cell}
@@ -24,3 +25,9 @@ pub record OutputsAdded (ss ts : List Statement) : Type 0 where
   pub gates : gatesOf ts ≡ gatesOf ss
   pub inputs : (l : ℕ) → isInput l ts ≡ isInput l ss
   pub outputs : (l : ℕ) → isOutput l ss ≡ true → isOutput l ts ≡ true
+
+-- A netlist whose outputs are those of two others, each with its gates and inputs.
+pub record OutputsParted (ss us ts : List Statement) : Type 0 where
+  pub left : OutputsAdded ss ts
+  pub right : OutputsAdded us ts
+  pub either : (l : ℕ) → isOutput l ts ≡ true → (isOutput l ss ≡ true) ⊎ (isOutput l us ≡ true)

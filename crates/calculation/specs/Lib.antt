@@ -14,5 +14,6 @@ pub mod StandingAnalysis
 pub mod Advice
 pub mod Changes
 pub mod Between
+pub mod Effects
 pub mod Budget
 pub mod Stored

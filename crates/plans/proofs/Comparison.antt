@@ -4,7 +4,7 @@ use mathlib.Core.List.{List}
 use mathlib.Core.Logic.{_⊎_, inl, inr}
 use mathlib.Core.Option.{some}
 use mathlib.Core.Path.{_≡_, refl, sym, _∙_, ap}
-use Prim.Native.Nat.{ℕ, zero, suc, _+_, _≤_, _<_}
+use Prim.Native.Nat.{ℕ, zero, suc, _+_, _≤_, _<_, min}
 use native.Mathlib.Decide.{ℕ-discrete, decLe}
 use native.Mathlib.Nat.{le-refl}
 use native.Mathlib.Omega.{arith}
@@ -105,6 +105,35 @@ stands-carried {P} {Q} c d to from x e = stands d x (there (stands-attained c x 
     there : AttainedBy P c x → AttainedBy Q d x
     there (inl a) = inl a
     there (inr t) = inr (to (t .0) .0, t .1 ∙ ap capped (sym (to (t .0) .1)))
+
+-- Where each of one's plans has one of two others' that costs no more, and each of theirs one of it, its number is the lesser of
+-- the two.
+pub stands-lesser : {P Q R : Type 0} (c : P → ℕ) (d : Q → ℕ) (f : R → ℕ)
+    → ((p : P) → ((q : Q) × (d q ≤ c p)) ⊎ ((r : R) × (f r ≤ c p))) → ((q : Q) → (p : P) × (c p ≤ d q)) → ((r : R) → (p : P) × (c p ≤ f r))
+    → (x y z : ℕ) → Stands P c x → Stands Q d y → Stands R f z → x ≡ min y z
+unfolding capped
+stands-lesser {P} {Q} {R} c d f part left right x y z e g h =
+    let a : x ≤ y = stands-least d c left y x g e in
+    let b : x ≤ z = stands-least f c right z x h e in
+    let m : min y z ≤ x = split (stands-attained c x e) in
+    omega arith
+  where
+    split : AttainedBy P c x → min y z ≤ x
+    split (inl a) = omega (arith, stands-cost d y g)
+    split (inr t) = side (part (t .0))
+      where
+        side : ((q : Q) × (d q ≤ c (t .0))) ⊎ ((r : R) × (f r ≤ c (t .0))) → min y z ≤ x
+        side (inl q) = omega (arith, stands-below d y g (q .0), t .1, q .1)
+        side (inr r) = omega (arith, stands-below f z h (r .0), t .1, r .1)
+
+-- Where one number stands of both, each of one's plans has one of the other's that costs no more by the order of costs, in which
+-- all that is over is one.
+pub stands-none-less : {P Q : Type 0} (c : P → ℕ) (d : Q → ℕ) (x : ℕ) → Stands P c x → Stands Q d x → (p : P) → (q : Q) × (capped (d q) ≤ capped (c p))
+stands-none-less {P} {Q} c d x e f p = split (stands-attained d x f)
+  where
+    split : AttainedBy Q d x → (q : Q) × (capped (d q) ≤ capped (c p))
+    split (inl a) = absurd (e .isNever .0 a p)
+    split (inr t) = (t .0, rw (← t .1) (stands-below c x e p))
 
 pub exact-once : ExactOnce
 exact-once S n x y e f =

@@ -41,7 +41,7 @@ pub use Rattle.plans.proofs.BothRules.{lowers-settle, within-lowers}
 -- ---- runs one after the other, as specs/Stages.antt states them
 pub use Rattle.plans.proofs.Stages.{settles-under, ranked-apart, stages-within, stages-once, stages-append, stages-left, stages-exact, first-start, left-here}
 -- ---- exact numbers of one node, and of two systems
-pub use Rattle.plans.proofs.Comparison.{stands-least, stands-carried, exact-once, attained-more}
+pub use Rattle.plans.proofs.Comparison.{stands-attained, stands-below, stands-least, stands-lesser, stands-none-less, stands-carried, exact-once, attained-more}
 -- ---- runs from numbers that stand, as specs/Continued.antt states them: K11, K13 and K14
 pub use Rattle.plans.proofs.Numbers.{at-ext}
 pub use Rattle.plans.proofs.Continued.{exact-table, standing-start, standing-above, continued, settled-stays, lower-start, between-settles, pad-settles, pad-idle, lowered-stages, lowered-under}
