@@ -233,6 +233,15 @@ tiedAt = driversAt + linePlaces
 abbrev pub links : ℕ
 links = tiedAt + gates
 
+-- ---- the walk of crate `trial_back`
+
+-- The lines that wait on its stack, and the turns that it takes at most: one that would need more ends early.
+abbrev pub backLines : ℕ
+backLines = 64
+
+abbrev pub backTurns : ℕ
+backTurns = 100
+
 -- ---- the marks of crate `plan_marks`
 
 -- For each line, counted from 0, and each value: the visit, the row as its entry writes it, the columns by which it asks, and

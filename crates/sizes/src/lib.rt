@@ -167,6 +167,13 @@ pub const TIED_AT: usize = DRIVERS_AT + LINE_PLACES;
 
 pub const LINKS: usize = TIED_AT + GATES;
 
+// ---- the walk of crate `trial_back`
+
+// The lines that wait on its stack, and the turns that it takes at most: one that would need more ends early.
+pub const BACK_LINES: usize = 64;
+
+pub const BACK_TURNS: usize = 100;
+
 // ---- the marks of crate `plan_marks`
 
 // For each line, counted from 0, and each value: the visit, the row as its entry writes it, the columns

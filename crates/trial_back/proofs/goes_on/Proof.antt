@@ -1,0 +1,12 @@
+-- `goes_on` says yes only where all three hold. Assumes nothing.
+use mathlib.Core.Bool.{true≢false}
+use mathlib.Core.Path.{sym}
+use native.Mathlib.Omega.{arith}
+use Rattle.trial_back.proofs.goes_on.Statement.{statement}
+use Rattle.trial_back.proofs.goes_on.Tie as tie
+
+pub goes-on-spec : {M : Type 1} → statement M
+goes-on-spec =
+    tie.close
+    (tie.spec (λ c e. absurd (true≢false (sym e))) (λ c. omega arith) (λ c e. absurd (true≢false (sym e))) (λ c e. absurd (true≢false (sym e)))
+    (λ c e. (omega arith, omega arith, omega arith)))
