@@ -84,6 +84,7 @@ pads: need-rt need-cargo
 	@large/build '$(LINES)' --pads
 else
 pads: archive need-cargo
+	@pads/wasm
 	@cd pads && cargo build -q --release --offline -j1
 	@mkdir -p target/bin && cp target/pads/release/scoap_pads target/bin/scoap_pads
 	@target/bin/scoap_pads page examples/c17 -o target/c17.html

@@ -1,5 +1,6 @@
 //! One self-contained page of a design: profiles, the table, reasons and pads. Names are data, never markup.
 
+use crate::archive;
 use crate::cost::Cost;
 use crate::load;
 use crate::model::{Model, Number};
@@ -11,8 +12,6 @@ use std::collections::HashMap;
 use std::fmt::Write;
 
 const TEMPLATE: &str = include_str!("page.html");
-/// Nets listed that a pad makes easier to see; protected ones always.
-const MOST_EASIER: usize = 60;
 const MOST_WAYS: usize = 12;
 
 /// A string of JSON that can stand inside a script: `<` never begins a tag.
@@ -44,6 +43,18 @@ fn cost(of: Cost) -> String {
         Cost::Figure(figure) => figure.to_string(),
         other => text(&other.plain()),
     }
+}
+
+fn base64(bytes: &[u8]) -> String {
+    const DIGITS: &[u8; 64] = b"ABCDEFGHIJKLMNOPQRSTUVWXYZabcdefghijklmnopqrstuvwxyz0123456789+/";
+    let mut out = String::with_capacity(bytes.len() / 3 * 4 + 4);
+    for three in bytes.chunks(3) {
+        let all = (0..3).fold(0, |all, at| all << 8 | u32::from(three.get(at).copied().unwrap_or(0)));
+        for at in 0..4 {
+            out.push(if at > three.len() { '=' } else { DIGITS[(all >> (18 - 6 * at) & 63) as usize] as char });
+        }
+    }
+    out
 }
 
 /// The role of a node: 0 and 1 set a line to the value, 2 sees it.
@@ -80,8 +91,14 @@ pub fn page(path: &str, model: &Model, placed: &[usize], privacy: &Privacy, said
     let model = pads::placed(model, placed)?;
     let effects = pads::by_line(&model)?;
     let steps = all_steps(&model)?;
-    let lines = model.lines().map(|line| line_data(&model, line, effects.get(&line), privacy, &steps[&line]));
+    let lines = model.lines().map(|line| line_data(&model, line, effects.get(&line), &steps[&line]));
     let numbers = |lines: &[usize]| list(lines.iter().map(usize::to_string));
+    let texts = format!(
+        "{{\"lib\":{},\"net\":{},\"sizes\":{}}}",
+        text(&String::from_utf8_lossy(&model.lib)),
+        text(&String::from_utf8_lossy(&model.net)),
+        numbers(&archive::SIZES)
+    );
     let data = format!(
         "{{\"title\":{},\"summary\":{},\"nevers\":{},\"warnings\":{},\"pads\":{},\"forbidden\":{},\"protected\":{},\"lines\":{}}}",
         text(&model.title),
@@ -93,38 +110,35 @@ pub fn page(path: &str, model: &Model, placed: &[usize], privacy: &Privacy, said
         numbers(&privacy.protected),
         list(lines)
     );
-    let (head, tail) = TEMPLATE.split_once("@DATA@").expect("a place for the data");
-    Ok([head, &data, tail].concat())
+    let mut page = TEMPLATE.to_string();
+    // Each place is after the one before it, so that no data is taken for a place.
+    let mut from = 0;
+    for (place, content) in [("@DATA@", data), ("@TEXTS@", texts), ("@WASM@", base64(archive::WASM))] {
+        let at = from + page[from..].find(place).expect("a place for the data");
+        page.replace_range(at..at + place.len(), &content);
+        from = at + content.len();
+    }
+    Ok(page)
 }
 
-/// The six steps of each line, in the report's order.
+/// The four steps of each line's setting, in the report's order. Pads do not change them; those of seeing are the page's own.
 fn all_steps(model: &Model) -> Result<HashMap<usize, Vec<String>>, String> {
     let mut steps: HashMap<usize, Vec<String>> = HashMap::new();
     let mut kinds = [Reasons::new(model, false), Reasons::new(model, true)];
     for line in model.lines() {
-        let mut six = Vec::new();
-        for (number, _) in Number::ALL {
+        let mut four = Vec::new();
+        for (number, _) in &Number::ALL[..4] {
+            let number = *number;
             let reasons = &mut kinds[usize::from(number.sequential())];
             let found = reasons.step(Node::of(number, line))?;
-            six.push(step(reasons, &found));
+            four.push(step(reasons, &found));
         }
-        steps.insert(line, six);
+        steps.insert(line, four);
     }
     Ok(steps)
 }
 
-/// The nets listed that a pad makes easier to see, with their CO after: protected ones first, then by how far it falls.
-fn listed(model: &Model, effect: &Effect, privacy: &Privacy) -> Vec<(usize, Cost)> {
-    let mut easier = effect.easier.clone();
-    easier.sort_by_key(|&(line, after)| {
-        let fall = pads::fall(model.numbers.of(line)[4], after);
-        (!privacy.protected.contains(&line), std::cmp::Reverse(fall), line)
-    });
-    easier.truncate(MOST_EASIER.max(privacy.touched(effect).len()));
-    easier
-}
-
-fn line_data(model: &Model, line: usize, effect: Option<&Effect>, privacy: &Privacy, steps: &[String]) -> String {
+fn line_data(model: &Model, line: usize, effect: Option<&Effect>, steps: &[String]) -> String {
     let name = model.name(line);
     let six = model.numbers.of(line);
     let mut readers: Vec<usize> = model.readers[line].iter().map(|&(gate, _)| model.gates[gate].line).collect();
@@ -147,15 +161,12 @@ fn line_data(model: &Model, line: usize, effect: Option<&Effect>, privacy: &Priv
     );
     let fed = model.feeds(line).filter(|_| !model.is_output[line]);
     let _ = write!(out, ",\"d\":{}", fed.map_or("null".to_string(), |fed| fed.to_string()));
-    match effect {
-        Some(effect) => {
-            let easier = listed(model, effect, privacy);
-            let easier_list = list(easier.iter().map(|&(line, after)| format!("[{line},{}]", cost(after))));
-            let (gain, freed, count) = (effect.gain, effect.freed, effect.easier.len());
-            let _ = write!(out, ",\"g\":{gain},\"f\":{freed},\"en\":{count},\"e\":{easier_list}}}");
-        }
-        None => out.push_str(",\"g\":null,\"f\":0,\"en\":0,\"e\":null}"),
+    if let Some(effect) = effect {
+        let _ = write!(out, ",\"g\":{},\"f\":{},\"en\":{}", effect.gain, effect.freed, effect.easier.len());
+    } else {
+        out.push_str(",\"g\":null,\"f\":0,\"en\":0");
     }
+    let _ = write!(out, ",\"p\":{}}}", list(name.pins.iter().map(|pin| text(pin))));
     out
 }
 
@@ -172,6 +183,13 @@ mod tests {
     }
 
     #[test]
+    fn bytes_in_base64() {
+        for (bytes, told) in [("", ""), ("f", "Zg=="), ("fo", "Zm8="), ("foo", "Zm9v"), ("foob", "Zm9vYg==")] {
+            assert_eq!(base64(bytes.as_bytes()), told);
+        }
+    }
+
+    #[test]
     fn the_data_is_json() {
         let lib = crate::archive::cell("NAND2", 2, "1110").unwrap();
         let net = b"input,1\ninput,2\ngate,NAND2,3,1,4\ngate,NAND2,4,2,3\noutput,3\n".to_vec();
@@ -181,6 +199,9 @@ mod tests {
         let data = crate::json::parse(data).unwrap();
         assert_eq!(data.get("lines").unwrap().items().len(), 4);
         assert_eq!(data.get("pads").unwrap().items()[0].whole(), Some(2));
-        assert_eq!(page.matches("@DATA@").count(), 0);
+        assert_eq!(
+            page.matches("@DATA@").count() + page.matches("@TEXTS@").count() + page.matches("@WASM@").count(),
+            0
+        );
     }
 }
