@@ -74,7 +74,7 @@ module _ (text lib ts num rep : List ℕ) (recs : List Record) where
       let asked : List (ℕ × Bool) = (No.undeclared, declaring New && someLine (undeclaredLines ss)) ∷ [] in
       within-then textNumber n (weigh 0 asked) (read ss) (within-weigh textNumber n 0 asked (omega arith) refl) tt)
 
-  checked : Checked given
+  pub checked : Checked given
   unfolding givenRecords fromRecords recordStatements
   checked =
       record {

@@ -18,17 +18,11 @@ use Rattle.library_table.specs.Cells.{Cell}
 use Rattle.library_table.specs.Library.{library}
 use Rattle.netlist_table.specs.declared.Rules.the-variants.{New}
 use Rattle.netlist_table.specs.Netlist.{Statement, admitted, lineForms, textStatements, declared, netlist, netlist-open}
-use Rattle.demands.specs.Demands.{Promised}
-use Rattle.demands.specs.declared.Summary.{Summary}
 use Rattle.demands.specs.Outcome.{Lent, Pair, pairOf, givenBy, givenTexts, textLong, tableShort, conclude, readPair, reading, entry, outcome, answer, left, leftFrom}
 use Rattle.netlist_records.specs.declared.Record.{Record}
 use Rattle.netlist_records.specs.Records.{allZero, pinsBefore, endsInZeros, markForm, gateForm, recordForm, recordForms, recordStatements, fromRecords}
 use Rattle.analysis_records.specs.Outcome.{givenRecords}
-
--- Against the cells of the library, each record says what the line at its place says. A line of bad form is said by a record
--- of bad form, so that refused lists are tied too.
-unfoldable pub SaySame : List ℕ → List ℕ → List Record → Type 0
-SaySame lib net rs = (cells : List Cell) → library lib ≡ read cells → recordForms rs ≡ lineForms New cells (lines net)
+use Rattle.analysis_records.specs.Same.{SaySame, SameCalls}
 
 module _ (lib net : List ℕ) (rs : List Record) (same : SaySame lib net rs) where
   same-statements : (cells : List Cell) → library lib ≡ read cells → fromRecords rs cells ≡ netlist New cells net
@@ -66,13 +60,12 @@ module _ (lib net : List ℕ) (rs : List Record) (same : SaySame lib net rs) whe
     unfolding left
     same-left m = λ i. leftFrom (same-entry m i) (same-reading (length (m .report)) i) m
 
-    -- Of two calls that keep their promises, which `analyse_records` and `analysis_call::analyse` do.
-    pub same-calls : (before after after′ : Lent) (said said′ : Read Summary) → Promised (givenRecords lib rs) before after said
-        → Promised (givenTexts lib net) before after′ said′ → (said ≡ said′) × (after ≡ after′)
-    same-calls before after after′ said said′ p q = (
-      p .answers ∙ ap answer (same-outcome before) ∙ sym (q .answers),
-      p .leaves ∙ same-left before ∙ sym (q .leaves),
-    )
+-- Of two calls that keep their promises, which `analyse_records` and `analysis_call::analyse` do.
+pub same-calls : SameCalls
+same-calls lib net rs same short before after after′ said said′ p q = (
+  p .answers ∙ ap answer (same-outcome lib net rs same short before) ∙ sym (q .answers),
+  p .leaves ∙ same-left lib net rs same short before ∙ sym (q .leaves),
+)
 
 -- An input, an output, an open line and a line of bad form, said both ways; the cells do not matter to them.
 marks-same : (lib : List ℕ) → SaySame lib (bytes "input,1\noutput,2\nopen,2\ninput,01\n")

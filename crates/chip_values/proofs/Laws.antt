@@ -5,7 +5,6 @@ use mathlib.Core.Bool.{Bool, true, false}
 use mathlib.Core.List.{List, List·Memᴰ}
 use mathlib.Core.Path.{_≡_, refl, subst}
 use Prim.Native.Nat.{ℕ}
-use Rattle.reading.specs.Refusal.{Read, read}
 use Rattle.cost.specs.Cost.{never}
 use Rattle.library_table.specs.Cells.{Cell}
 use Rattle.netlist_table.specs.Netlist.{Gate, Statement, gatesOf, mentioned}
@@ -13,14 +12,13 @@ use Rattle.netlist_table.specs.Sound.{InRange}
 use Rattle.netlist_table.proofs.Laws.{mentioned-in-range}
 use Rattle.calculation.specs.Acceptance.{BothSound}
 use Rattle.calculation.specs.Nodes.{combinational, set}
-use Rattle.calculation.specs.Prices.{Pricing, pricesOf, WithinRanges}
+use Rattle.calculation.specs.Prices.{Pricing, pricesOf}
 use Rattle.calculation.specs.Calculation.{analysedAt}
 use Rattle.calculation.specs.LinePlans.{Plan, ExactAt}
 use Rattle.calculation.specs.Ways.{cellOf}
 use Rattle.calculation.proofs.Laws.{exact}
-use Rattle.demands.specs.declared.Summary.{Summary}
-use Rattle.demands.specs.Outcome.{Given, Lent, givenTexts}
-use Rattle.demands.specs.Demands.{Reported, PairRead, Promised}
+use Rattle.demands.specs.Outcome.{Given, givenTexts}
+use Rattle.demands.specs.Demands.{Reported}
 use Rattle.demands.proofs.Given.{Checked, texts-checked}
 use Rattle.demands.proofs.Room.{pair-sound}
 use Rattle.truth_tables.specs.Tables.{digit}
@@ -28,7 +26,7 @@ use Rattle.truth_tables.proofs.Order.{digit-most}
 use Rattle.chip_values.specs.Loops.{NoneOpen}
 use Rattle.chip_values.specs.Values.{Setting, Values, Tables, Does}
 use Rattle.chip_values.specs.Built.{Qualifies, tablesOf}
-use Rattle.chip_values.specs.Never.{ccNumber, NeverMeans}
+use Rattle.chip_values.specs.Never.{ccNumber, NeverMeans, NeverOf, NeverAtPrices}
 use Rattle.chip_values.proofs.Values.{one-value}
 use Rattle.chip_values.proofs.CellRows.{Tells}
 use Rattle.chip_values.proofs.Rows.{tells}
@@ -72,19 +70,14 @@ module _ (cells : List Cell) (ss : List Statement) (sound : BothSound cells ss) 
       }
 
 -- Of every call whose promise is `Promised`, whatever it is given to read.
-pub never-means-of : (g : Given) → Checked g → (before after : Lent) (said : Read Summary) → Promised g before after said
-    → (pair : PairRead g) (s : Summary) → said ≡ read s → (q : Qualifies (pair .cells) (pair .statements))
-    → NeverMeans (pair .statements) (tablesOf (q .built .bits)) (after .numbers)
+pub never-means-of : (g : Given) → Checked g → NeverOf g
 unfolding ccNumber
 never-means-of g checked before after said p pair s e q =
     never-stands (pair .cells) (pair .statements) (pair-sound g checked pair) q (pricesOf (pair .statements)) (after .numbers)
     (λ l x h. p .demand3 pair s e combinational (set l (digit x)) h)
 
 -- .. and of the numbers at all prices within the ranges, those of the second report among them: ranges do not touch it.
-pub never-at-prices : (g : Given) → Checked g → (before after : Lent) (said : Read Summary) → Promised g before after said
-    → (pair : PairRead g) (s : Summary) → said ≡ read s → (q : Qualifies (pair .cells) (pair .statements))
-    → (price : Pricing) → WithinRanges (pair .statements) price
-    → NeverMeans (pair .statements) (tablesOf (q .built .bits)) (analysedAt price (pair .cells) (pair .statements) .numbers)
+pub never-at-prices : (g : Given) → Checked g → NeverAtPrices g
 unfolding ccNumber
 never-at-prices g checked before after said p pair s e q price w =
     never-stands (pair .cells) (pair .statements) (pair-sound g checked pair) q price
@@ -92,7 +85,5 @@ never-at-prices g checked before after said p pair s e q price w =
     (λ l x h. p .reporting pair s e .prices .between price w (set l (digit x)) h .exact combinational)
 
 -- Of two texts: behind the promise of `analyse`.
-pub never-means : (lib net : List ℕ) (before after : Lent) (said : Read Summary) → Promised (givenTexts lib net) before after said
-    → (pair : PairRead (givenTexts lib net)) (s : Summary) → said ≡ read s → (q : Qualifies (pair .cells) (pair .statements))
-    → NeverMeans (pair .statements) (tablesOf (q .built .bits)) (after .numbers)
+pub never-means : (lib net : List ℕ) → NeverOf (givenTexts lib net)
 never-means lib net = never-means-of (givenTexts lib net) (texts-checked lib net)

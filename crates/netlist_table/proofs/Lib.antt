@@ -7,6 +7,7 @@ pub mod HeldGates
 pub mod HeldLines
 pub mod Laws
 pub mod OpenLines
+pub mod OtherCells
 pub mod Pad
 pub mod Places
 pub mod Reread

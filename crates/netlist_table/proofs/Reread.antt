@@ -21,6 +21,7 @@ use Rattle.netlist_table.specs.Reread.{SameEntries, SameLines, Rereadabl
 use Rattle.netlist_table.proofs.OpenLines.{declared-read}
 use Rattle.netlist_table.proofs.Laws.{netlist-sound}
 use Rattle.netlist_table.proofs.Causes.{one-more}
+use Rattle.netlist_table.proofs.OtherCells.{netlist-refuses}
 
 -- ---- the same entries
 
@@ -162,4 +163,5 @@ text-rereadable rules text =
       sound = λ cells ss e. netlist-sound cells rules text ss e;
       same = λ cells others e. netlist-same cells others e rules text;
       lines = λ cells others ss ts p q. netlist-lines cells others rules text ss ts p q;
+      refuses = λ cells others ss p. netlist-refuses cells others rules text ss p;
     }

@@ -1,7 +1,7 @@
 -- The facts of statements that were admitted are kept by one statement more. Assumes nothing.
 use mathlib.Core.Bool.{Bool, true, false, _||_}
 use mathlib.Core.List.{List, [], _∷_, _++_, flatMap}
-use mathlib.Core.Logic.{_⊎_, inl, inr}
+use mathlib.Core.Logic.{inl, inr}
 use mathlib.Core.Option.{Option, none, some}
 use mathlib.Core.Path.{_≡_, refl, sym}
 use Prim.Native.Nat.{ℕ, _+_, _≤_, _<_}
@@ -56,6 +56,7 @@ use Rattle.netlist_table.specs.Netlist.{
   causes,
 }
 use Rattle.netlist_table.specs.Admission.{refusalOf, extended}
+use Rattle.netlist_table.specs.Ceiling.{GateCeiling}
 use Rattle.netlist_table.specs.Sound.{InRange, LinesInRange, GateSound, RangeSound, Apart, Sound}
 use Rattle.netlist_table.proofs.LowestCause.{lowest-none}
 use Rattle.netlist_table.proofs.Causes.{lineBad-range, member-append, one-more, member-more, causes-counted, bounds-fit}
@@ -208,16 +209,6 @@ module _ (cells : List Cell) where
       in
       omega (arith, few, count)
 
-  -- So a 1,001st gate has a bad line, which is 11, or drives one that is driven before, which is 14.
-  pub gate-ceiling : (ss : List Statement) (g : Gate) → Sound cells ss → Size.gates ≤ length (gatesOf ss)
-      → (anyLineBad (linesOf (gate g)) ≡ true) ⊎ (drivenBefore ss (gate g) ≡ true)
-  gate-ceiling ss g so many =
-      by-test (anyLineBad (linesOf (gate g)))
-      (λ bad. inl bad)
-      (λ good. by-test (drivenBefore ss (gate g))
-      (λ twice. inr twice)
-      (λ free. absurd (omega (arith, many, gate-space ss g so good free))))
-
   -- One statement more that is admitted keeps the facts.
   sound-more : (ss : List Statement) (s : Statement) → Sound cells ss → lowest (causes cells ss s) ≡ 0
       → Sound cells (ss ++ (s ∷ []))
@@ -249,3 +240,12 @@ module _ (cells : List Cell) where
   unfolding refusalOf extended
   sound-next ss none so h = absurd (omega arith)
   sound-next ss (some s) so h = sound-more ss s so h
+
+-- So a 1,001st gate has a bad line, which is 11, or drives one that is driven before, which is 14.
+pub gate-ceiling : GateCeiling
+gate-ceiling cells ss g so many =
+    by-test (anyLineBad (linesOf (gate g)))
+    (λ bad. inl bad)
+    (λ good. by-test (drivenBefore ss (gate g))
+    (λ twice. inr twice)
+    (λ free. absurd (omega (arith, many, gate-space cells ss g so good free))))

@@ -1,4 +1,5 @@
 pub mod Admission
+pub mod Ceiling
 pub mod Gates
 pub mod Layout
 pub mod Lines

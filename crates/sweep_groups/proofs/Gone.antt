@@ -4,12 +4,13 @@ use mathlib.Core.List.{map}
 use mathlib.Core.Path.{_≡_, refl, _∙_}
 use Prim.Native.Nat.{ℕ, _+_, _*_, _-_, _^_, _≤_, _<_}
 use Rattle.sizes.specs.Sizes as Size
-use Rattle.library_table.specs.Cells.{Row, Cell, bitOf, settingColumns, observingColumns, named}
+use Rattle.library_table.specs.Cells.{bitOf, settingColumns, observingColumns, named}
 use Rattle.library_table.specs.Library.{columnCount}
-use Rattle.calculation.specs.Nodes.{Kind, combinational, sequential}
-use Rattle.calculation.specs.Ways.{Role, setting, observing, wordOf, columnsOf, namedBy}
+use Rattle.calculation.specs.Nodes.{combinational, sequential}
+use Rattle.calculation.specs.Ways.{setting, observing, wordOf, columnsOf, namedBy}
 use Rattle.sweep_sums.specs.Gone.{columnsGone}
 use Rattle.sweep_sums.proofs.Gone.{gone-places}
+use Rattle.sweep_groups.specs.Gone.{GoneNamed}
 use Rattle.sweep_groups.proofs.Named.{setting-named, observing-named}
 
 module _ (n : ℕ) (few : n ≤ Size.pins) where
@@ -21,9 +22,7 @@ module _ (n : ℕ) (few : n ≤ Size.pins) where
   unfolding bitOf
   observing-gone columns b w = gone-places columns w ∙ observing-named n (λ j. j) (bitOf n) (λ i v h c. refl) (λ v c. refl) refl columns few b
 
--- Of every row of a group: the columns gone to are those that the row names, each once, in their order, by their bits.
-pub gone-named : (k : Kind) (c : Cell) (role : Role) → c .pins ≤ Size.pins → (r : Row) → r .columns < 2 ^ columnCount (wordOf k role) (c .pins)
-    → r .columns < 2 ^ 32 → columnsGone (r .columns) ≡ map (bitOf (c .pins)) (namedBy c role r)
+pub gone-named : GoneNamed
 unfolding namedBy columnsOf wordOf columnCount
 gone-named combinational c (setting e) few r b w = setting-gone (c .pins) few (r .columns) b w
 gone-named sequential c (setting e) few r b w = setting-gone (c .pins) few (r .columns) b w

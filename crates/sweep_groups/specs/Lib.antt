@@ -1,3 +1,4 @@
 pub mod Tables
 pub mod Fits
 pub mod Sums
+pub mod Gone

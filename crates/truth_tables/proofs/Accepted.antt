@@ -13,14 +13,13 @@ use borrow.Author.Tests.{eq-eqb, ne-eqb, le-ltb, lt-leb}
 use Rattle.common_laws.proofs.Numbers.{two-four}
 use Rattle.sizes.specs.Sizes as Size
 use Rattle.reading.specs.Each.{Each}
-use Rattle.reading.specs.Refusal.{read}
 use Rattle.reading.proofs.Laws.{by-test, clash, and-left, each-member}
-use Rattle.text_fields.specs.Numeral.{nameForm}
 use Rattle.library_table.specs.Cells.{Row, Group, bit}
 use Rattle.library_table.specs.declared.Word.{Word}
 use Rattle.library_table.specs.declared.Word.the-variants.{CC, CO, SC, SO}
-use Rattle.library_table.specs.Library.{anyOf, aboveRows, above, namesNone, observesNot, groupCount, columnCount, idle, emptyGroup, excepted, rowIdle, library}
-use Rattle.truth_tables.specs.Entries.{literalColumns, termColumns, observeColumn, settingRow, observingRow, settingGroup, observingGroup, settingGroups, groupsFrom, observingGroups, cellOf, rowNumber, entryBytes}
+use Rattle.library_table.specs.Library.{anyOf, aboveRows, above, namesNone, observesNot, groupCount, columnCount, idle, emptyGroup, excepted, rowIdle}
+use Rattle.truth_tables.specs.Entries.{literalColumns, termColumns, observeColumn, settingRow, observingRow, settingGroup, observingGroup, settingGroups, groupsFrom, observingGroups, cellOf, rowNumber}
+use Rattle.truth_tables.specs.Statements.{EntryAccepted}
 use Rattle.truth_tables.specs.Tables.{Setting, Term, output, same, fits, meets, terms, allOf, prime, implicant, dropped, primes, gives, putIn, changes, observing}
 use Rattle.truth_tables.proofs.Lists.{kept, each-kept}
 use Rattle.truth_tables.proofs.Cover.{same-true, implies}
@@ -234,8 +233,7 @@ unfolding groupCount columnCount rowIdle excepted idle
 observing-other n gs g = record { rows = g .rows; count = g .count; few = g .few; within = g .within; useful = g .useful }
 
 -- For every truth table: the entry is accepted by the library reader, and its decoded groups are those rows.
-pub entry-accepted : (name : List ℕ) (n : ℕ) (bits : List Bool) → nameForm name ≡ true → n ≤ 4
-    → library (entryBytes (cellOf name n bits)) ≡ read (cellOf name n bits ∷ [])
+pub entry-accepted : EntryAccepted
 unfolding cellOf
 entry-accepted name n bits f h =
     cell-read name n (settingGroups 1 n bits) (observingGroups 1 n bits) (settingGroups 0 n bits) (observingGroups 0 n bits) f h

@@ -15,6 +15,7 @@ use Rattle.library_table.specs.Cells.{Row}
 use Rattle.truth_tables.proofs.Lists.{map-append, map-map, map-same}
 use Rattle.truth_tables.specs.Entries.{literalColumns, termColumns, observeColumn, settingRow, observingRow, settingGroup, observingGroup, rowNumber}
 use Rattle.truth_tables.specs.Tables.{Setting, digit, place, Term, terms, Condition, keep, prime, primes, gives, putIn, changes, observing, Descends}
+use Rattle.truth_tables.specs.Statements.{SettingDescends, ObservingDescends}
 
 -- ---- numbers
 
@@ -200,12 +201,12 @@ descends-rows d c row f (t ∷ ts) e = (each-row ts (e .0), descends-rows d c ro
     each-row (q ∷ qs) g = (omega (arith, f q, f t, g .0), each-row qs (g .1))
 
 -- "Every group's rows stand by descending octal value".
-pub setting-descends : (d n : ℕ) (bits : List Bool) (e : Bool) → Descends (map rowNumber (settingGroup d n bits e))
+pub setting-descends : SettingDescends
 unfolding settingGroup settingRow rowNumber
 setting-descends d n bits e =
     descends-rows d 0 (settingRow d) (λ t. omega arith) (primes n (gives bits e)) (ordered-primes n (gives bits e) .descends)
 
-pub observing-descends : (d n : ℕ) (bits : List Bool) (k : ℕ) → 1 ≤ n → Descends (map rowNumber (observingGroup d n bits k))
+pub observing-descends : ObservingDescends
 unfolding observingGroup observingRow rowNumber
 observing-descends d n bits k h =
     descends-rows d (observeColumn n) (observingRow d n) (λ t. refl) (observing n bits k) (ordered-observing n bits k h .descends)

@@ -19,8 +19,8 @@ use Rattle.library_table.specs.Library.{anyOf}
 use Rattle.library_table.proofs.Columns.{named-from, named-bit, named-listed, pin-column, PinAt, column-pin}
 use Rattle.truth_tables.specs.Tables.{Setting, Term, digit, meets, terms, allOf, prime, primes, Condition, gives, putIn, changes, observing}
 use Rattle.truth_tables.specs.Entries.{termColumns, observeColumn, settingRow, observingRow, settingGroup, observingGroup, settingGroups, groupsFrom, observingGroups, cellOf}
-use Rattle.truth_tables.specs.Generated.{Generated}
-use Rattle.truth_tables.specs.Rows.{asNamed, meetsRow, Sets, Observes, RowsTell}
+use Rattle.truth_tables.specs.Rows.{asNamed, meetsRow, Sets, Observes}
+use Rattle.truth_tables.specs.Statements.{CellTells, GeneratedTells}
 use Rattle.truth_tables.proofs.Lists.{all-member, all-by, each-kept}
 use Rattle.truth_tables.proofs.Order.{terms-length, length-putIn, term-below}
 use Rattle.truth_tables.proofs.Columns.{low-bit, high-bit, says, term-bit, meets-said, said-meets}
@@ -173,7 +173,7 @@ module _ (d n : ℕ) (bits : List Bool) where
       rw is (λ o. same ∙ f .0 o, λ m. f .1 (sym same ∙ m))
 
 -- The rows of every cell that is generated tell its truth table.
-pub rows-tell : (c : Cell) (bits : List Bool) → Generated c bits → RowsTell c bits
+pub rows-tell : GeneratedTells
 rows-tell c bits g =
     record {
       cc = subst (Sets (c .pins) bits) (sym (g .cc)) (sets 1 (c .pins) bits);
@@ -183,7 +183,7 @@ rows-tell c bits g =
     }
 
 -- Those of the cell of every truth table.
-pub cell-tells : (name : List ℕ) (n : ℕ) (bits : List Bool) → RowsTell (cellOf name n bits) bits
+pub cell-tells : CellTells
 unfolding cellOf
 cell-tells name n bits =
     record { cc = sets 1 n bits; sc = sets 0 n bits; co = observes 1 n bits; so = observes 0 n bits }

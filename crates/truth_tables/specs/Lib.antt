@@ -2,3 +2,4 @@ pub mod Tables
 pub mod Entries
 pub mod Generated
 pub mod Rows
+pub mod Statements
