@@ -7,15 +7,17 @@ use Prim.Native.Nat.{ℕ, zero, suc, _+_, _*_, _-_, _/_, _%_, _≤_, _<_}
 use native.Mathlib.Decide.{ℕ-discrete, decLt}
 use native.Mathlib.Omega.{arith}
 use borrow.Author.Tests.{lt-ltb, le-ltb}
+use lib.Dec.{ltb}
 use lib.ListN.{length, getD, drop}
 use Rattle.sizes.specs.Sizes as Size
 use Rattle.sizes.specs.Places.{leafOf, leafPlace, flagPlace}
 use Rattle.reading.specs.Choice.{pick}
+use Rattle.reading.proofs.Laws.{by-test}
 use Rattle.cost.specs.Cost.{never}
 use Rattle.plans.specs.System.{System, Way}
 use Rattle.plans.specs.Sweep.{at}
 use Rattle.plans.specs.Exact as General
-use Rattle.plans.specs.Budget.{Fixed, fixed, offer, bid, Budgeted, Ascending, Enclosed, fixedAmong}
+use Rattle.plans.specs.Budget.{Fixed, fixed, offer, bid, cheapest, Budgeted, unbegun, fix, step, budgeted, Ascending, Enclosed, fixedAmong}
 use Rattle.plans.proofs.Laws.{
   at-getD,
   exact-once,
@@ -46,6 +48,15 @@ use Rattle.calculation.proofs.Visits.{Has, Visiting, Offer, offer as of
 use Rattle.calculation.proofs.Acceptance.{purpose-placed, asked-placed}
 use Rattle.calculation.proofs.Bounds.{all-from, numbers-length}
 use Rattle.calculation.proofs.Exactness.{generally-exact, exact}
+
+-- A run makes no more steps than its budget has.
+steps-most : (S : System) (ns : List ℕ) (size budget : ℕ) → budgeted S ns size budget .steps ≤ budget
+unfolding budgeted unbegun step fix pick
+steps-most S ns size zero = omega arith
+steps-most S ns size (suc budget) =
+    by-test (ltb (cheapest S (budgeted S ns size budget .numbers) ns .cost) never)
+    (λ t. rw t (omega (arith, steps-most S ns size budget)))
+    (λ t. rw t (omega (arith, steps-most S ns size budget)))
 
 -- ---- the values
 
@@ -359,12 +370,17 @@ module _ (cells : List Cell) (ss : List Statement) (sound : BothSound cells ss) 
         split (yes f) = absurd (omega (arith, t .0, flag-fixed ys (node combinational (set l v)) f))
         split (no f) = t .1 ∙ handed-open ys (node combinational (set l v)) S f ∙ sym (bid-open S ys (node combinational (set l v)) f)
 
+    at-most : bestWithin cells ss budget .steps ≤ budget
+    unfolding bestWithin
+    at-most = steps-most S values Size.numbers budget
+
     pub within-budget : WithinBudget cells ss budget (bestWithin cells ss budget .steps) (bestWords cells ss budget ++ rest)
     within-budget =
         record {
           each = λ l v a c. worth budget l v (a, c) rest;
           counted = counted ∙ sym flags;
           few = omega (arith, counted, among-most ys values, all-length);
+          atMost = at-most;
           stops = split stops;
           unlimited = λ more h k. unfold bestWithin in budget-same S values Size.numbers budget more enclosed (rw all-length h) k;
         }

@@ -18,7 +18,7 @@ pub use Rattle.calculation.proofs.Visits.{getD-listed, Has}
 pub use Rattle.calculation.proofs.Acceptance.{gate-cell, pin-count, gate-pin, role-group, role-row, depth-figure}
 pub use Rattle.calculation.proofs.Bounds.{within, settled, few-sweeps, settled-once, numbers-length, numbers-bounded}
 pub use Rattle.calculation.proofs.Exactness.{exact, unmentioned, entry-bounded}
-pub use Rattle.calculation.proofs.Between.{kinds-apart, analysis-at, between}
+pub use Rattle.calculation.proofs.Between.{kinds-apart, analysis-at, between, between-each}
 pub use Rattle.calculation.proofs.Budget.{within-budget}
 -- ---- runs from numbers that stand: the halves from whatever costs; `last-runs`, rows added and outputs added, which requests
 -- K11 and K14 are to cite

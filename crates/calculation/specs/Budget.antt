@@ -103,6 +103,7 @@ pub record WithinBudget (cells : List Cell) (ss : List Statement) (budget steps 
   pub counted : steps ≡ flagSum Size.leaves (drop Size.flagsAt words)
   pub few : steps ≤ Size.leaves
   -- "It stops after a given number of steps or when nothing is on offer."
+  pub atMost : steps ≤ budget
   pub stops :
       (steps ≡ budget) ⊎ ((l v : ℕ) → InRange l → v ≤ 1 → flagOf words l v ≡ 0 → handedOf words l v ≡ never)
   -- "an unlimited one" is any that has a step for each value: a larger one comes to the same run.

@@ -5,7 +5,7 @@ use mathlib.Core.List.{List, _++_}
 use mathlib.Core.Path.{_≡_, refl, sym, ap, subst, _∙_}
 use Prim.Native.Nat.{ℕ, zero, suc, _+_, _≤_, _<_}
 use native.Mathlib.Omega.{arith}
-use lib.ListN.{length, getD, take, drop}
+use lib.ListN.{length, getD, take, drop, replicate, length-replicate, getD-replicate}
 use lib.Seq.{take-at, drop-at}
 use Rattle.sizes.specs.Places.{linePlace}
 use Rattle.sizes.specs.Sizes as Size
@@ -22,13 +22,13 @@ use Rattle.calculation.specs.Calculation.{analysed}
 use Rattle.calculation.specs.Settled.{Settled, FewSweeps}
 use Rattle.calculation.specs.Acceptance.{BothSound}
 use Rattle.calculation.specs.declared.Counts.{Counts}
-use Rattle.calculation.proofs.Laws.{own-figures, low-within, high-within, analysis-at, between}
+use Rattle.calculation.proofs.Laws.{own-figures, low-within, high-within, analysis-at, between, between-each}
 use Rattle.calculation.proofs.Laws.{unmentioned, entry-bounded, node-inside, Placed}
 use Rattle.report_text.specs.Report.{reportBytes}
 use Rattle.report_text.proofs.Laws.{report-same}
 use Rattle.demands.specs.declared.Summary.{Summary}
 use Rattle.demands.specs.Outcome.{Given, Lent, Accepted, summary, reportOf, second, reports, entry, outcome, reading, answer, left, leftFrom, leftLater, filled, zeroed}
-use Rattle.demands.specs.Demands.{NumbersStand, standing, standingReport, PairRead, Acceptance, Calculated, ReportStands, Promised}
+use Rattle.demands.specs.Demands.{NumbersStand, standing, standingReport, PairRead, EntriesKept, EntriesZero, OfEach, Acceptance, Calculated, ReportStands, Promised}
 use Rattle.demands.proofs.Given.{Checked}
 use Rattle.demands.proofs.Numbers.{placed-purpose, entry-stands, numbers-stand}
 use Rattle.demands.proofs.Acceptance.{concluded, Accepts, accepts}
@@ -45,6 +45,38 @@ by-purpose P l a b on (suc (suc (suc zero))) h = on sequential (set l 1) ((a, b)
 by-purpose P l a b on (suc (suc (suc (suc zero)))) h = on combinational (observe l) (a, b) refl
 by-purpose P l a b on (suc (suc (suc (suc (suc zero))))) h = on sequential (observe l) (a, b) refl
 by-purpose P l a b on (suc (suc (suc (suc (suc (suc i)))))) h = absurd (omega arith)
+
+-- ---- entry by entry
+
+slice-kept : (xs ys : List ℕ) → ys ≡ xs → EntriesKept xs ys
+slice-kept xs ys e = record { size = ap length e; entry = λ i h. ap (λ (z : List ℕ). getD z i 0) e }
+
+slice-zero : (xs ys : List ℕ) → ys ≡ replicate (length xs) 0 → EntriesZero xs ys
+slice-zero xs ys e =
+    record {
+      size = ap length e ∙ length-replicate (length xs) 0;
+      entry = λ i h. ap (λ (z : List ℕ). getD z i 1) e ∙ getD-replicate (length xs) i 0 1 h;
+    }
+
+module _ (before after : Lent) where
+  each-kept : after ≡ before → OfEach EntriesKept before after
+  each-kept e =
+      record {
+        library = slice-kept _ _ (ap (λ (m : Lent). m .library) e);
+        netlist = slice-kept _ _ (ap (λ (m : Lent). m .netlist) e);
+        numbers = slice-kept _ _ (ap (λ (m : Lent). m .numbers) e);
+        report = slice-kept _ _ (ap (λ (m : Lent). m .report) e);
+      }
+
+  each-zero : after ≡ zeroed before → OfEach EntriesZero before after
+  unfolding zeroed
+  each-zero e =
+      record {
+        library = slice-zero _ _ (ap (λ (m : Lent). m .library) e);
+        netlist = slice-zero _ _ (ap (λ (m : Lent). m .netlist) e);
+        numbers = slice-zero _ _ (ap (λ (m : Lent). m .numbers) e);
+        report = slice-zero _ _ (ap (λ (m : Lent). m .report) e);
+      }
 
 module _ (g : Given) (checked : Checked g) (before after : Lent) (said : Read Summary) where
   at-entry : said ≡ answer (outcome g before) → after ≡ left g before → (number line : ℕ) → entry g before ≡ refused number line
@@ -163,6 +195,7 @@ module _ (g : Given) (checked : Checked g) (before after : Lent) (said : Read Su
                 high = high-within sound;
                 analyses = analysis-at cells ss sound;
                 between = λ price w p r. between cells ss sound p (placed-purpose p r) price w;
+                eachValue = λ price w p r. between-each cells ss sound p (placed-purpose p r) price w;
               };
           past = rw (z .report) (drop-at r (drop (length r) (before .report)) (s .length) (sym length-is)) ∙ ap (λ (n : ℕ). drop n (before .report)) (sym length-is);
           fits = rw length-is (z .fits);
@@ -201,6 +234,8 @@ module _ (g : Given) (checked : Checked g) (before after : Lent) (said : Read Su
               later = later a l (reading g (length (before .report))) refl;
               untouched = untouched a l;
               cleared = cleared a l;
+              kept = λ number line r h. each-kept before after (untouched a l number line r h);
+              allZero = λ number line r h. each-zero before after (cleared a l number line r h);
             };
         demand2 = λ pair s r. calculates (pair .cells) (pair .statements) (sound pair) s (agreed pair s r);
         demand3 = λ pair s r. held (pair .cells) (pair .statements) (sound pair) s (agreed pair s r) .exact;

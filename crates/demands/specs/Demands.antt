@@ -19,7 +19,7 @@ use Rattle.netlist_table.specs.Netlist.{Statement, mentioned, gatesOf, someRang
 use Rattle.calculation.specs.Nodes.{Kind, Purpose, set, observe, node}
 use Rattle.calculation.specs.Calculation.{Analysed, analysed}
 use Rattle.calculation.specs.Prices.{Pricing, WithinRanges}
-use Rattle.calculation.specs.Between.{AnalysisAt, Between}
+use Rattle.calculation.specs.Between.{AnalysisAt, Between, EachWithin, ExactEach, BetweenEach}
 use Rattle.calculation.specs.Settled.{Settled, FewSweeps}
 use Rattle.calculation.specs.LinePlans.{Exact}
 use Rattle.report_text.specs.Report.{reportBytes, longestReport, longestReports}
@@ -61,6 +61,9 @@ pub record AtAllPrices (cells : List Cell) (ss : List Statement) : Type 0 where
   pub high : WithinRanges ss (highPrice ss)
   pub analyses : (price : Pricing) → WithinRanges ss price → AnalysisAt cells ss price
   pub between : (price : Pricing) → WithinRanges ss price → (p : Purpose) → Reported p → Between cells ss price p
+  -- The same where the two values of an input have prices of their own within its range (D241).
+  pub eachValue : (price : ℕ → ℕ → ℕ) → EachWithin ss price → (p : Purpose) → Reported p → (x : ℕ)
+      → ExactEach price cells ss p x → BetweenEach cells ss p x
 
 -- Demands 2 and 3 of a numbers table, whatever call leaves it: what a call has to say of its numbers that analyses and makes no
 -- report.
@@ -74,6 +77,22 @@ pub record NumbersStand (cells : List Cell) (ss : List Statement) (numbers : Lis
   -- and demand 3 holds "for all six numbers of every line".
   pub exact : (k : Kind) (p : Purpose) → Reported p → Exact cells ss k p (getD numbers (node k p) 0)
 
+-- Entry by entry, of one lent slice: each is as it was; each is 0.
+pub record EntriesKept (before after : List ℕ) : Type 0 where
+  pub size : length after ≡ length before
+  pub entry : (i : ℕ) → i < length before → getD after i 0 ≡ getD before i 0
+
+pub record EntriesZero (before after : List ℕ) : Type 0 where
+  pub size : length after ≡ length before
+  pub entry : (i : ℕ) → i < length before → getD after i 1 ≡ 0
+
+-- Of all that is lent, by what holds of one slice.
+pub record OfEach (P : List ℕ → List ℕ → Type 0) (before after : Lent) : Type 0 where
+  pub library : P (before .library) (after .library)
+  pub netlist : P (before .netlist) (after .netlist)
+  pub numbers : P (before .numbers) (after .numbers)
+  pub report : P (before .report) (after .report)
+
 module _ (g : Given) (before after : Lent) (said : Read Summary) where
   -- 1. "The analyser, from the first byte read to the last byte of its report, ends on every pair of texts and refuses a bad
   -- one by the number and line given in document 01. It relies on no earlier check. A refusal at entry touches no lent table;
@@ -86,6 +105,9 @@ module _ (g : Given) (before after : Lent) (said : Read Summary) where
     -- buffer zero."
     pub untouched : (number line : ℕ) → said ≡ refused number line → No.ofEntry number ≡ true → after ≡ before
     pub cleared : (number line : ℕ) → said ≡ refused number line → No.ofEntry number ≡ false → after ≡ zeroed before
+    -- And entry by entry: "touches no lent table", "leaves them all zero".
+    pub kept : (number line : ℕ) → said ≡ refused number line → No.ofEntry number ≡ true → OfEach EntriesKept before after
+    pub allZero : (number line : ℕ) → said ≡ refused number line → No.ofEntry number ≡ false → OfEach EntriesZero before after
 
   -- Which calls are accepted.
   pub record Acceptance : Type 0 where
