@@ -12,7 +12,7 @@ use Rattle.reading.specs.Choice.{pick}
 use Rattle.reading.specs.Numbers as No
 use Rattle.reading.specs.Refusal.{Read, refused, read, _>>_, weigh}
 use Rattle.reading.specs.declared.Refusal.{Refusal}
-use Rattle.reading.proofs.Laws.{by-test, clash, refused-read, then-read, weigh-one}
+use Rattle.reading.proofs.Laws.{by-test, clash, refused-read, same-refusal, then-read, weigh-one}
 use Rattle.calculation.specs.Calculation.{Analysed, analysed}
 use Rattle.calculation.specs.Pads.{fresh}
 use Rattle.calculation.proofs.StandingAnalysis.{fresh-standing}
@@ -45,7 +45,11 @@ module _ (g : Given) (checks : Checked g) (before report : List ℕ) where
         reports = rw t;
         analyses = λ f. clash (tableShort before) t f;
         stands = λ pair a r. refused-read r;
-        means = λ s h. means g before s h;
+        means = λ s h. means g before s h (checks .sound);
+        untouched = λ number line r e. (refl, refl);
+        cleared = λ number line r e.
+            let z : number ≡ No.tableShort = same-refusal number line No.tableShort 0 (sym r) .0 in
+            clash (No.ofEntry number) (rw z) e;
       }
 
   module _ (long : tableShort before ≡ false) (tables : Lent) (told : Read Summary) (p : Promised g (ownTables report) tables told) where
@@ -72,7 +76,20 @@ module _ (g : Given) (checks : Checked g) (before report : List ℕ) where
     unfolding entry
     brief e = weigh-one No.textLong 0 (g .long) [] tt (weigh-one No.tableShort 0 (O.tableShort m) _ tt e .1) .0
 
-    module _ (after : List ℕ) (leaves : after ≡ stood g before report)
+    report-zero : tables ≡ O.zeroed m → tables .report ≡ replicate (length report) 0
+    unfolding O.zeroed ownTables
+    report-zero e = ap (λ (x : Lent). x .report) e
+
+    report-kept : tables ≡ m → tables .report ≡ report
+    unfolding ownTables
+    report-kept e = ap (λ (x : Lent). x .report) e
+
+    -- What a refusal leaves in the standing table, by its number.
+    abbrev Kept : List ℕ → Type 0
+    Kept after =
+        (number line : ℕ) → told ≡ refused number line → after ≡ pick (No.ofEntry number) before (replicate (length before) 0)
+
+    module _ (after : List ℕ) (leaves : after ≡ stood g before report) (by-number : Kept after)
         (stands : (pair : PairRead g) (a : Summary) → told ≡ read a → StandsIn g after (fresh (pair .cells) (pair .statements))) where
       promised : StandPromised g before report after (tables .report) told
       promised =
@@ -82,7 +99,9 @@ module _ (g : Given) (checks : Checked g) (before report : List ℕ) where
             reports = report-so;
             analyses = λ f. (tables, p, refl);
             stands = stands;
-            means = λ s h. means g after s h;
+            means = λ s h. means g after s h (checks .sound);
+            untouched = λ number line r e. (by-number number line r ∙ (unfold pick in rw e), report-kept (p .demand1 .untouched number line r e));
+            cleared = λ number line r e. (by-number number line r ∙ (unfold pick in rw e), report-zero (p .demand1 .cleared number line r e));
           }
 
     came-refused : (n l : ℕ) → entry g m ≡ read tt → reading g (length report) ≡ refused n l → told ≡ refused n l
@@ -144,7 +163,10 @@ module _ (g : Given) (checks : Checked g) (before report : List ℕ) where
       by-entry (read u) e = later e (reading g (length report)) refl ∙ stood-behind e
 
       pub stand-refused : (after : List ℕ) → after ≡ kept → StandPromised g before report after (tables .report) told
-      stand-refused after e = promised after (e ∙ by-entry (entry g m) refl ∙ stood-is) (λ pair a s. refused-read (sym r ∙ s))
+      stand-refused after e =
+          promised after (e ∙ by-entry (entry g m) refl ∙ stood-is)
+          (λ n l q. e ∙ ap (λ (k : ℕ). pick (No.ofEntry k) before (replicate (length before) 0)) (same-refusal number line n l (sym r ∙ q) .0))
+          (λ pair a s. refused-read (sym r ∙ s))
 
     -- ---- accepted
 
@@ -194,7 +216,7 @@ module _ (g : Given) (checks : Checked g) (before report : List ℕ) where
       pub stand-accepted : (after : List ℕ) → after ≡ standingWords [] (whole (a .counts) (tables .numbers)) ++ drop Size.standing before
           → StandPromised g before report after (tables .report) told
       stand-accepted after e =
-          promised after (words ∙ later-words ∙ stood-behind (made .entered-so) ∙ stood-is) stands
+          promised after (words ∙ later-words ∙ stood-behind (made .entered-so) ∙ stood-is) (λ n l q. refused-read (sym q ∙ r)) stands
         where
           later-words : standingWords [] (made .x .analysis) ++ drop Size.standing before ≡ stoodLater (reading g (length report)) before
           later-words = unfold stoodLater in rw (made .reads)

@@ -11,17 +11,23 @@ use Rattle.sizes.specs.Sizes as Size
 use Rattle.reading.specs.Choice.{pick}
 use Rattle.reading.specs.Refusal.{Read, read, _>>=_, _>>_, weigh}
 use Rattle.cost.specs.Cost.{never}
+use Rattle.plans.proofs.Laws.{at-getD}
 use Rattle.library_table.specs.Cells.{Cell}
+use Rattle.library_table.proofs.Laws.{library-sound}
 use Rattle.netlist_table.specs.Netlist.{Statement}
+use Rattle.netlist_table.specs.Sound as N
 use Rattle.calculation.specs.Prices.{pricesOf}
-use Rattle.calculation.specs.Nodes.{node}
+use Rattle.calculation.specs.Nodes.{Kind, set, node}
+use Rattle.calculation.specs.Acceptance.{BothSound}
 use Rattle.calculation.specs.Calculation.{analysed}
 use Rattle.calculation.specs.LinePlans.{Exact}
 use Rattle.calculation.specs.Pads.{State, statementsOf, Operation, checked}
 use Rattle.calculation.specs.StandingAnalysis.{Standing}
 use Rattle.calculation.proofs.Laws.{own-figures, exact, settled, numbers-length, entry-bounded, node-inside}
+use Rattle.calculation.proofs.Pads.{pads-values}
 use Rattle.calculation.proofs.StandingAnalysis.{pads-few}
 use Rattle.demands.proofs.Numbers.{placed-purpose}
+use Rattle.demands.specs.Demands.{Reported}
 use Rattle.demands.specs.Outcome.{Given, readPair}
 use Rattle.sweep_reruns.specs.Kept.{held}
 use Rattle.standing_texts.specs.Held.{entered, foreign, heldBy}
@@ -62,6 +68,11 @@ module _ {given : List Cell → Read (List Statement)} (s : State) (h : Standing
         let p = pads-part (s .pads) (s .analysis) past pads-most in
         λ i. record { cells = s .cells; statements = s .statements; pads = p i; analysis = analysis-held i }
 
+inside : {cells : List Cell} {ss : List Statement} → BothSound cells ss → (k : Kind) (l v : ℕ) → Reported (set l v)
+    → node k (set l v) < length (analysed cells ss .numbers)
+inside {cells} {ss} sound k l v r =
+    rw (numbers-length cells ss sound (pricesOf ss) (own-figures sound)) (node-inside k (set l v) (placed-purpose (set l v) r))
+
 module _ (g : Given) (table : List ℕ) (s : State) (h : StandsIn g table s) where
   abbrev stands : Standing (g .statements) s
   stands = h .standing
@@ -82,9 +93,12 @@ module _ (g : Given) (table : List ℕ) (s : State) (h : StandsIn g table s) whe
   unfolding comes entered weigh pick _>>_ _>>=_
   comes-standing o = rw (held-standing, h .brief)
 
-  pub means : Meant s table
-  means =
+  -- Of what is given, whatever reads is sound: of a text and of records it is.
+  pub means : ((cells : List Cell) (ss : List Statement) → g .statements cells ≡ read ss → N.Sound cells ss) → Meant s table
+  means reads =
       let sound = stands .sound in
+      let bare : BothSound (s .cells) (s .statements) =
+      record { library = library-sound (g .library) (s .cells) (h .cellsRead); netlist = reads (s .cells) (s .statements) (stands .wasRead) } in
       let figures = own-figures sound in
       let at : (i : ℕ) → i < Size.numbers → getD table (Size.standingNumbers + i) 0 ≡ getD (analysed (s .cells) (statementsOf s) .numbers) i 0 =
       λ i b. rw (h .words) (number-at (s .pads) (s .analysis) (h .past) (numbers-size s stands) i b) ∙ ap (λ (z : List ℕ). getD z i 0) (stands .numbers) in
@@ -96,4 +110,9 @@ module _ (g : Given) (table : List ℕ) (s : State) (h : StandsIn g table s) whe
             subst (λ (y : ℕ). Exact (s .cells) (statementsOf s) k p y) (sym (at (node k p) (node-inside k p (placed-purpose p r))))
             (exact (s .cells) (statementsOf s) sound (pricesOf (statementsOf s)) figures k p (placed-purpose p r));
         few = stands .few;
+        values = λ k l v r.
+            at (node k (set l v)) (node-inside k (set l v) (placed-purpose (set l v) r))
+            ∙ sym (at-getD (analysed (s .cells) (statementsOf s) .numbers) (node k (set l v)) 0 (inside sound k l v r))
+            ∙ pads-values (s .cells) (s .statements) (s .pads) bare (stands .pads) k l v (r .2)
+            ∙ at-getD (analysed (s .cells) (s .statements) .numbers) (node k (set l v)) 0 (inside bare k l v r);
       }

@@ -384,5 +384,5 @@ module _ (g : Given) (checks : Checked g) where
             stands = commit-stands;
             refuses = commit-refuses;
             more = commit-more;
-            means = λ s h. means g after s h;
+            means = λ s h. means g after s h (checks .sound);
           }

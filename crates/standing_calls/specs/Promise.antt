@@ -6,12 +6,12 @@ use mathlib.Core.List.{List, _++_}
 use mathlib.Core.Logic.{_⊎_}
 use mathlib.Core.Path.{_≡_}
 use Prim.Native.Nat.{ℕ, _+_, _≤_, _<_}
-use lib.ListN.{length, getD, drop}
+use lib.ListN.{length, getD, drop, replicate}
 use Rattle.sizes.specs.Sizes as Size
 use Rattle.sizes.specs.Places.{observingPlace}
 use Rattle.reading.specs.Numbers as No
 use Rattle.reading.specs.Refusal.{Read, refused, read}
-use Rattle.calculation.specs.Nodes.{Kind, Purpose, kindNumber, observe, node}
+use Rattle.calculation.specs.Nodes.{Kind, Purpose, kindNumber, set, observe, node}
 use Rattle.calculation.specs.Calculation.{analysed}
 use Rattle.calculation.specs.Settled.{Settled, FewSweeps}
 use Rattle.calculation.specs.LinePlans.{Exact}
@@ -34,6 +34,9 @@ pub record Meant (s : State) (table : List ℕ) : Type 0 where
   pub exact : (k : Kind) (p : Purpose) → Reported p
       → Exact (s .cells) (statementsOf s) k p (getD table (Size.standingNumbers + node k p) 0)
   pub few : FewSweeps (length (gatesOf (statementsOf s))) (s .analysis .counts)
+  -- CC and SC do not depend on pads: they are those of the netlist as its text says it, of which a plan is written out.
+  pub values : (k : Kind) (l v : ℕ) → Reported (set l v)
+      → getD table (Size.standingNumbers + node k (set l v)) 0 ≡ getD (analysed (s .cells) (s .statements) .numbers) (node k (set l v)) 0
 
 -- ---- the analysis that is to stand
 
@@ -47,6 +50,11 @@ pub record StandPromised (g : O.Given) (before report after report′ : List ℕ
   pub stands : (pair : PairRead g) (a : Summary) → said ≡ read a → StandsIn g after (fresh (pair .cells) (pair .statements))
   -- and demands 2 and 3 hold of what stands.
   pub means : (s : State) → StandsIn g after s → Meant s after
+  -- A refusal by its number alone: "Entry refusals leave lent memory untouched; later ones leave every table and the report
+  -- buffer zero."
+  pub untouched : (number line : ℕ) → said ≡ refused number line → No.ofEntry number ≡ true → (after ≡ before) × (report′ ≡ report)
+  pub cleared : (number line : ℕ) → said ≡ refused number line → No.ofEntry number ≡ false
+      → (after ≡ replicate (length before) 0) × (report′ ≡ replicate (length report) 0)
 
 -- ---- asking
 

@@ -91,7 +91,7 @@ module _ (net : List ℕ) where
 pub calls-stand : CallsStand
 calls-stand lib net before report table report′ said p pair a e cs lib′ table′ m =
     let h = made-stands net m (fresh (pair .cells) (pair .statements)) (p .stands pair a e) in
-    record { stands = h; means = means (givenTexts lib′ net) table′ _ h }
+    record { stands = h; means = means (givenTexts lib′ net) table′ _ h (texts-checked lib′ net .sound) }
 
 -- ---- asks and commits alone
 

@@ -9,16 +9,16 @@ use Rattle.sizes.specs.Sizes as Size
 use Rattle.reading.specs.Choice.{pick}
 use Rattle.reading.specs.Numbers as No
 use Rattle.reading.specs.Refusal.{Read, refused, read, _>>=_, _>>_, weigh}
-use Rattle.reading.proofs.Laws.{by-test, refused-read}
+use Rattle.reading.proofs.Laws.{by-test, refused-read, same-refusal}
 use Rattle.library_table.specs.Cells.{Cell}
 use Rattle.library_table.specs.Library.{library}
 use Rattle.library_table.proofs.Laws.{library-sound}
 use Rattle.netlist_table.specs.Netlist.{Statement}
-use Rattle.netlist_table.specs.Reread.{Rereadable}
+use Rattle.netlist_table.specs.Reread.{ForCell, Rereadable}
 use Rattle.calculation.specs.Growth.{grown}
 use Rattle.calculation.specs.Pads.{State}
-use Rattle.calculation.specs.StandingAnalysis.{Standing, wentOn, begunAgain, changedTo}
-use Rattle.calculation.proofs.NewLibrary.{on-read, lesser-on, changed-standing, on-goes}
+use Rattle.calculation.specs.StandingAnalysis.{Standing, wentOn, begunAgain, changedTo, Unmoved}
+use Rattle.calculation.proofs.NewLibrary.{on-read, lesser-on, changed-standing, on-goes, same-library}
 use Rattle.demands.specs.Outcome.{Given}
 use Rattle.standing_table.specs.StandingTable.{standingWords, StandsIn}
 use Rattle.standing_texts.specs.Held.{heldBy}
@@ -112,6 +112,35 @@ module _ (g h : Given) (same : h .statements ≡ g .statements) (again : Rereada
                 );
           }
 
+    for-cell : (more : List Cell) → h .long ≡ false → library (h .library) ≡ read more → (number line : ℕ) → said ≡ refused number line → ForCell number
+    for-cell more brief cellsRead number line r = by (h .statements more) refl
+      where
+        by : (o : Read (List Statement)) → h .statements more ≡ o → ForCell number
+        by (refused n l) e =
+            let z : said ≡ refused n l = tells ∙ unfold told weigh pick _>>_ _>>=_ in rw (brief, cellsRead, e) in
+            let same : n ≡ number = same-refusal n l number line (sym z ∙ r) .0 in
+            rw (← same) (again .refuses (s .cells) more (s .statements) (standing .wasRead) n l e)
+        by (read ss) e =
+            let z : said ≡ read (grown (s .cells) more) = tells ∙ unfold told weigh pick _>>_ _>>=_ in rw (brief, cellsRead, e) in
+            refused-read (sym r ∙ z)
+
+    -- The library that stands: the sweeps go on, and come to what is there.
+    on-so : Unmoved s → changedTo s (s .cells) (read (s .statements)) ≡ wentOn s (s .cells)
+    unfolding changedTo pick
+    on-so u = rw (u .goes)
+
+    told-on : h .long ≡ false → library (h .library) ≡ read (s .cells) → Unmoved s → told h s ≡ read true
+    unfolding told weigh pick _>>_ _>>=_
+    told-on brief cellsRead u = rw (brief, cellsRead, standing .wasRead, u .goes)
+
+    unmoved : h .long ≡ false → library (h .library) ≡ read (s .cells) → (said ≡ read true) × StandsIn h after (wentOn s (s .cells)) × Unmoved s
+    unmoved brief cellsRead =
+        let u : Unmoved s = same-library (h .statements) again s standing in (
+          tells ∙ told-on brief cellsRead u,
+          subst (StandsIn h after) (on-so u) (follows (s .cells) brief cellsRead .stands (s .statements) (standing .wasRead)),
+          u,
+        )
+
   pub promised : ChangePromised g h before after said
   promised =
       record {
@@ -120,5 +149,7 @@ module _ (g h : Given) (same : h .statements ≡ g .statements) (again : Rereada
         untouched = λ number line e. leaves ∙ answer-refused (comes g h before) number line (sym answers ∙ e) before;
         tells = tells;
         follows = λ s stands more brief read-so. follows s stands more brief read-so;
-        means = λ s stands. means h after s stands;
+        forCell = for-cell;
+        unmoved = unmoved;
+        means = λ s stands. means h after s stands (again .sound);
       }

@@ -1,6 +1,6 @@
 -- What a change of library promises. Document 02, K14: by equation of every table, whatever stands in it (specs/Calls.antt);
 -- and of a standing analysis, `StandsIn`, what document 02 says of it. Whatever list of asks, commits and changes led to it:
--- what they leave stands (`all-standing` of calculation/proofs/NewLibrary.antt).
+-- what they leave stands (`CallsStand` of specs/CallList.antt).
 -- Assumes nothing.
 use mathlib.Core.Bool.{Bool, true, false}
 use mathlib.Core.List.{List}
@@ -10,9 +10,10 @@ use Rattle.reading.specs.Refusal.{Read, refused, read}
 use Rattle.library_table.specs.Cells.{Cell}
 use Rattle.library_table.specs.Library.{library}
 use Rattle.netlist_table.specs.Netlist.{Statement}
+use Rattle.netlist_table.specs.Reread.{ForCell}
 use Rattle.calculation.specs.Growth.{grown}
 use Rattle.calculation.specs.Pads.{State}
-use Rattle.calculation.specs.StandingAnalysis.{changedTo, GoesOn}
+use Rattle.calculation.specs.StandingAnalysis.{wentOn, changedTo, GoesOn, Unmoved}
 use Rattle.demands.specs.Outcome.{Given}
 use Rattle.standing_table.specs.StandingTable.{StandsIn}
 use Rattle.standing_calls.specs.Promise.{Meant}
@@ -33,5 +34,11 @@ pub record ChangePromised (g h : Given) (before after : List ℕ) (said : Read B
   pub tells : (s : State) → StandsIn g before s → said ≡ told h s
   pub follows : (s : State) → StandsIn g before s → (more : List Cell) → h .long ≡ false → library (h .library) ≡ read more
       → Follows h s more after
+  -- Under a library that is accepted the netlist is refused for the cell of a gate alone, 12 or 13.
+  pub forCell : (s : State) → StandsIn g before s → (more : List Cell) → h .long ≡ false → library (h .library) ≡ read more
+      → (number line : ℕ) → said ≡ refused number line → ForCell number
+  -- "rows added to groups, perhaps none": where none is, the numbers stay, and each run takes the one sweep that changes nothing.
+  pub unmoved : (s : State) → StandsIn g before s → h .long ≡ false → library (h .library) ≡ read (s .cells)
+      → (said ≡ read true) × StandsIn h after (wentOn s (s .cells)) × Unmoved s
   -- "The six numbers are those of a new analysis under the new library with the same pads": demands 2 and 3 of what stands.
   pub means : (s : State) → StandsIn h after s → Meant s after
