@@ -427,7 +427,9 @@ pub fn sized(lines: usize) -> Vec<Case> {
     vec![
         Case::from("random", &pair, vec![Gates(gates)]),
         Case::from("the same, any order", &any_order(pair), vec![Gates(gates)]),
+        forward(gates),
         inverters(lines - 1),
+        inverters_backwards(lines - 1),
         slow(lines - 1),
     ]
 }

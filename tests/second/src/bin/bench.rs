@@ -6,7 +6,7 @@
 //! Before a shape is timed, both sides must have given the same answer and the same bytes, and the
 //! shape must be what its label says; else the program fails. Other calls follow in the same way.
 //!
-//! With --sizes: shapes of 1,000 to 8,000 lines instead, as far as the analyser takes them.
+//! With --sizes: shapes of 1,000 to 32,767 lines instead, as far as the analyser takes them.
 //!
 //! Last, by the archive alone: what an ask for a pad and its commit cost over scoap_report, what a change of library
 //! costs, what steps within a budget cost, and what a pad tried on every line costs.
@@ -246,20 +246,22 @@ fn growth() -> bool {
     sound
 }
 
-/// The same shapes at a thousand lines, at twice, four times and eight times as many, as far as this analyser takes them.
+/// The lines of the shapes by which larger analysers are compared: a thousand and twice as many again and again, and the most
+/// that large/build takes.
+const SIZES: [usize; 6] = [1_000, 2_000, 4_000, 8_000, 16_000, 32_767];
+
+/// The same shapes at these sizes, as far as this analyser takes them.
 fn sizes() -> bool {
     println!(
         "{:<27} {:>6} {:<20} {:>11} {:>11} {:>7}",
         "shape", "lines", "sweeps CC,SC,CO,SO", "archive", "second", "ratio"
     );
-    let sizes = [1_000, 2_000, 4_000, 8_000]
-        .map(|lines| (lines <= MOST_LINES).then(|| shapes::sized(lines)));
+    let taken = SIZES.iter().filter(|&&lines| lines <= MOST_LINES);
+    let sizes: Vec<_> = taken.map(|&lines| (lines, shapes::sized(lines))).collect();
     let mut sound = true;
-    for at in 0..4 {
-        for (lines, cases) in [1_000, 2_000, 4_000, 8_000].into_iter().zip(&sizes) {
-            let Some(case) = cases.as_ref().map(|cases| &cases[at]) else {
-                continue;
-            };
+    for at in 0..sizes[0].1.len() {
+        for (lines, cases) in &sizes {
+            let case = &cases[at];
             match measure(case) {
                 Ok(Times {
                     archive,
