@@ -9,7 +9,8 @@
  *     ./editor --best STEPS [LIBRARY NETLIST]
  *     ./editor --advise [LIBRARY NETLIST [LINE ..]]
  *
- * Without names it shows a bundled example. Exit status: 0 accepted, 1 refused, 2 no texts to lend.
+ * Without names it shows a bundled example. Exit status: 0 accepted, 1 refused, 2 no texts to lend, or a word that should
+ * be a number and is none.
  */
 #include <stdio.h>
 #include <stdlib.h>
@@ -54,8 +55,8 @@ static uint32_t stood[SCOAP_STANDING];
 /* What a few steps tell. */
 static uint32_t best[SCOAP_BEST];
 
-/* Lines that must get no pad, and what a pad on each of the others would leave. */
-static uint32_t forbidden[1000];
+/* Lines that must get no pad, each once, and what a pad on each of the others would leave. */
+static uint32_t forbidden[SCOAP_LINES];
 static size_t forbidden_count;
 static uint32_t ranks[SCOAP_RANKS];
 
@@ -74,60 +75,6 @@ static int read_text(const char *name, uint8_t *text, size_t *length)
     return fine;
 }
 
-static const char *reason(unsigned number)
-{
-    switch (number) {
-    case SCOAP_TABLE_SHORT:
-        return "a lent table is too short";
-    case SCOAP_TEXT_TOO_LONG:
-        return "a text is longer than 65,535 bytes";
-    case SCOAP_LIBRARY_FORM:
-        return "this is not the form of a library's line";
-    case SCOAP_NAME_USED:
-        return "the cell's name was used before";
-    case SCOAP_PINS:
-        return "a cell has at most 8 pins";
-    case SCOAP_GROUPS:
-        return "the count of groups is wrong, or a group has more than 16 rows";
-    case SCOAP_ROW_BITS:
-        return "a row has a bit above its columns";
-    case SCOAP_ROW_EMPTY:
-        return "a row names no pin, or doesn't observe the output";
-    case SCOAP_ENTRIES:
-        return "a library has at most 32 cells";
-    case SCOAP_NETLIST_FORM:
-        return "this is not the form of a netlist's line";
-    case SCOAP_LINE_NUMBER:
-        return "line numbers run from 1 to 1,000";
-    case SCOAP_UNKNOWN_CELL:
-        return "the library has no such cell";
-    case SCOAP_PIN_COUNT:
-        return "the cell has another count of pins";
-    case SCOAP_DRIVEN_TWICE:
-        return "the line is driven or declared open already";
-    case SCOAP_OUTPUT_TWICE:
-        return "the line is marked output already";
-    case SCOAP_UNDECLARED:
-        return "a line is read or marked that nothing drives or declares open";
-    case SCOAP_NOT_INPUT:
-        return "a range stands below the input that it prices";
-    case SCOAP_RANGE:
-        return "an input has one range, from 1 to 999, the lower price first";
-    case SCOAP_REPORT_TOO_LONG:
-        return "the report is longer than its buffer";
-    case SCOAP_NO_FIGURE:
-        return "the number is over or never";
-    case SCOAP_PLAN_TOO_LONG:
-        return "the plan's text is longer than its buffer";
-    case SCOAP_UNPADDABLE:
-        return "there is no such line, or it is an output already";
-    case SCOAP_TICKET_STALE:
-        return "another pad was placed since";
-    default:
-        return "unknown reason";
-    }
-}
-
 /* Says where a call stops; returns 1. */
 static int refused(uint64_t answer)
 {
@@ -139,7 +86,7 @@ static int refused(uint64_t answer)
     } else if (number >= SCOAP_LIBRARY_FORM && number <= SCOAP_ENTRIES) {
         printf("library, line %u: ", scoap_line(answer));
     }
-    printf("%s (refusal %u)\n", reason(number), number);
+    printf("%s (refusal %u)\n", scoap_words(number), number);
     return 1;
 }
 
@@ -165,16 +112,25 @@ static void show_number(unsigned line, const char *name, uint32_t then, uint32_t
     }
 }
 
-/* The numbers of a line. */
-static const char *const names[] = {"cc0", "cc1", "sc0", "sc1", "co", "so"};
-
 /* Shows each CO and SO that the pad lowers. */
 static void show_gain(void)
 {
-    for (unsigned at = 0; at < SCOAP_OBSERVED; at++) {
-        uint32_t then = standing[SCOAP_STANDING_NUMBERS + 6 * (at / 2) + 4 + at % 2];
+    for (unsigned line = 1; line <= SCOAP_LINES; line++) {
+        show_number(line, "co", scoap_standing_co(standing, line), scoap_asked_co(asked, line));
+        show_number(line, "so", scoap_standing_so(standing, line), scoap_asked_so(asked, line));
+    }
+}
 
-        show_number(at / 2 + 1, names[4 + at % 2], then, asked[at]);
+/* Shows each number that is another than it was. */
+static void show_changes(void)
+{
+    for (unsigned line = 1; line <= SCOAP_LINES; line++) {
+        show_number(line, "cc0", scoap_standing_cc(stood, line, 0), scoap_standing_cc(standing, line, 0));
+        show_number(line, "cc1", scoap_standing_cc(stood, line, 1), scoap_standing_cc(standing, line, 1));
+        show_number(line, "sc0", scoap_standing_sc(stood, line, 0), scoap_standing_sc(standing, line, 0));
+        show_number(line, "sc1", scoap_standing_sc(stood, line, 1), scoap_standing_sc(standing, line, 1));
+        show_number(line, "co", scoap_standing_co(stood, line), scoap_standing_co(standing, line));
+        show_number(line, "so", scoap_standing_so(stood, line), scoap_standing_so(standing, line));
     }
 }
 
@@ -212,35 +168,47 @@ static int change(const char *name)
         return refused(answer);
     }
     puts(answer == SCOAP_WENT_ON ? "the sweeps went on" : "analysed from the beginning");
-    for (unsigned at = 0; at < SCOAP_STANDING - SCOAP_STANDING_NUMBERS; at++) {
-        show_number(at / 6 + 1, names[at % 6], stood[SCOAP_STANDING_NUMBERS + at], standing[SCOAP_STANDING_NUMBERS + at]);
+    show_changes();
+    printf("sweeps");
+    for (unsigned run = 0; run < 4; run++) {
+        printf(",%lu", (unsigned long)scoap_standing_sweeps(standing, run));
     }
-    printf("sweeps,%lu,%lu,%lu,%lu\n", (unsigned long)standing[1], (unsigned long)standing[2],
-           (unsigned long)standing[3], (unsigned long)standing[4]);
+    printf("\n");
     /* From here on this is the library that the analysis stands under. */
     memcpy(lib, new_lib, length);
     lib_length = length;
     return 0;
 }
 
+/* Reads a decimal number; one too large for 64 bits counts as the largest. Returns 0 where the word is none. */
+static int number_of(const char *word, uint64_t *number)
+{
+    *number = strtoull(word, NULL, 10);
+    return *word != 0 && word[strspn(word, "0123456789")] == 0;
+}
+
 /* A word of digits is a line, which gets a pad; any other names a library. */
 static int follow(const char *word)
 {
-    return word[strspn(word, "0123456789")] == 0 ? place(strtoull(word, NULL, 10)) : change(word);
+    uint64_t line;
+
+    return number_of(word, &line) ? place(line) : change(word);
 }
 
 /* What setting a line to a value costs: its number, or what it lies between. */
-static void show_value(const uint32_t *value)
+static void show_value(unsigned line, unsigned value)
 {
-    if (value[0] == 1) {
-        show_cost(value[1]);
+    uint32_t cost = scoap_best_cost(best, line, value);
+
+    if (scoap_best_settled(best, line, value)) {
+        show_cost(cost);
     } else {
-        show_cost(best[0]);
-        if (value[1] == SCOAP_NEVER) {
+        show_cost(scoap_best_last(best));
+        if (cost == SCOAP_NEVER) {
             printf(" or more");
         } else {
             printf(" to ");
-            show_cost(value[1]);
+            show_cost(cost);
         }
     }
 }
@@ -254,14 +222,12 @@ static int show_best(uint64_t budget)
         return refused(steps);
     }
     printf("after %llu steps:\n", (unsigned long long)steps);
-    for (unsigned line = 1; line <= 1000; line++) {
-        const uint32_t *values = best + 4 * line - 3;
-
-        if (values[1] != SCOAP_NEVER || values[3] != SCOAP_NEVER) {
+    for (unsigned line = 1; line <= SCOAP_LINES; line++) {
+        if (scoap_best_cost(best, line, 0) != SCOAP_NEVER || scoap_best_cost(best, line, 1) != SCOAP_NEVER) {
             printf("line %u: 0 costs ", line);
-            show_value(values);
+            show_value(line, 0);
             printf(", 1 costs ");
-            show_value(values + 2);
+            show_value(line, 1);
             printf("\n");
         }
     }
@@ -279,14 +245,13 @@ static int show_advice(void)
     if (line >= SCOAP_REFUSED) {
         return refused(line);
     }
-    for (unsigned each = 1; each <= 1000; each++) {
-        const uint32_t *rank = ranks + 4 * (each - 1);
-
-        if (rank[0] != SCOAP_NEVER) {
-            printf("line %u: never %lu, over %lu, largest co ", each, (unsigned long)rank[0], (unsigned long)rank[1]);
-            show_cost(rank[2]);
+    for (unsigned each = 1; each <= SCOAP_LINES; each++) {
+        if (scoap_rank_allowed(ranks, each)) {
+            printf("line %u: never %lu, over %lu, largest co ", each, (unsigned long)scoap_rank_never(ranks, each),
+                   (unsigned long)scoap_rank_over(ranks, each));
+            show_cost(scoap_rank_largest(ranks, each));
             printf(", sum ");
-            show_cost(rank[3]);
+            show_cost(scoap_rank_sum(ranks, each));
             printf("\n");
         }
     }
@@ -300,14 +265,27 @@ static int show_advice(void)
     return 0;
 }
 
-/* Takes up to 1,000 lines from the command line; what is no line's number counts for nothing. */
-static void forbid(int count, char **words)
+/*
+ * Takes the lines that must get no pad, however many words there are. Returns 0 where a word is no line: whoever forbids one
+ * is told so, since a line that is passed over would be advised.
+ */
+static int forbid(int count, char **words)
 {
-    for (int word = 0; word < count && forbidden_count < 1000; word++) {
-        uint64_t line = strtoull(words[word], NULL, 10);
+    static char listed[SCOAP_LINES + 1];
 
-        forbidden[forbidden_count++] = line <= 1000 ? (uint32_t)line : 0;
+    for (int word = 0; word < count; word++) {
+        uint64_t line;
+
+        if (!number_of(words[word], &line) || line < 1 || line > SCOAP_LINES) {
+            fprintf(stderr, "editor: %s is no line that can be forbidden: a number from 1 to %u is\n", words[word], SCOAP_LINES);
+            return 0;
+        }
+        if (!listed[line]) {
+            listed[line] = 1;
+            forbidden[forbidden_count++] = (uint32_t)line;
+        }
     }
+    return 1;
 }
 
 int main(int argc, char **argv)
@@ -318,8 +296,9 @@ int main(int argc, char **argv)
     int advising = argc > 1 && strcmp(argv[1], "--advise") == 0;
     int status = 0;
 
-    if (drawing) {
-        budget = strtoull(argv[2], NULL, 10);
+    if (drawing && !number_of(argv[2], &budget)) {
+        fprintf(stderr, "editor: %s is no number of steps\n", argv[2]);
+        return 2;
     }
     argc -= 2 * drawing + advising;
     argv += 2 * drawing + advising;
@@ -342,8 +321,7 @@ int main(int argc, char **argv)
         return show_best(budget);
     }
     if (advising) {
-        forbid(argc - 3, argv + 3);
-        return show_advice();
+        return forbid(argc - 3, argv + 3) ? show_advice() : 2;
     }
     /* Where nothing follows, a report has to do. */
     if (argc > 3) {

@@ -70,80 +70,112 @@ extern "C" {
 #define SCOAP_REFUSED 1000000u
 
 /*
- * Why a call is refused, in the words of README's table, to which tests/refusals holds them. 16 is unused.
+ * What is lent to a call, one rule for every one of them. A pointer and the length behind it are a slice: of bytes a text or
+ * a buffer, of numbers a table, an answer or a list.
+ *   valid     each pointer is valid for its length, and aligned for its type. Where the length is 0 nothing is read or
+ *             written there, and the pointer may be null
+ *   const     is only read. Such slices may overlap each other: one text may be lent twice
+ *   other     is written, and overlaps no other slice of the call, whether that is read or written
+ * Texts need no byte 0 at their end. Nothing outside of the slices is read or written.
+ */
+
+/*
+ * Why a call is refused; scoap_words says each in words. 16 is unused.
  */
 enum scoap_refusal {
-    /* a lent table is shorter than its published size */
     SCOAP_TABLE_SHORT = 1,
-    /* a text has more than 65,535 bytes */
     SCOAP_TEXT_TOO_LONG = 2,
-
-    /* bad form: a wrong word, a missing or empty field, a bad number or name, an M or a Z out of
-       place, no byte 10 at the end, an entry broken off */
     SCOAP_LIBRARY_FORM = 3,
-    /* the name was used before */
     SCOAP_NAME_USED = 4,
-    /* more than 8 pins */
     SCOAP_PINS = 5,
-    /* a wrong count of groups, or a group of more than 16 rows */
     SCOAP_GROUPS = 6,
-    /* a row has a bit above its columns */
     SCOAP_ROW_BITS = 7,
-    /* a CC or SC row names no pin while the other group of its line has rows, or a CO or SO row does not observe
-       the output */
     SCOAP_ROW_EMPTY = 8,
-    /* a 33rd entry */
     SCOAP_ENTRIES = 9,
-
-    /* bad form */
     SCOAP_NETLIST_FORM = 10,
-    /* a line number is not 1 to 1,000 */
     SCOAP_LINE_NUMBER = 11,
-    /* the library has no such cell */
     SCOAP_UNKNOWN_CELL = 12,
-    /* the count of pins differs from the cell's */
     SCOAP_PIN_COUNT = 13,
-    /* the line is driven already, by an input or a gate, or declared open */
     SCOAP_DRIVEN_TWICE = 14,
-    /* the line is marked output already */
     SCOAP_OUTPUT_TWICE = 15,
-
-    /* the report is longer than its buffer; of a netlist with ranges both reports together */
     SCOAP_REPORT_TOO_LONG = 17,
-
-    /* the number is over or never, or there is none */
     SCOAP_NO_FIGURE = 18,
-    /* the plan's text is longer than its buffer */
     SCOAP_PLAN_TOO_LONG = 19,
-
-    /* a line is read by a pin or marked output, and neither driven nor declared open */
     SCOAP_UNDECLARED = 20,
-
-    /* a range on a line that is not marked input above */
     SCOAP_NOT_INPUT = 21,
-    /* a bound of a range is not 1 to 999, LOW is above HIGH, or the line has a range already */
     SCOAP_RANGE = 22,
-
-    /* the netlist does not mention the line, or it is an output already; or the standing table holds such a pad,
-       or a count of pads above 1,000 */
     SCOAP_UNPADDABLE = 23,
-    /* the ticket's count of pads is not the present one */
     SCOAP_TICKET_STALE = 24
 };
+
+/* A refusal's number in the words of README's table, to which tests/refusals holds them. */
+static inline const char *scoap_words(unsigned number)
+{
+    switch (number) {
+    case SCOAP_TABLE_SHORT:
+        return "a lent table is shorter than its published size";
+    case SCOAP_TEXT_TOO_LONG:
+        return "a text has more than 65,535 bytes";
+    case SCOAP_LIBRARY_FORM:
+        return "bad form: a wrong word, a missing or empty field, a bad number or name, an M or a Z out of "
+               "place, no byte 10 at the end, an entry broken off";
+    case SCOAP_NAME_USED:
+        return "the name was used before";
+    case SCOAP_PINS:
+        return "more than 8 pins";
+    case SCOAP_GROUPS:
+        return "a wrong count of groups, or a group of more than 16 rows";
+    case SCOAP_ROW_BITS:
+        return "a row has a bit above its columns";
+    case SCOAP_ROW_EMPTY:
+        return "a CC or SC row names no pin while the other group of its line has rows, or a CO or SO row does "
+               "not observe the output";
+    case SCOAP_ENTRIES:
+        return "a 33rd entry";
+    case SCOAP_NETLIST_FORM:
+        return "bad form";
+    case SCOAP_LINE_NUMBER:
+        return "a line number is not 1 to 1,000";
+    case SCOAP_UNKNOWN_CELL:
+        return "the library has no such cell";
+    case SCOAP_PIN_COUNT:
+        return "the count of pins differs from the cell's";
+    case SCOAP_DRIVEN_TWICE:
+        return "the line is driven already, by an input or a gate, or declared open";
+    case SCOAP_OUTPUT_TWICE:
+        return "the line is marked output already";
+    case SCOAP_REPORT_TOO_LONG:
+        return "the report is longer than its buffer; of a netlist with ranges both reports together";
+    case SCOAP_NO_FIGURE:
+        return "the number is over or never, or there is none";
+    case SCOAP_PLAN_TOO_LONG:
+        return "the plan's text is longer than its buffer";
+    case SCOAP_UNDECLARED:
+        return "a line is read by a pin or marked output, and neither driven nor declared open";
+    case SCOAP_NOT_INPUT:
+        return "a range on a line that is not marked input above";
+    case SCOAP_RANGE:
+        return "a bound of a range is not 1 to 999, LOW is above HIGH, or the line has a range already";
+    case SCOAP_UNPADDABLE:
+        return "the netlist does not mention the line, or it is an output already; or the standing table holds "
+               "such a pad, or a count of pads above 1,000";
+    case SCOAP_TICKET_STALE:
+        return "the ticket's count of pads is not the present one";
+    default:
+        return "no refusal has this number";
+    }
+}
 
 /*
  * Reads a cell library and a netlist and writes the report.
  *
- * lib, net    the texts, lib_len and net_len bytes; they need no byte 0 at the end and are not
- *             changed
+ * lib, net    the texts, lib_len and net_len bytes
  * report      the buffer, report_len bytes
  *
- * Each pointer is valid for its length, and not null even where the length is 0. The buffer overlaps
- * neither text.
- *
  * Answers the report's length where the pair is accepted. Otherwise it answers a refusal, with the line
- * from 1 in the text that the number belongs to: 3 to 9 the library, 10 to 15, 21 and 22 the netlist; 2, 17 and 20 have line 0. The library
- * is read first; the topmost bad line counts, and within it the lowest number. 20 comes after all lines.
+ * from 1 in the text that the number belongs to: 3 to 9 the library, 10 to 15, 21 and 22 the netlist; 2, 17 and 20 have
+ * line 0. The library is read first; the topmost bad line counts, and within it the lowest number. 20 comes after all
+ * lines.
  *
  * Where the netlist has a line 'range,L,LOW,HIGH' the report is written twice: with all such inputs at LOW, then,
  * after a line 'high', with all at HIGH. However the prices fall within the ranges, each cc and co lies between
@@ -190,14 +222,12 @@ uint64_t scoap_plan(const uint8_t *lib, size_t lib_len, const uint8_t *net, size
  * Writes the library entry of a truth table.
  *
  * line        one line 'NAME,n,BITS' with its byte 10, line_len bytes: n from 0 to 4, BITS the 2^n output
- *             values from all pins 0 upwards, pin 1 heaviest; it is not changed
+ *             values from all pins 0 upwards, pin 1 heaviest
  * entry       the buffer, entry_len bytes
  *
- * Each pointer is valid for its length, and not null even where the length is 0. The buffer does not
- * overlap the line.
- *
  * Answers the entry's length. Otherwise it answers a refusal: 2 (more than 65,535 bytes) at line 0, 3 (bad form)
- * and 5 (n above 4) at line 1, 17 (the entry is longer than its buffer) at line 0. The buffer afterwards is as scoap_report leaves its own.
+ * and 5 (n above 4) at line 1, 17 (the entry is longer than its buffer) at line 0. The buffer afterwards is as
+ * scoap_report leaves its own.
  */
 uint64_t scoap_cell(const uint8_t *line, size_t line_len, uint8_t *entry, size_t entry_len);
 
@@ -223,8 +253,7 @@ enum scoap_never {
 
 /*
  * Tells which of these holds of a netlist: answers one of enum scoap_never, or a refusal of the texts as
- * scoap_report answers it. It only reads, and calculates nothing, so that 17 does not come. The texts are lent as
- * to scoap_report.
+ * scoap_report answers it. It only reads, and calculates nothing, so that 17 does not come.
  */
 uint64_t scoap_qualifies(const uint8_t *lib, size_t lib_len, const uint8_t *net, size_t net_len);
 
@@ -232,8 +261,10 @@ uint64_t scoap_qualifies(const uint8_t *lib, size_t lib_len, const uint8_t *net,
 #define SCOAP_OVER 1000000000u
 #define SCOAP_NEVER 1000000001u
 
-/* Numbers of the table that scoap_best writes. */
+/* Numbers of the table that scoap_best writes; the place of line 1 at 0 in it, and the numbers of a value. */
 #define SCOAP_BEST 4001u
+#define SCOAP_BEST_VALUES 1u
+#define SCOAP_BEST_VALUE 2u
 
 /*
  * The best numbers that a few steps give, for an editor that cannot wait for an analysis. Each step settles one
@@ -241,6 +272,10 @@ uint64_t scoap_qualifies(const uint8_t *lib, size_t lib_len, const uint8_t *net,
  * 1. On offer are an input at its price (with ranges at LOW), and a gate's value by a row whose columns are all
  * settled. It stops after budget steps, or when nothing is on offer. A line has two values, so that a budget of
  * 2,000 or more is unlimited.
+ *
+ * A netlist that is not finished yet is refused by 20 as long as a pin reads a line, or an output marks one, that nothing
+ * drives: lend it with a line 'open,L' added for each of these, which then is never on offer, and without them once it is
+ * driven.
  *
  * lib, net    the texts, as for scoap_report
  * best        the table, best_len numbers, SCOAP_BEST of them written:
@@ -263,8 +298,9 @@ uint64_t scoap_qualifies(const uint8_t *lib, size_t lib_len, const uint8_t *net,
 uint64_t scoap_best(const uint8_t *lib, size_t lib_len, const uint8_t *net, size_t net_len,
                     uint64_t budget, uint32_t *best, size_t best_len);
 
-/* Numbers that scoap_rank writes, four for each line. */
+/* Numbers that scoap_rank writes, and how many for each line. */
 #define SCOAP_RANKS 4000u
+#define SCOAP_RANK 4u
 
 /*
  * A pad adviser, a second library above the first: on which line a pad does most, where some lines must get none. A
@@ -272,8 +308,8 @@ uint64_t scoap_best(const uint8_t *lib, size_t lib_len, const uint8_t *net, size
  * them alone. It takes a netlist, and sees no pads that scoap_commit placed.
  *
  * lib, net    the texts, as for scoap_report; with ranges all inputs are at LOW
- * forbidden   the lines that must get no pad, forbidden_len numbers in any order; it is not changed. One that names
- *             no line of the netlist counts for nothing, and one that stands there twice is forbidden once
+ * forbidden   the lines that must get no pad, forbidden_len numbers in any order, perhaps none. One that names no line
+ *             of the netlist counts for nothing, and one that stands there twice is forbidden once
  * answer      answer_len numbers, of which the first is written
  *
  * Answers the line whose pad leaves the lowest largest CO, and puts that CO into answer[0]; among equals it is the
@@ -307,9 +343,17 @@ uint64_t scoap_rank(const uint8_t *lib, size_t lib_len, const uint8_t *net, size
                     const uint32_t *forbidden, size_t forbidden_len,
                     uint32_t *ranks, size_t ranks_len);
 
-/* Numbers of a standing table, and the place of line 1's six costs in it. */
+/* Numbers of a standing table; the places of the sweeps, the pads and line 1's six costs in it. */
 #define SCOAP_STANDING 7005u
+#define SCOAP_STANDING_SWEEPS 1u
+#define SCOAP_STANDING_PADS 5u
 #define SCOAP_STANDING_NUMBERS 1005u
+
+/* Costs of a line, and among them the place of CO; combinational and sequential; values that a line is set to. */
+#define SCOAP_COSTS 6u
+#define SCOAP_COSTS_OBSERVED 4u
+#define SCOAP_KINDS 2u
+#define SCOAP_VALUES 2u
 
 /* Numbers that scoap_ask answers with: CO and SO of line 1, of line 2, and so on up to line 1,000. */
 #define SCOAP_OBSERVED 2000u
@@ -324,9 +368,15 @@ uint64_t scoap_rank(const uint8_t *lib, size_t lib_len, const uint8_t *net, size
  *   places 5 to 1004 the pads in the order of their commits, 0 after the last
  *   places 1005 on   six costs for each line 1 to 1,000: cc0, cc1, sc0, sc1, co, so
  *
- * The texts, tables and buffers are lent as to scoap_report: each pointer is valid for its length, none is null,
- * and what is written overlaps nothing else. A table or an answer may be longer than its size; entries past it
- * keep their values. With ranges all numbers of the table and of an answer are those at LOW.
+ * A table or an answer may be longer than its size; entries past it keep their values. With ranges all numbers of the
+ * table and of an answer are those at LOW. scoap_standing_co and the others below read these places.
+ *
+ * Keep each table with its two texts. The table does not name them, so that one of another netlist or library is taken
+ * without a word, as long as its pads could be placed; the numbers then say nothing of the texts that are lent.
+ *
+ * A ticket is a line and a count of pads, and a commit sees no more of it: drop all tickets where scoap_stand is called,
+ * and where a table is put back in order to undo a commit or a change. As many pads may stand there, but other ones, and
+ * a ticket from before is then accepted, with other numbers than its ask wrote.
  *
  * A refusal is answered as scoap_report answers it. 1 and 2 come first and touch nothing; 23, and after it 24,
  * come after those of the texts and have line 0.
@@ -352,11 +402,13 @@ uint64_t scoap_ask(const uint8_t *lib, size_t lib_len, const uint8_t *net, size_
                    uint32_t *answer, size_t answer_len);
 
 /*
- * Places a pad by its ticket, the line and the count that scoap_ask answered, and makes exactly the numbers stand
- * that it wrote. CC and SC and their sweeps stay; the sweeps of CO and SO are those of the new analysis.
+ * Places a pad by its ticket, the line and the count that scoap_ask answered. CO and SO become those that an ask for the
+ * line would write at this moment: where the table and the library are as they were at the ask, exactly those that it
+ * wrote; after a scoap_change, those under the new library, which is the one to lend here. CC and SC and their sweeps
+ * stay; the sweeps of CO and SO are those of the new analysis.
  *
- * Answers the count of pads placed now. Refused as scoap_ask is, and by 24 where another pad was placed since;
- * then nothing is touched.
+ * Answers the count of pads placed now. Refused as scoap_ask is, and by 24 where the count is not the present one, as
+ * where another pad was placed since; then nothing is touched.
  *
  * Of a table that no calls over these texts left, these two calls take the count, the pads and the CC and SC as they
  * are, any number above SCOAP_NEVER as never, and find CO and SO over them.
@@ -389,7 +441,8 @@ enum scoap_changed {
  *
  * Either way the pads stay, and the six numbers of each line are those of a new analysis under new_lib with the pads as
  * outputs. scoap_plan with new_lib writes plans that cost these numbers; they may be others than before. A ticket
- * from before the change makes the numbers under new_lib stand.
+ * from before the change is good after it, and its commit, with new_lib lent, makes the numbers under new_lib stand, not
+ * those that its ask wrote.
  *
  * A refusal touches nothing: 1 and 2, of any of the three texts; then those of lib and of net, and 23, by which the
  * table is no standing analysis of these; then those of new_lib; then those of net under new_lib. So where the table
@@ -400,6 +453,98 @@ enum scoap_changed {
  */
 uint64_t scoap_change(const uint8_t *lib, size_t lib_len, const uint8_t *new_lib, size_t new_lib_len,
                       const uint8_t *net, size_t net_len, uint32_t *standing, size_t standing_len);
+
+/*
+ * What stands in a standing table. line is 1 to SCOAP_LINES; value 0 or 1; place 1 to the count of pads, in the order of
+ * the commits; run 0 CC, 1 SC, 2 CO, 3 SO. Costs are numbers, SCOAP_OVER or SCOAP_NEVER.
+ */
+static inline uint32_t scoap_standing_count(const uint32_t *standing)
+{
+    return standing[0];
+}
+
+static inline uint32_t scoap_standing_sweeps(const uint32_t *standing, unsigned run)
+{
+    return standing[SCOAP_STANDING_SWEEPS + run];
+}
+
+static inline uint32_t scoap_standing_pad(const uint32_t *standing, unsigned place)
+{
+    return standing[SCOAP_STANDING_PADS + place - 1];
+}
+
+static inline uint32_t scoap_standing_cc(const uint32_t *standing, unsigned line, unsigned value)
+{
+    return standing[SCOAP_STANDING_NUMBERS + SCOAP_COSTS * (line - 1) + value];
+}
+
+static inline uint32_t scoap_standing_sc(const uint32_t *standing, unsigned line, unsigned value)
+{
+    return standing[SCOAP_STANDING_NUMBERS + SCOAP_COSTS * (line - 1) + SCOAP_VALUES + value];
+}
+
+static inline uint32_t scoap_standing_co(const uint32_t *standing, unsigned line)
+{
+    return standing[SCOAP_STANDING_NUMBERS + SCOAP_COSTS * (line - 1) + SCOAP_COSTS_OBSERVED];
+}
+
+static inline uint32_t scoap_standing_so(const uint32_t *standing, unsigned line)
+{
+    return standing[SCOAP_STANDING_NUMBERS + SCOAP_COSTS * (line - 1) + SCOAP_COSTS_OBSERVED + 1];
+}
+
+/* What scoap_ask answered with. */
+static inline uint32_t scoap_asked_co(const uint32_t *answer, unsigned line)
+{
+    return answer[SCOAP_KINDS * (line - 1)];
+}
+
+static inline uint32_t scoap_asked_so(const uint32_t *answer, unsigned line)
+{
+    return answer[SCOAP_KINDS * (line - 1) + 1];
+}
+
+/* What scoap_best left: the cost settled last; whether a value is settled; its number where it is, else its offer. */
+static inline uint32_t scoap_best_last(const uint32_t *best)
+{
+    return best[0];
+}
+
+static inline int scoap_best_settled(const uint32_t *best, unsigned line, unsigned value)
+{
+    return best[SCOAP_BEST_VALUES + SCOAP_BEST_VALUE * (SCOAP_VALUES * (line - 1) + value)] == 1;
+}
+
+static inline uint32_t scoap_best_cost(const uint32_t *best, unsigned line, unsigned value)
+{
+    return best[SCOAP_BEST_VALUES + SCOAP_BEST_VALUE * (SCOAP_VALUES * (line - 1) + value) + 1];
+}
+
+/* What scoap_rank left: whether a line may get a pad; with it, the counts of never and of over, the largest CO and the sum. */
+static inline int scoap_rank_allowed(const uint32_t *ranks, unsigned line)
+{
+    return ranks[SCOAP_RANK * (line - 1)] != SCOAP_NEVER;
+}
+
+static inline uint32_t scoap_rank_never(const uint32_t *ranks, unsigned line)
+{
+    return ranks[SCOAP_RANK * (line - 1)];
+}
+
+static inline uint32_t scoap_rank_over(const uint32_t *ranks, unsigned line)
+{
+    return ranks[SCOAP_RANK * (line - 1) + 1];
+}
+
+static inline uint32_t scoap_rank_largest(const uint32_t *ranks, unsigned line)
+{
+    return ranks[SCOAP_RANK * (line - 1) + 2];
+}
+
+static inline uint32_t scoap_rank_sum(const uint32_t *ranks, unsigned line)
+{
+    return ranks[SCOAP_RANK * (line - 1) + 3];
+}
 
 /* The two parts of a refusal. */
 static inline unsigned scoap_number(uint64_t answer)
