@@ -30,7 +30,7 @@ help:
 	@echo "make test      passes all tests, from nothing: its last line is 'N passed, 0 failed'"
 	@echo 'make fuzz      compares archive and second implementation on random calls: SECONDS=60 SEED='
 	@echo 'make bench     times the archive and the second implementation side by side'
-	@echo 'make tools     installs what some tests of scoap_pads need, by apt-get as root'
+	@echo 'make tools     installs what some tests of scoap_pads need, by apt-get as root, and updates its lists first'
 	@echo 'make clean     removes target/, with all that was proved and built'
 
 # What the other targets need, told where it is missing.
@@ -89,6 +89,9 @@ pads: archive need-cargo
 	@mkdir -p target/bin && cp target/pads/release/scoap_pads target/bin/scoap_pads
 	@target/bin/scoap_pads page examples/c17 -o target/c17.html
 	@target/bin/scoap_pads page examples/recorder/decim.json -l examples/recorder/recorder.lib -o target/decim.html
+	@echo
+	@echo 'Built: target/bin/scoap_pads'
+	@echo 'Next: target/bin/scoap_pads report examples/shift_register/c1.blif'
 endif
 
 # The same proofs at a larger size, in a copy of the tree under target/.
@@ -118,6 +121,7 @@ uninstall:
 
 # What its tests use beyond the toolchain; without it they say what they skip.
 tools:
+	apt-get update
 	apt-get install -y --no-install-recommends yosys berkeley-abc chromium chromium-driver curl
 
 clean:
