@@ -1,5 +1,6 @@
-/* A read(2) of its own, put before the C library's by LD_PRELOAD, for tests/files. It moves at most MOST
- * bytes, and fails with EIO at the FAIL_AT-th read of the file whose path ends with FAIL_FILE. */
+/* A read(2) and a write(2) of its own, put before the C library's by LD_PRELOAD, for tests/files. A read moves at
+ * most MOST bytes, and fails with EIO at the FAIL_AT-th read of the file whose path ends with FAIL_FILE. A write
+ * moves at most MOST_WRITTEN bytes, as into a pipe that is nearly full. */
 #define _GNU_SOURCE
 #include <errno.h>
 #include <stdio.h>
@@ -29,4 +30,12 @@ ssize_t read(int fd, void *buffer, size_t size)
     if (most && (size_t)atol(most) < size)
         size = (size_t)atol(most);
     return syscall(SYS_read, fd, buffer, size);
+}
+
+ssize_t write(int fd, const void *buffer, size_t size)
+{
+    const char *most = getenv("MOST_WRITTEN");
+    if (most && (size_t)atol(most) < size)
+        size = (size_t)atol(most);
+    return syscall(SYS_write, fd, buffer, size);
 }
