@@ -5,7 +5,7 @@ use mathlib.Core.List.{List, [], _∷_, _++_}
 use mathlib.Core.Path.{_≡_, refl}
 use Prim.Native.Nat.{ℕ}
 use Prim.Native.String.{String}
-use lib.ListN.{replicate, take}
+use lib.ListN.{replicate, take, drop}
 use Rattle.sizes.specs.Sizes as Size
 use Rattle.text.specs.Bytes.{text, bytes-open}
 use Rattle.reading.specs.Each.{Each}
@@ -176,6 +176,25 @@ bothFigure =
       report = "line,cc0,cc1,sc0,sc1,co,so" ∷ "1,1,1,0,0,6,0" ∷ "2,2,3,0,0,4,0" ∷ "3,3,7,0,0,0,0" ∷ "sweeps,2,2,2,2" ∷ [];
     }
 
+-- The same chain of such a cell, BOTH2 under the name that the chain uses, keeps document 01's two numbers: line 29 costs
+-- 536,870,911 at 1, and line 30, the output of the 29th gate, over.
+abbrev pub bothChainFigure : Figure
+bothChainFigure =
+    record {
+      library = "Name,AND2,2" ∷ drop 1 both2;
+      netlist = "input,1" ∷ (chain ++ ("output,30" ∷ []));
+      report =
+          "line,cc0,cc1,sc0,sc1,co,so" ∷ "1,1,1,0,0,over,0" ∷ "2,2,3,0,0,over,0" ∷ "3,3,7,0,0,over,0" ∷ "4,4,15,0,0,over,0"
+          ∷ "5,5,31,0,0,over,0" ∷ "6,6,63,0,0,over,0" ∷ "7,7,127,0,0,over,0" ∷ "8,8,255,0,0,over,0" ∷ "9,9,511,0,0,over,0"
+          ∷ "10,10,1023,0,0,over,0" ∷ "11,11,2047,0,0,over,0" ∷ "12,12,4095,0,0,over,0" ∷ "13,13,8191,0,0,over,0"
+          ∷ "14,14,16383,0,0,over,0" ∷ "15,15,32767,0,0,over,0" ∷ "16,16,65535,0,0,over,0" ∷ "17,17,131071,0,0,over,0"
+          ∷ "18,18,262143,0,0,over,0" ∷ "19,19,524287,0,0,over,0" ∷ "20,20,1048575,0,0,over,0" ∷ "21,21,2097151,0,0,over,0"
+          ∷ "22,22,4194303,0,0,over,0" ∷ "23,23,8388607,0,0,over,0" ∷ "24,24,16777215,0,0,over,0"
+          ∷ "25,25,33554431,0,0,over,0" ∷ "26,26,67108863,0,0,over,0" ∷ "27,27,134217727,0,0,939524096,0"
+          ∷ "28,28,268435455,0,0,805306368,0" ∷ "29,29,536870911,0,0,536870912,0" ∷ "30,30,over,0,0,0,0" ∷ "sweeps,2,2,2,2"
+          ∷ [];
+    }
+
 -- "Such a row that needs 0 and 1 of one line is no way at all.": XOR2 with both pins on one line is never 1.
 abbrev pub xorFigure : Figure
 xorFigure =
@@ -262,6 +281,7 @@ figures =
     ∷ chain28Figure
     ∷ chain29Figure
     ∷ bothFigure
+    ∷ bothChainFigure
     ∷ xorFigure
     ∷ tiedFigure
     ∷ backwardsFigure
@@ -274,5 +294,5 @@ pub figures-hold : Each Decodes rows × Each Holds figures
 unfolding outcome-open lent reported Each
 figures-hold = (
   ((refl, refl), ((refl, refl), ((refl, refl), tt))),
-  (refl, (refl, (refl, (refl, (refl, (refl, (refl, (refl, (refl, (refl, (refl, (refl, tt)))))))))))),
+  (refl, (refl, (refl, (refl, (refl, (refl, (refl, (refl, (refl, (refl, (refl, (refl, (refl, tt))))))))))))),
 )
