@@ -11,6 +11,24 @@ const ENTRY: usize = 8_192;
 struct Table {
     pins: usize,
     outputs: u32,
+    /// Whether its entry begins with `Name3`.
+    deep: bool,
+}
+
+/// The entry with three-bit depths: the same rows, every column two places higher.
+fn deepened(entry: &str) -> String {
+    let field = |field: &str| match u32::from_str_radix(field, 8) {
+        Ok(row) => format!("{:o}", row >> 1 << 3 | row & 1),
+        Err(_) => field.to_string(),
+    };
+    let mut lines = entry.lines();
+    let head = lines.next().unwrap_or_default();
+    let mut text = format!("{}\n", head.replacen("Name,", "Name3,", 1));
+    for line in lines {
+        let fields: Vec<String> = line.split(',').map(field).collect();
+        text += &format!("{}\n", fields.join(","));
+    }
+    text
 }
 
 /// Lines are counted from 0 here: the inputs, then each gate's own.
@@ -33,7 +51,12 @@ impl Chip {
                 let pins = rng.below(5);
                 let settings = 1u32 << pins;
                 let outputs = (rng.next() & ((1 << settings) - 1)) as u32;
-                Table { pins, outputs }
+                let deep = rng.once_in(4);
+                Table {
+                    pins,
+                    outputs,
+                    deep,
+                }
             })
             .collect();
         let mut gates: Vec<(usize, Vec<usize>)> = Vec::new();
@@ -79,7 +102,12 @@ impl Chip {
             let line = format!("T{cell},{},{bits}\n", table.pins);
             let mut entry = vec![0; ENTRY];
             let length = cell_into(line.as_bytes(), &mut entry) as usize;
-            text.extend(&entry[..length]);
+            if table.deep {
+                let entry = String::from_utf8_lossy(&entry[..length]);
+                text.extend(deepened(&entry).into_bytes());
+            } else {
+                text.extend(&entry[..length]);
+            }
         }
         text
     }
@@ -98,6 +126,11 @@ impl Chip {
             text.push('\n');
         }
         text.into_bytes()
+    }
+
+    /// Whether a gate's cell is one whose entry begins with `Name3`.
+    pub fn deep(&self) -> bool {
+        self.gates.iter().any(|gate| self.tables[gate.0].deep)
     }
 
     /// Whether each line is read by at most one pin.

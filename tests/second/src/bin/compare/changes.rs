@@ -17,8 +17,8 @@ use second::figures::*;
 use second::generate::{add_ranges, groups_of, ladder, library_of, pair, rows_line, Pair, ENTRY};
 use second::grow::WORDS;
 use second::random::Random;
-use second::standing::{OBSERVED, STANDING};
-use second::MOST_BYTES;
+use second::standing::{analysed, OBSERVED, STANDING};
+use second::{MOST_BYTES, MOST_LINES};
 use tally::Changes;
 
 /// Random lists, and the steps of each.
@@ -169,10 +169,39 @@ fn largest(changes: &mut Changes, rng: &mut Random) {
     }
 }
 
+/// As many pads as there may be, and one fewer: a chain of inverters on which every line has one. Rows added, the library
+/// as it was, and another one.
+fn most_pads(changes: &mut Changes) {
+    let label = "the most pads";
+    let net = chain("INV", MOST_LINES - 1, false);
+    let net = net.replace(&format!("output,{MOST_LINES}\n"), "");
+    let more = INV.replace("CC,3,", "CC,3,M,2,");
+    for count in [MOST_LINES - 1, MOST_LINES] {
+        let pads: Vec<u32> = (1..=count as u32).rev().collect();
+        let Ok(table) = analysed(INV.as_bytes(), net.as_bytes(), &pads) else {
+            let problem = Some("there is no such analysis".to_string());
+            changes.lists.all.verdict(label, problem);
+            continue;
+        };
+        let mut list = List {
+            counts: [table[1], table[2], table[3], table[4]],
+            lending: lending(INV.as_bytes(), net.as_bytes(), table),
+            pads,
+            tickets: Vec::new(),
+            changes: 0,
+            lines: Vec::new(),
+        };
+        for (lib, answer) in [(INV, 1), (&more, 1), (INV, 0)] {
+            script::change_to(&mut list, changes, label, lib.as_bytes(), answer);
+        }
+    }
+}
+
 /// All of it, and what must have come up in the random lists.
 pub fn changes(all: &mut Comparison, rng: &mut Random) {
     let mut changes = Changes::of(all);
     fixed(&mut changes);
+    most_pads(&mut changes);
     largest(&mut changes, rng);
     changes.count_anew();
     let mut other = vec![0; STANDING];

@@ -15,6 +15,7 @@ const CHIPS: usize = 4_000;
 #[derive(Default)]
 pub struct Shown {
     once: u64,
+    deep: u64,
     nevers: u64,
     figures: u64,
 }
@@ -34,6 +35,7 @@ pub fn at_every_setting(all: &mut Comparison, rng: &mut Random, tree: bool, show
         .then(|| format!("qualifies {qualified}, each line read once: {read_once}"));
     all.verdict("a chip qualifies", problem);
     shown.once += u64::from(read_once);
+    shown.deep += u64::from(chip.deep());
     let given = chip.given();
     let mut rows = 0;
     for row in report.lines().skip(1) {
@@ -106,6 +108,7 @@ pub fn chips(all: &mut Comparison, rng: &mut Random) {
     }
     for (title, count) in [
         ("each line read by at most one pin", shown.once),
+        ("a generated cell under Name3", shown.deep),
         ("a value that is never", shown.nevers),
         ("a figure that no setting gives", shown.figures),
     ] {

@@ -4,7 +4,7 @@ use crate::comparison::Comparison;
 use second::figures::*;
 use second::generate::{add_ranges, ladder, pair};
 use second::random::Random;
-use second::{MOST_TOLD, REFUSED};
+use second::{MOST_LINES, MOST_TOLD, REFUSED};
 
 /// Random ladders whose plans are written out.
 const PLAN_PAIRS: usize = 300;
@@ -56,10 +56,32 @@ pub fn plans(all: &mut Comparison, rng: &mut Random) {
         }
     }
     long_plans(all);
+    deep_plans(all);
     let [written, refused] = all.plans;
     println!("plans:");
     all.met("written out", written);
     all.met("refused", refused);
+}
+
+/// Plans of every depth that there is: of lines all along the longest chain.
+fn deep_plans(all: &mut Comparison) {
+    let label = "deep plan";
+    let net = chain("INV", MOST_LINES - 1, false);
+    let pair = [INV.as_bytes(), net.as_bytes()];
+    let some = [
+        1, 2, 10, 11, 18, 100, 101, 102, 200, 201, 202, 256, 257, 500,
+    ];
+    let last = [MOST_LINES as u64 - 1, MOST_LINES as u64];
+    for line in some.into_iter().chain(last) {
+        for value in [0, 1] {
+            for kind in [0, 1] {
+                let asked = [line, value, kind];
+                let answer = all.check_plan(label, pair, asked, 20 * MOST_LINES);
+                let problem = (answer >= REFUSED).then(|| format!("{asked:?} is refused"));
+                all.verdict(label, problem);
+            }
+        }
+    }
 }
 
 /// Plans as long as the number tells, and longer: 19 then, however long the buffer is, and never a length that reads as

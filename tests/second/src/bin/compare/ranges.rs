@@ -3,6 +3,7 @@
 use crate::archive;
 use crate::comparison::{Comparison, ROOM};
 use second::between::{at_some_prices, between, parts};
+use second::figures::{doubling, AND2};
 use second::generate::{add_ranges, ladder, pair};
 use second::random::Random;
 use second::REFUSED;
@@ -48,8 +49,27 @@ pub fn random(all: &mut Comparison, rng: &mut Random, turn: usize, shown: &mut S
     }
 }
 
+/// A cost that is over at HIGH and a figure at LOW: 28 gates of a cell that pays for both its pins.
+fn over_at_high(all: &mut Comparison) {
+    let label = "over at HIGH alone";
+    let both = AND2.replace("CC,21,", "CC,21,M,7,");
+    let net = doubling("AND2", 28) + "range,1,1,999\n";
+    let whole = reports(all, both.as_bytes(), net.as_bytes());
+    let line = |report: &[u8]| {
+        let report = String::from_utf8_lossy(report).into_owned();
+        let found = report.lines().find(|line| line.starts_with("29,"));
+        found.unwrap_or_default().to_string()
+    };
+    let found = parts(&whole).map(|[low, high]| [line(low), line(high)]);
+    let wanted = ["29,29,536870911,0,0,0,0", "29,1027,over,0,0,0,0"].map(String::from);
+    let problem = (found.as_ref() != Some(&wanted)).then(|| format!("{found:?}"));
+    all.verdict(label, problem);
+    all.check_rooms(label, both.as_bytes(), net.as_bytes());
+}
+
 /// All of them, and what must have come up.
 pub fn ranges(all: &mut Comparison, rng: &mut Random) {
+    over_at_high(all);
     let mut shown = Shown::default();
     for turn in 0..all.extent.count(RANGED) {
         random(all, rng, turn, &mut shown);
