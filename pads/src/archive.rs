@@ -149,6 +149,12 @@ pub fn report(lib: &[u8], net: &[u8]) -> Result<Numbers, Refusal> {
     report_text(lib, net).map(|text| read_report(&text))
 }
 
+/// The numbers at the upper ends of all ranges; without a range those of the report.
+pub fn report_high(lib: &[u8], net: &[u8]) -> Result<Numbers, Refusal> {
+    let text = report_text(lib, net)?;
+    Ok(read_report(text.split_once("\nhigh\n").map_or(text.as_str(), |(_, high)| high)))
+}
+
 /// Reads a report. It ends with the line of sweeps: a second report after it is not read.
 fn read_report(text: &str) -> Numbers {
     let mut by_line = vec![None; MOST_LINES + 1];

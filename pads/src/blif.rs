@@ -4,6 +4,7 @@ use crate::archive::MOST_PINS;
 use crate::cells::{self, Cell, Kind, Op};
 use crate::hub::{too_many, Design, Gate, Lines, Source, MOST_NETS};
 use crate::messages::Messages;
+use crate::names::OWN_CLOCK;
 use crate::rows::Table;
 use crate::types::{add_gates, Place, Types};
 use std::collections::HashMap;
@@ -421,7 +422,7 @@ pub fn put_clock(
         },
         None => {
             let net = design.add_net();
-            design.nets[net].port = Some("(clock)".to_string());
+            design.nets[net].port = Some(OWN_CLOCK.to_string());
             design.inputs.push(net);
             let mut read = vec![false; design.nets.len()];
             for source in design.gates.iter().flat_map(|gate| &gate.pins) {
@@ -436,7 +437,8 @@ pub fn put_clock(
                 .map(|&input| design.nets[input].name())
                 .take(5)
                 .collect();
-            let mut words = format!("{} registers have no clock: they get the input (clock), rising", clockless.len());
+            let mut words =
+                format!("{} registers have no clock: they get the input {OWN_CLOCK}, rising", clockless.len());
             if !unread.is_empty() {
                 words
                     .push_str(&format!("; if it is one of the unread inputs, say --clock NAME: {}", unread.join(", ")));

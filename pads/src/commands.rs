@@ -1,13 +1,13 @@
 //! The commands: each answers what it prints and its exit status.
 
-use crate::archive::{MOST_BYTES, MOST_CELLS, MOST_LINES, MOST_PINS, MOST_ROWS};
+use crate::archive::{words, Numbers, MOST_BYTES, MOST_CELLS, MOST_LINES, MOST_PINS, MOST_ROWS};
 use crate::args::{Args, Takes};
 use crate::cost::{grouped, Cost};
 use crate::load::{self, Loaded};
 use crate::messages::{printable, Messages};
 use crate::model::{Model, Number};
 use crate::names::{self, cut, LineKind};
-use crate::pads::{self, Effect, Measure, Privacy};
+use crate::pads::{self, Effect, Measure, Privacy, Round, Touching};
 use crate::ranking::{self, Key};
 use crate::text::{self, Stop};
 use crate::{csv, help, never, page, why};
@@ -52,13 +52,19 @@ pub fn run(given: &[String], messages: &mut Messages) -> Result<Done, Stop> {
         "import" => import(&parse(&["-o"], &[], (0, 0))?, messages),
         "check" => check(&parse(&[], &[], (0, 0))?, messages),
         "report" => {
-            let values = &["--by", "--worst", "--min", "--csv", "--fail-above"];
-            report(&parse(values, &["--registers"], (0, 0))?, messages)
+            let values = &["--by", "--worst", "--min", "--csv", "--fail-above", "--protect", "--protect-depth"];
+            report(&parse(values, &["--registers", "--inputs-too"], (0, 0))?, messages)
         }
         "why" => reason(&parse(&["--of", "--steps"], &[], (1, 1))?, messages),
-        "pad" => pad(&parse(&["--protect"], &[], (1, many))?, messages),
-        "page" => page_of(&parse(&["-o", "--pad", "--forbid", "--protect"], &[], (0, 0))?, messages),
-        _ => advise(&parse(&["--pads", "--forbid", "--protect", "--csv"], &[], (0, 0))?, messages),
+        "pad" => pad(&parse(&["--protect", "--protect-depth"], &[], (1, many))?, messages),
+        "page" => {
+            let values = &["-o", "--pad", "--forbid", "--protect", "--protect-depth"];
+            page_of(&parse(values, &["--inputs-too"], (0, 0))?, messages)
+        }
+        _ => {
+            let values = &["--pads", "--forbid", "--protect", "--protect-depth", "--csv"];
+            advise(&parse(values, &["--inputs-too"], (0, 0))?, messages)
+        }
     }
 }
 
@@ -160,12 +166,13 @@ fn report(args: &Args, messages: &mut Messages) -> Result<Done, Stop> {
     let worst = args.number("--worst", 20)?;
     let least = args.number("--min", 0)?;
     let bound = args.value("--fail-above").map(|_| args.number("--fail-above", 0)).transpose()?;
-    let Loaded { model, .. } = load::load(&args.source, messages)?;
+    let model = model_of(args, messages)?;
+    let privacy = privacy_of(args, &model, messages)?;
     messages.print();
-    let effects = pads::by_line(&model).map_err(Stop::Usage)?;
+    let effects = pads::by_line_under(&model, &privacy).map_err(Stop::Usage)?;
     let ranked = ranking::ranked(&model, key, &effects);
     if let Some(file) = args.value("--csv") {
-        text::write(Path::new(file), csv_of(&model, &ranked, &effects).as_bytes())?;
+        text::write(Path::new(file), csv_of(&model, &ranked, &effects, &privacy).as_bytes())?;
     }
     let mut text = load::summary(&args.source.path, &model) + "\n";
     text += &never::text(&model);
@@ -185,7 +192,7 @@ fn report(args: &Args, messages: &mut Messages) -> Result<Done, Stop> {
         let _ =
             writeln!(text, "… {} more; --worst N shows more, --csv FILE all", grouped((lines.len() - worst) as u64));
     }
-    text += &best_told(&model, &effects);
+    text += &best_told(&model, &effects, &privacy);
     let broken = bound.map(|bound| above(&model, bound));
     let mut status = 0;
     if let (Some(lines), Some(bound)) = (broken, bound) {
@@ -235,12 +242,19 @@ fn above(model: &Model, bound: usize) -> Vec<usize> {
         .collect()
 }
 
-fn best_told(model: &Model, effects: &HashMap<usize, Effect>) -> String {
+fn best_told(model: &Model, effects: &HashMap<usize, Effect>, privacy: &Privacy) -> String {
     let before = pads::measure(model, &model.numbers);
     let all: Vec<Effect> = effects.values().cloned().collect();
-    match pads::best(model, before, &all, &Privacy::default()) {
-        None => "best pad: none makes a net easier to see\n".to_string(),
-        Some(best) => format!("best pad: {}  {}\n", model.net_name(best.line), change_told(before, best.after)),
+    match pads::best(before, &all, privacy) {
+        None if privacy.protected.is_empty() => "best pad: none makes a net easier to see\n".to_string(),
+        None => "best pad: none that is allowed makes a net easier to see\n".to_string(),
+        Some(best) => {
+            let mut text = format!("best pad: {}  {}\n", model.net_name(best.line), change_told(before, best.after));
+            for told in privacy.told(model, best.line) {
+                let _ = writeln!(text, "          {told}");
+            }
+            text
+        }
     }
 }
 
@@ -258,8 +272,23 @@ fn change_told(before: Measure, after: Measure) -> String {
     told.join(", ")
 }
 
-fn csv_of(model: &Model, ranked: &[usize], effects: &HashMap<usize, Effect>) -> String {
-    let head = ["net", "line", "kind", "cc0", "cc1", "sc0", "sc1", "co", "so", "hardest", "gain", "aliases"];
+fn csv_of(model: &Model, ranked: &[usize], effects: &HashMap<usize, Effect>, privacy: &Privacy) -> String {
+    let head = [
+        "net",
+        "line",
+        "kind",
+        "cc0",
+        "cc1",
+        "sc0",
+        "sc1",
+        "co",
+        "so",
+        "hardest",
+        "gain",
+        "aliases",
+        "protected",
+        "upstream",
+    ];
     let mut text = csv::record(&head);
     let rest = model.lines().filter(|&line| !model.is_ranked(line));
     for line in ranked.iter().copied().chain(rest) {
@@ -272,10 +301,40 @@ fn csv_of(model: &Model, ranked: &[usize], effects: &HashMap<usize, Effect>) -> 
         fields.push(if ranked { ranking::hardest(six).plain() } else { String::new() });
         fields.push(effects.get(&line).map_or(String::new(), |effect| effect.gain.to_string()));
         fields.push(name.aliases.join(" "));
+        fields.push(protected_told(privacy, line).to_string());
+        fields.push(privacy.upstream_told(model, line).unwrap_or_default());
         let fields: Vec<&str> = fields.iter().map(String::as_str).collect();
         text += &csv::record(&fields);
     }
     text
+}
+
+fn protected_told(privacy: &Privacy, line: usize) -> &'static str {
+    if privacy.protected.contains(&line) {
+        "protected"
+    } else if privacy.carries(line) {
+        "carries"
+    } else {
+        ""
+    }
+}
+
+/// The model of the command line's source.
+fn model_of(args: &Args, messages: &mut Messages) -> Result<Model, Stop> {
+    let Loaded { mut model, .. } = load::load(&args.source, messages)?;
+    model.inputs_too = args.has("--inputs-too");
+    Ok(model)
+}
+
+/// What the command line forbids and protects.
+fn privacy_of(args: &Args, model: &Model, messages: &mut Messages) -> Result<Privacy, Stop> {
+    let forbidden = nets_of(model, args.value("--forbid"), messages)?;
+    let protected = nets_of(model, args.value("--protect"), messages)?;
+    let depth = args.number("--protect-depth", pads::USUAL_DEPTH)?;
+    if messages.errors() > 0 {
+        return Err(Stop::Refused);
+    }
+    Ok(Privacy::new(model, forbidden, protected, depth))
 }
 
 /// One net of the command line.
@@ -339,17 +398,14 @@ fn nets_of(model: &Model, file: Option<&str>, messages: &mut Messages) -> Result
 }
 
 fn pad(args: &Args, messages: &mut Messages) -> Result<Done, Stop> {
-    let Loaded { model, .. } = load::load(&args.source, messages)?;
+    let model = model_of(args, messages)?;
     let mut lines: Vec<usize> = Vec::new();
     for wanted in &args.words {
         lines.extend(names::find(&model.names, wanted).map_err(Stop::Usage)?);
     }
     lines.sort_unstable();
     lines.dedup();
-    let protected = nets_of(&model, args.value("--protect"), messages)?;
-    if messages.errors() > 0 {
-        return Err(Stop::Refused);
-    }
+    let privacy = privacy_of(args, &model, messages)?;
     let (outputs, lines): (Vec<usize>, Vec<usize>) = lines.into_iter().partition(|&line| model.is_output[line]);
     for line in outputs {
         messages.note(format!("{} is an output already", model.net_name(line)));
@@ -363,6 +419,11 @@ fn pad(args: &Args, messages: &mut Messages) -> Result<Done, Stop> {
         if told.is_empty() { "nothing".to_string() } else { told.join(", ") },
         change_told(measures[0], measures[1])
     );
+    for &line in &lines {
+        for told in privacy.told(&model, line) {
+            let _ = writeln!(text, "{}: {told}", model.net_name(line));
+        }
+    }
     let mut changed: Vec<usize> =
         model.lines().filter(|&line| pads::is_easier(model.numbers.of(line), after.of(line))).collect();
     let fall = |line: usize| pads::fall(model.numbers.of(line)[4], after.of(line)[4]);
@@ -378,65 +439,84 @@ fn pad(args: &Args, messages: &mut Messages) -> Result<Done, Stop> {
             format!("-> {}", is[4]),
             was[5].to_string(),
             format!("-> {}", is[5]),
-            if protected.contains(&line) { "protected" } else { "" }.to_string(),
+            protected_told(&privacy, line).to_string(),
         ]);
     }
     if !changed.is_empty() {
         text += &table(&rows, &[0, 1, 3, 5, 6]);
     }
-    let shown = changed.iter().filter(|line| protected.contains(line)).count();
-    if shown > 0 {
-        let _ = writeln!(text, "{} easier to see", load::many(shown, "protected net"));
-    }
+    text += &touched_told(&model, &privacy, &lines, &changed, &after)?;
     Done::well(printable(&text))
+}
+
+/// The protected nets that pads touch.
+fn touched_told(
+    model: &Model,
+    privacy: &Privacy,
+    pads: &[usize],
+    changed: &[usize],
+    after: &Numbers,
+) -> Result<String, Stop> {
+    let touching = Touching::new(model, privacy).map_err(Stop::Usage)?;
+    let touched = touching.by(model, pads, after).map_err(Stop::Usage)?;
+    let (shown, within): (Vec<usize>, Vec<usize>) = touched.into_iter().partition(|line| changed.contains(line));
+    let mut text = String::new();
+    if !shown.is_empty() {
+        let _ = writeln!(text, "{} easier to see", load::many(shown.len(), "protected net"));
+    }
+    if !within.is_empty() {
+        let names: Vec<&str> = within.iter().map(|&line| model.net_name(line)).collect();
+        let what = load::many(within.len(), "protected net");
+        let _ = writeln!(text, "{what} perhaps easier to see at other prices within the ranges: {}", names.join(", "));
+    }
+    Ok(text)
 }
 
 fn advise(args: &Args, messages: &mut Messages) -> Result<Done, Stop> {
     let count = args.number("--pads", 1)?.clamp(1, MOST_LINES);
-    let Loaded { model, .. } = load::load(&args.source, messages)?;
-    let privacy = Privacy {
-        forbidden: nets_of(&model, args.value("--forbid"), messages)?,
-        protected: nets_of(&model, args.value("--protect"), messages)?,
-    };
-    if messages.errors() > 0 {
-        return Err(Stop::Refused);
-    }
+    let model = model_of(args, messages)?;
+    let privacy = privacy_of(args, &model, messages)?;
     messages.print();
-    let (advice, effects) = pads::advise(&model, count, &privacy).map_err(Stop::Usage)?;
+    let (rounds, effects) = pads::advise(&model, count, &privacy).map_err(Stop::Usage)?;
     if let Some(file) = args.value("--csv") {
         text::write(Path::new(file), candidates_csv(&model, &effects, &privacy).as_bytes())?;
     }
     let mut text = load::summary(&args.source.path, &model) + "\n";
     let mut before = pads::measure(&model, &model.numbers);
-    for (at, pad) in advice.iter().enumerate() {
-        let effect = &pad.effect;
-        let _ =
-            writeln!(text, "pad {}: {}  {}", at + 1, model.net_name(effect.line), change_told(before, effect.after));
-        let _ = writeln!(
-            text,
-            "       {} easier to see; chosen among {} of {} lines",
-            load::many(effect.easier.len(), "net"),
-            pad.allowed,
-            pad.candidates
-        );
-        before = effect.after;
-    }
-    if advice.len() < count {
-        let privacy = !privacy.forbidden.is_empty() || !privacy.protected.is_empty();
-        text += if privacy { "no pad that is allowed helps further\n" } else { "no pad helps further\n" };
+    for (at, round) in rounds.iter().enumerate() {
+        match &round.pad {
+            Some(pad) => {
+                text += &pad_told(&model, at + 1, before, pad, round, &privacy);
+                before = pad.after;
+            }
+            None if privacy.forbidden.is_empty() && privacy.protected.is_empty() => text += "no pad helps further\n",
+            None => text += "no pad that is allowed helps further\n",
+        }
+        text += "       proved adviser, among the same lines, by the largest CO alone: ";
+        text += &match round.proved {
+            Ok(Some((line, largest))) => format!("{}, largest CO {largest}\n", model.net_name(line)),
+            Ok(None) => "none, no line is allowed\n".to_string(),
+            Err(refusal) => format!("refuses, {} (refusal {})\n", words(refusal.number), refusal.number),
+        };
     }
     text += &trouble_told(&model);
-    text += "proved adviser, one pad by the largest CO of all lines, constants and unread ones among them: ";
-    text += &match pads::proved(&model, &effects, &privacy).map_err(Stop::Usage)? {
-        Some((line, largest)) => format!("{}, largest CO {largest}\n", model.net_name(line)),
-        None => "none, no line is allowed\n".to_string(),
-    };
     Done::well(printable(&text))
+}
+
+fn pad_told(model: &Model, at: usize, before: Measure, pad: &Effect, round: &Round, privacy: &Privacy) -> String {
+    let mut text = format!("pad {at}: {}  {}\n", model.net_name(pad.line), change_told(before, pad.after));
+    let easier = load::many(pad.easier.len(), "net");
+    let _ =
+        writeln!(text, "       {easier} easier to see; chosen among {} of {} lines", round.allowed, round.candidates);
+    for told in privacy.told(model, pad.line) {
+        let _ = writeln!(text, "       {told}");
+    }
+    text
 }
 
 fn page_of(args: &Args, messages: &mut Messages) -> Result<Done, Stop> {
     let file = args.value("-o").ok_or_else(|| Stop::Usage("-o FILE.html is missing".to_string()))?;
-    let Loaded { model, .. } = load::load(&args.source, messages)?;
+    let model = model_of(args, messages)?;
     let mut placed = Vec::new();
     for wanted in args.values("--pad") {
         placed.extend(names::find(&model.names, wanted).map_err(Stop::Usage)?);
@@ -444,13 +524,7 @@ fn page_of(args: &Args, messages: &mut Messages) -> Result<Done, Stop> {
     placed.sort_unstable();
     placed.dedup();
     placed.retain(|&line| !model.is_output[line]);
-    let privacy = Privacy {
-        forbidden: nets_of(&model, args.value("--forbid"), messages)?,
-        protected: nets_of(&model, args.value("--protect"), messages)?,
-    };
-    if messages.errors() > 0 {
-        return Err(Stop::Refused);
-    }
+    let privacy = privacy_of(args, &model, messages)?;
     let said = messages.text();
     messages.print();
     let page = page::page(&args.source.path, &model, &placed, &privacy, &said).map_err(Stop::Usage)?;
@@ -477,8 +551,9 @@ fn trouble_told(model: &Model) -> String {
 }
 
 fn candidates_csv(model: &Model, effects: &[Effect], privacy: &Privacy) -> String {
-    let mut text = csv::record(&["net", "instance", "gain", "largest_co", "easier", "protected", "allowed"]);
-    let mut effects: Vec<&Effect> = effects.iter().filter(|effect| model.is_ranked(effect.line)).collect();
+    let mut text =
+        csv::record(&["net", "instance", "gain", "largest_co", "easier", "protected", "allowed", "upstream"]);
+    let mut effects: Vec<&Effect> = effects.iter().collect();
     effects.sort_by_key(|effect| (effect.after, effect.line));
     for effect in effects {
         let names = |lines: &[usize]| -> String {
@@ -496,8 +571,9 @@ fn candidates_csv(model: &Model, effects: &[Effect], privacy: &Privacy) -> Strin
             &effect.gain.to_string(),
             &largest.plain(),
             &names(&easier),
-            &names(&privacy.touched(effect)),
+            &names(&effect.touched),
             if privacy.allows(effect) { "1" } else { "0" },
+            &privacy.upstream_told(model, effect.line).unwrap_or_default(),
         ]);
     }
     text

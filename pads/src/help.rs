@@ -43,16 +43,21 @@ them, and tells warnings. No numbers.
 
 pub const REPORT: &str = "\
 scoap_pads report SOURCE [--by KEY] [--worst N] [--min N] [--registers] [--csv FILE] [--fail-above N]
+                         [--protect FILE] [--protect-depth N] [--inputs-too]
 
 The nets in order: never, over, then the hardest fault, the larger of CC1 + CO and CC0 + CO.
     --by KEY          fault (as above), cc0, cc1, sc0, sc1, co, so, or gain
     --worst N         so many nets (20 if not said)
     --min N           only nets whose hardest fault is at least N
     --registers       only registers
-    --csv FILE        every line of the netlist: net,line,kind,cc0,cc1,sc0,sc1,co,so,hardest,gain,aliases
+    --csv FILE        every line of the netlist:
+                      net,line,kind,cc0,cc1,sc0,sc1,co,so,hardest,gain,aliases,protected,upstream
     --fail-above N    exit status 3 where a net that is read has CO or hardest fault above N, over or never
+    --protect FILE    mark these nets, what carries their values, and how far upstream of them the others are; with
+                      --protect-depth N and --inputs-too as 'advise' has them
 Gain is how much the CO figures of all nets fall together if this net gets a pad; +2 says that two nets besides are
-freed of never or over. Constants, parts of split gates and nets that nothing reads are not ranked.
+freed of never or over; a dash stands where no pad can be. Constants, parts of split gates and nets that nothing reads
+are not ranked. With ranges every number is the one at LOW.
 ";
 
 pub const WHY: &str = "\
@@ -67,31 +72,38 @@ pub const PAD: &str = "\
 scoap_pads pad SOURCE NET.. [--protect FILE]
 
 Numbers before and after, if these nets get pads together: which nets become easier to see, and by how much. With
---protect it says which of them are protected. A pad is an output: it changes CO and SO alone.
+--protect it says which of them are protected, which pads carry a protected value, and how far upstream the others are.
+A pad is an output: it changes CO and SO alone.
 ";
 
 pub const ADVISE: &str = "\
-scoap_pads advise SOURCE [--pads N] [--forbid FILE] [--protect FILE] [--csv FILE]
+scoap_pads advise SOURCE [--pads N] [--forbid FILE] [--protect FILE] [--protect-depth N] [--inputs-too] [--csv FILE]
 
 Pads one after another (N, 1 if not said), each the one that leaves the fewest nets never seen, then over, then the
 smallest largest CO, then the smallest sum of CO; the lowest line among equals.
     --forbid FILE     these nets get no pad
-    --protect FILE    no pad may make one of these nets easier to see (CO or SO)
+    --protect FILE    no pad may make one of these nets easier to see (CO or SO), or carry its value: the data of its
+                      register, and what buffers and inverters only hand on
+    --protect-depth N how far upstream of a protected net no pad may be: 0 that net alone, 1 what carries its value (if
+                      not said), 2 and more so many less one real gates or registers further
+    --inputs-too      inputs may get a pad; else nets that a gate drives and something reads, and registers
     --csv FILE        every candidate for the first pad: net, instance, gain, largest CO after, nets that become
-                      easier to see, protected ones among them
-A FILE of nets has one net or pattern a line; # starts a comment. The last line printed is the answer of the proved
-adviser, scoap_advise, among the lines that privacy leaves: one pad, by the largest CO of all lines alone.
+                      easier to see, protected ones that it touches, whether it is allowed, how far upstream it is
+A FILE of nets has one net or pattern a line; # starts a comment. With ranges a pad touches a protected net where the
+net's CO at HIGH without it is above that at LOW with this pad alone. Below each pad stands the answer of the proved
+adviser, scoap_advise, beside the pads before it and among the lines that are left: by the largest CO alone.
 ";
 
 pub const PAGE: &str = "\
-scoap_pads page SOURCE -o FILE.html [--pad NET].. [--forbid FILE] [--protect FILE]
+scoap_pads page SOURCE -o FILE.html [--pad NET].. [--forbid FILE] [--protect FILE] [--protect-depth N] [--inputs-too]
 
 Writes one self-contained page: the six profiles, the table of nets, and of each net the reasons for its numbers as a
 tree and what a pad on it would change. It needs no network. What is shown stands in the address behind #, so that a
 view can be sent.
     --pad NET         this net has a pad already; may stand several times
     --forbid FILE     nets that get no pad, marked
-    --protect FILE    nets that no pad may make easier to see, marked
+    --protect FILE    nets that no pad may make easier to see, marked; --protect-depth N and --inputs-too as 'advise' has
+                      them
 ";
 
 pub const RECIPES: &str = "\

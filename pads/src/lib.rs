@@ -28,6 +28,7 @@ pub mod registers;
 pub mod rows;
 pub mod text;
 pub mod types;
+pub mod upstream;
 pub mod verilog;
 pub mod why;
 pub mod writer;

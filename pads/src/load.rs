@@ -156,11 +156,12 @@ pub fn summary(path: &str, model: &Model) -> String {
     }
     let outputs = model.lines().filter(|&line| model.is_output[line]).count();
     format!(
-        "{path}: {}, {} ({}), {}, {}",
+        "{path}: {}, {} ({}), {}, {}{}",
         model.title,
         many(model.names.len(), "line"),
         kinds.join(", "),
         many(outputs, "output"),
-        many(model.cells.len(), "cell")
+        many(model.cells.len(), "cell"),
+        if model.ranges { "; numbers at LOW of the ranges" } else { "" }
     )
 }

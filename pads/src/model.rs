@@ -100,6 +100,12 @@ pub struct Model {
     /// The analysis that pads are asked of and placed on, and its numbers.
     standing: Standing,
     pub numbers: Numbers,
+    /// The lines that pads were placed on, in that order.
+    pub placed: Vec<usize>,
+    /// Inputs have a range of prices: the numbers are those at LOW.
+    pub ranges: bool,
+    /// Inputs may get a pad, too.
+    pub inputs_too: bool,
     /// A block of a larger netlist.
     pub block: bool,
 }
@@ -122,6 +128,9 @@ impl Model {
             place: vec![usize::MAX; MOST_LINES + 1],
             numbers: standing.numbers(),
             standing,
+            placed: Vec::new(),
+            ranges: false,
+            inputs_too: false,
             block: false,
         };
         model.read_netlist();
@@ -158,7 +167,7 @@ impl Model {
                     self.driver[line_at(2)] = Some(Driver::Gate(at));
                     self.gates.push(Gate { cell: cell.expect("a known cell"), line: line_at(2), pins });
                 }
-                // A range changes no structure.
+                "range" => self.ranges = true,
                 _ => {}
             }
         }
@@ -266,12 +275,56 @@ impl Model {
         archive::commit(&self.lib, &self.net, &mut self.standing, line, count)?;
         self.numbers = self.standing.numbers();
         self.is_output[line] = true;
+        self.placed.push(line);
         Ok(())
     }
 
-    /// The one pad that the archive's adviser names (K13), with the largest CO that it leaves. It knows of no pad placed.
+    /// The netlist with further lines marked output.
+    fn marked(&self, lines: impl IntoIterator<Item = usize>) -> Vec<u8> {
+        let mut net = self.net.clone();
+        for line in lines {
+            net.extend_from_slice(format!("output,{line}\n").as_bytes());
+        }
+        net
+    }
+
+    /// The netlist with these lines as its only outputs.
+    fn marked_alone(&self, lines: &[usize]) -> Vec<u8> {
+        let text = String::from_utf8_lossy(&self.net);
+        let mut net = String::with_capacity(self.net.len());
+        for statement in text.lines().filter(|statement| !statement.starts_with("output,")) {
+            net += statement;
+            net.push('\n');
+        }
+        for line in lines {
+            net += &format!("output,{line}\n");
+        }
+        net.into_bytes()
+    }
+
+    /// The numbers at the upper ends of all ranges, with the pads placed so far.
+    pub fn high(&self) -> Result<Numbers, Refusal> {
+        archive::report_high(&self.lib, &self.marked(self.placed.iter().copied()))
+    }
+
+    /// The numbers with pads on these lines as the only outputs.
+    pub fn alone(&self, lines: &[usize]) -> Result<Numbers, Refusal> {
+        archive::report(&self.lib, &self.marked_alone(lines))
+    }
+
+    /// The one pad that the archive's adviser names (K13) beside those placed so far, with the largest CO that it leaves.
+    /// A constant, or an input that nothing reads, is marked output, so that its own CO does not count; nothing stands
+    /// before it whose CO would change.
     pub fn advised(&self, forbidden: &[u32]) -> Result<Option<(usize, Cost)>, Refusal> {
-        archive::advise(&self.lib, &self.net, forbidden)
+        let unseen = self.lines().filter(|&line| {
+            let bare = match self.driver[line] {
+                Some(Driver::Gate(gate)) => self.gates[gate].pins.is_empty(),
+                Some(Driver::Input) => !self.is_read(line),
+                _ => false,
+            };
+            bare && !self.is_output[line]
+        });
+        archive::advise(&self.lib, &self.marked(self.placed.iter().copied().chain(unseen)), forbidden)
     }
 
     /// The count of pads placed so far.
@@ -284,6 +337,12 @@ impl LibCell {
     fn is_register(&self) -> bool {
         let depth = |at: usize| self.control[at].iter().flatten().map(|row| row.depth).max().unwrap_or(0);
         depth(1) > depth(0)
+    }
+
+    /// Whether rows ask for both values of a pin: the clock of a register, whose edge must come.
+    pub fn clocks(&self, pin: usize) -> bool {
+        let mut rows = self.control[0].iter().flatten();
+        rows.any(|row| row.pins.contains(&(pin, false)) && row.pins.contains(&(pin, true)))
     }
 }
 

@@ -33,6 +33,9 @@ impl LineKind {
     }
 }
 
+/// The clock of registers whose format has none: an input that the chip does not have.
+pub const OWN_CLOCK: &str = "(clock)";
+
 /// One line of names.csv.
 #[derive(Clone, Debug, PartialEq, Eq)]
 pub struct Name {

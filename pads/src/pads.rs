@@ -3,7 +3,9 @@
 
 use crate::archive::{words, Numbers, Refusal, Six};
 use crate::cost::Cost;
-use crate::model::Model;
+use crate::model::{Driver, Model};
+use crate::names::{LineKind, OWN_CLOCK};
+use crate::upstream::{self, Upstream};
 use std::collections::HashMap;
 use std::time::{Duration, Instant};
 
@@ -44,6 +46,8 @@ pub struct Effect {
     pub gain: u64,
     /// Ranked lines that become easier to see, with their CO after.
     pub easier: Vec<(usize, Cost)>,
+    /// Protected lines that may become easier to see, whatever the prices within their ranges.
+    pub touched: Vec<usize>,
 }
 
 impl Effect {
@@ -66,8 +70,9 @@ pub fn is_easier(was: &Six, is: &Six) -> bool {
     is[4] < was[4] || is[5] < was[5]
 }
 
-/// The effect of a pad on a line: what it leaves, by the count of pads when it was asked for.
-fn effect(model: &Model, line: usize, (count, after): (u64, Numbers)) -> Effect {
+/// The effect of a pad on a line: what it leaves, by the count of pads when it was asked for, and the protected lines that
+/// it touches.
+fn effect(model: &Model, line: usize, (count, after): (u64, Numbers), touched: Vec<usize>) -> Effect {
     let mut freed = 0;
     let mut gain = 0;
     let mut easier = Vec::new();
@@ -80,12 +85,30 @@ fn effect(model: &Model, line: usize, (count, after): (u64, Numbers)) -> Effect 
             easier.push((other, is[4]));
         }
     }
-    Effect { line, count, after: measure(model, &after), freed, gain, easier }
+    Effect { line, count, after: measure(model, &after), freed, gain, easier, touched }
 }
 
-/// The lines that may get a pad at all: those that are no output and have none yet.
+/// Whether a line may get a pad: it is no output and has none yet, a gate or a register drives it, and something reads it,
+/// if it is no register. An input is one where that is asked for, but never the clock that the importer put in.
+pub fn is_candidate(model: &Model, line: usize) -> bool {
+    let name = model.name(line);
+    let read = !model.readers[line].is_empty();
+    let driven = match model.driver[line] {
+        Some(Driver::Gate(gate)) => !model.gates[gate].pins.is_empty(),
+        _ => false,
+    };
+    let wanted = match name.kind {
+        LineKind::Gate => driven && read,
+        LineKind::Register => driven,
+        LineKind::Input => model.inputs_too && read && name.net != OWN_CLOCK,
+        LineKind::Constant | LineKind::Open | LineKind::Part => false,
+    };
+    wanted && !model.is_output[line]
+}
+
+/// The lines that may get a pad.
 pub fn candidates(model: &Model) -> Vec<usize> {
-    model.lines().filter(|&line| !model.is_output[line]).collect()
+    model.lines().filter(|&line| is_candidate(model, line)).collect()
 }
 
 /// Tells the progress of what takes longer than a second.
@@ -114,21 +137,55 @@ fn refused(refusal: Refusal) -> String {
     format!("a pad is refused: {} (refusal {})", words(refusal.number), refusal.number)
 }
 
+/// The protected lines that pads on these lines touch together: their SO falls, or their CO. With ranges a CO counts as
+/// touched where at HIGH, without the pads, it is above that at LOW with the pads as the only outputs: comparing at one
+/// end, or at both, is not enough, since two ways may be priced apart.
+pub struct Touching<'p> {
+    privacy: &'p Privacy,
+    /// The numbers at HIGH without the pads, where the netlist has ranges.
+    high: Option<Numbers>,
+}
+
+impl<'p> Touching<'p> {
+    pub fn new(model: &Model, privacy: &'p Privacy) -> Result<Self, String> {
+        let wanted = model.ranges && !privacy.protected.is_empty();
+        Ok(Touching { privacy, high: wanted.then(|| model.high()).transpose().map_err(refused)? })
+    }
+
+    pub fn by(&self, model: &Model, pads: &[usize], after: &Numbers) -> Result<Vec<usize>, String> {
+        let alone = self.high.as_ref().map(|_| model.alone(pads)).transpose().map_err(refused)?;
+        let ends = self.high.as_ref().zip(alone.as_ref());
+        let is_touched = |line: &usize| {
+            let (was, is) = (model.numbers.of(*line), after.of(*line));
+            is_easier(was, is) || ends.is_some_and(|(high, alone)| alone.of(*line)[4] < high.of(*line)[4])
+        };
+        Ok(self.privacy.protected.iter().copied().filter(is_touched).collect())
+    }
+}
+
 /// The effect of a pad on each of these lines alone, beside those that are placed already.
-pub fn effects(model: &Model, lines: &[usize]) -> Result<Vec<Effect>, String> {
+pub fn effects(model: &Model, lines: &[usize], privacy: &Privacy) -> Result<Vec<Effect>, String> {
     let mut progress = Progress::new("pads tried");
+    let touching = Touching::new(model, privacy)?;
     let mut effects = Vec::with_capacity(lines.len());
     for (at, &line) in lines.iter().enumerate() {
-        effects.push(effect(model, line, model.ask(line).map_err(refused)?));
+        let (count, after) = model.ask(line).map_err(refused)?;
+        let touched = touching.by(model, &[line], &after)?;
+        effects.push(effect(model, line, (count, after), touched));
         progress.tell(at + 1, lines.len());
     }
     Ok(effects)
 }
 
-/// The effect of a pad on each ranked line that is no output, by line.
+/// The effect of a pad on each line that may get one, by line.
 pub fn by_line(model: &Model) -> Result<HashMap<usize, Effect>, String> {
-    let lines: Vec<usize> = candidates(model).into_iter().filter(|&line| model.is_ranked(line)).collect();
-    Ok(effects(model, &lines)?.into_iter().map(|effect| (effect.line, effect)).collect())
+    by_line_under(model, &Privacy::default())
+}
+
+/// The same, with the protected lines that each pad touches.
+pub fn by_line_under(model: &Model, privacy: &Privacy) -> Result<HashMap<usize, Effect>, String> {
+    let effects = effects(model, &candidates(model), privacy)?;
+    Ok(effects.into_iter().map(|effect| (effect.line, effect)).collect())
 }
 
 /// The model with pads on these lines.
@@ -142,66 +199,108 @@ pub fn placed(model: &Model, lines: &[usize]) -> Result<Model, String> {
     Ok(model)
 }
 
-/// Nets that get no pad, and nets that no pad may make easier to see; by line.
+/// Nets that get no pad, and nets that no pad may make easier to see, nor carry; by line.
 #[derive(Clone, Default)]
 pub struct Privacy {
     pub forbidden: Vec<usize>,
     pub protected: Vec<usize>,
+    /// How far upstream of a protected net lines are ruled out: 0 that net alone, 1 what carries its value too, and above
+    /// that so many real gates and registers further.
+    depth: usize,
+    upstream: Upstream,
 }
 
+/// What `--protect-depth` is, where it is not said.
+pub const USUAL_DEPTH: usize = 1;
+
 impl Privacy {
-    /// Lines of the protected nets that an effect makes easier to see.
-    pub fn touched(&self, effect: &Effect) -> Vec<usize> {
-        effect.easier.iter().map(|&(line, _)| line).filter(|line| self.protected.contains(line)).collect()
+    pub fn new(model: &Model, forbidden: Vec<usize>, protected: Vec<usize>, depth: usize) -> Privacy {
+        let upstream = Upstream::new(model, &protected);
+        Privacy { forbidden, protected, depth, upstream }
+    }
+
+    /// Whether a line carries a protected value.
+    pub fn carries(&self, line: usize) -> bool {
+        self.upstream.carries(line)
+    }
+
+    /// The nearest protected line that a line is upstream of, and the registers and gates on the way.
+    pub fn upstream(&self, line: usize) -> Option<(usize, usize, usize)> {
+        self.upstream.nearest(line)
+    }
+
+    /// Whether a line gets no pad, whatever the pad would change.
+    pub fn ruled_out(&self, line: usize) -> bool {
+        let near = || self.depth > 0 && self.upstream.within(line, self.depth - 1);
+        self.forbidden.contains(&line) || self.protected.contains(&line) || near()
     }
 
     pub fn allows(&self, effect: &Effect) -> bool {
-        !self.forbidden.contains(&effect.line)
-            && !self.protected.contains(&effect.line)
-            && self.touched(effect).is_empty()
+        !self.ruled_out(effect.line) && effect.touched.is_empty()
+    }
+
+    /// What a person must know of a pad on a line: whether it carries a protected value, and how far upstream it is.
+    pub fn told(&self, model: &Model, line: usize) -> Vec<String> {
+        let mut told: Vec<String> = self.upstream.carries_told(model, line).into_iter().collect();
+        told.extend(self.upstream_told(model, line).map(|words| {
+            match upstream::reached(model, line, &self.protected) {
+                0 | 1 => words,
+                all => format!("{words}; and of {} more", all - 1),
+            }
+        }));
+        told
+    }
+
+    /// `upstream of secret: 1 register, 3 gates`.
+    pub fn upstream_told(&self, model: &Model, line: usize) -> Option<String> {
+        self.upstream.told(model, line)
     }
 }
 
-/// One pad of the advice.
-pub struct Advice {
-    pub effect: Effect,
+/// One round of the advice: what the program and the archive's adviser choose, beside the pads of the rounds before.
+pub struct Round {
+    /// None where no pad helps further.
+    pub pad: Option<Effect>,
+    /// The proved adviser's pad among the same lines, and the largest CO that it leaves; constants, and inputs that
+    /// nothing reads, not counted.
+    pub proved: Result<Option<(usize, Cost)>, Refusal>,
     /// Candidates that privacy leaves, and all of them.
     pub allowed: usize,
     pub candidates: usize,
 }
 
 /// The pad that leaves the least measure among those allowed; the lowest line among equals. None where no pad helps.
-pub fn best<'e>(model: &Model, before: Measure, effects: &'e [Effect], privacy: &Privacy) -> Option<&'e Effect> {
-    let allowed = effects.iter().filter(|effect| model.is_ranked(effect.line) && privacy.allows(effect));
+pub fn best<'e>(before: Measure, effects: &'e [Effect], privacy: &Privacy) -> Option<&'e Effect> {
+    let allowed = effects.iter().filter(|effect| privacy.allows(effect));
     allowed.min_by_key(|effect| (effect.after, effect.line)).filter(|effect| effect.after < before)
 }
 
-/// Pads one after another. Also answers all effects of the first round.
-pub fn advise(model: &Model, count: usize, privacy: &Privacy) -> Result<(Vec<Advice>, Vec<Effect>), String> {
+/// Pads one after another, up to a round that has none. Also answers all effects of the first round.
+pub fn advise(model: &Model, count: usize, privacy: &Privacy) -> Result<(Vec<Round>, Vec<Effect>), String> {
     let mut model = model.clone();
-    let mut advice: Vec<Advice> = Vec::new();
+    let mut rounds: Vec<Round> = Vec::new();
     let mut first = Vec::new();
-    while advice.len() < count {
-        let effects = effects(&model, &candidates(&model))?;
-        let ranked = effects.iter().filter(|effect| model.is_ranked(effect.line));
-        let (candidates, allowed) = (ranked.clone().count(), ranked.filter(|effect| privacy.allows(effect)).count());
-        let chosen = best(&model, measure(&model, &model.numbers), &effects, privacy).cloned();
+    while rounds.len() < count {
+        let effects = effects(&model, &candidates(&model), privacy)?;
+        let allowed: Vec<usize> =
+            effects.iter().filter(|effect| privacy.allows(effect)).map(|effect| effect.line).collect();
+        let pad = best(measure(&model, &model.numbers), &effects, privacy).cloned();
+        let proved = proved(&model, &allowed);
+        rounds.push(Round { pad: pad.clone(), proved, allowed: allowed.len(), candidates: effects.len() });
         if first.is_empty() {
             first = effects;
         }
-        let Some(effect) = chosen else { break };
+        let Some(effect) = pad else { break };
         model.commit(effect.line, effect.count).map_err(refused)?;
-        advice.push(Advice { effect, allowed, candidates });
     }
-    Ok((advice, first))
+    Ok((rounds, first))
 }
 
-/// The proved adviser's one pad, and the largest CO over all lines that it leaves. Forbidden to it is every line that
-/// privacy rules out, by the effects of all candidates.
-pub fn proved(model: &Model, effects: &[Effect], privacy: &Privacy) -> Result<Option<(usize, Cost)>, String> {
-    let ruled_out = effects.iter().filter(|effect| !privacy.allows(effect));
-    let forbidden: Vec<u32> = ruled_out.map(|effect| effect.line as u32).collect();
-    model.advised(&forbidden).map_err(refused)
+/// The proved adviser's one pad among these lines: every other line is forbidden to it.
+fn proved(model: &Model, allowed: &[usize]) -> Result<Option<(usize, Cost)>, Refusal> {
+    let others = model.lines().filter(|line| allowed.binary_search(line).is_err());
+    let forbidden: Vec<u32> = others.map(|line| line as u32).collect();
+    model.advised(&forbidden)
 }
 
 #[cfg(test)]
@@ -217,36 +316,39 @@ mod tests {
 
     #[test]
     fn effects_and_advice() {
-        let model = chain();
+        let mut model = chain();
         let before = measure(&model, &model.numbers);
         assert_eq!(before.largest, 6);
+        assert_eq!(candidates(&model), [5, 6]);
+        model.inputs_too = true;
         let lines = candidates(&model);
         assert_eq!(lines, [1, 2, 3, 4, 5, 6]);
-        let effects = effects(&model, &lines).unwrap();
+        let effects = effects(&model, &lines, &Privacy::default()).unwrap();
         let pad5 = &effects[4];
         assert_eq!(pad5.easier, [(1, Cost::Figure(2)), (2, Cost::Figure(2)), (5, Cost::Figure(0))]);
         assert_eq!(pad5.after.sum + pad5.gain, before.sum);
-        let (advice, _) = advise(&model, 2, &Privacy::default()).unwrap();
+        let (rounds, _) = advise(&model, 2, &Privacy::default()).unwrap();
         // By trying all.
         let brute = effects.iter().min_by_key(|effect| (effect.after, effect.line)).unwrap();
-        assert_eq!(advice[0].effect, *brute);
-        assert_eq!(advice.len(), 2);
+        assert_eq!(rounds[0].pad.as_ref(), Some(brute));
+        assert_eq!(rounds.len(), 2);
     }
 
     #[test]
     fn protected_nets_stay_as_hard_to_see() {
-        let model = chain();
-        let privacy = Privacy { forbidden: vec![6], protected: vec![1] };
-        let (advice, effects) = advise(&model, 9, &privacy).unwrap();
+        let mut model = chain();
+        model.inputs_too = true;
+        let privacy = Privacy::new(&model, vec![6], vec![1], USUAL_DEPTH);
+        let (rounds, effects) = advise(&model, 9, &privacy).unwrap();
         let mut pads = Vec::new();
-        for pad in &advice {
-            pads.push(pad.effect.line);
+        for pad in rounds.iter().filter_map(|round| round.pad.as_ref()) {
+            pads.push(pad.line);
             let after = placed(&model, &pads).unwrap();
             assert_eq!(after.numbers.of(1), model.numbers.of(1));
         }
         assert!(!pads.is_empty() && !pads.contains(&6) && !pads.contains(&5));
         // A pad on 5 would show 1.
-        assert_eq!(privacy.touched(&effects[4]), [1]);
+        assert_eq!(effects[4].touched, [1]);
     }
 
     #[test]
@@ -254,6 +356,22 @@ mod tests {
         let lib = archive::cell("NOT", 1, "10").unwrap();
         let net = b"input,1\ngate,NOT,2,1\noutput,2\noutput,1\n".to_vec();
         let model = Model::new("t", lib.into_bytes(), net, Vec::new()).unwrap();
-        assert!(advise(&model, 3, &Privacy::default()).unwrap().0.is_empty());
+        let (rounds, _) = advise(&model, 3, &Privacy::default()).unwrap();
+        assert!(rounds.len() == 1 && rounds[0].pad.is_none() && rounds[0].proved == Ok(None));
+    }
+
+    /// A way to a protected line that is dear at LOW and cheap at HIGH: a pad on it counts, though no number at LOW falls.
+    #[test]
+    fn with_ranges_both_ends_count() {
+        let lib = archive::cell("AND2", 2, "0001").unwrap();
+        let net = b"input,1\ninput,2\ninput,3\nrange,2,1,999\ngate,AND2,4,1,2\ngate,AND2,5,1,3\noutput,4\n".to_vec();
+        let mut model = Model::new("t", lib.into_bytes(), net, Vec::new()).unwrap();
+        model.inputs_too = true;
+        let privacy = Privacy::new(&model, vec![], vec![1], USUAL_DEPTH);
+        let effects = effects(&model, &[3, 5], &privacy).unwrap();
+        assert!(!effects[1].easier.iter().any(|&(line, _)| line == 1));
+        assert_eq!(effects[1].touched, [1]);
+        assert_eq!(effects[0].touched, []);
+        assert!(!privacy.allows(&effects[1]));
     }
 }

@@ -2,8 +2,10 @@
 
 use crate::common::{model, reported, Random, ALL};
 use scoap_pads::archive::Refusal;
+use scoap_pads::cost::Cost;
 use scoap_pads::model::Model;
-use scoap_pads::pads::{self, Privacy};
+use scoap_pads::names::LineKind;
+use scoap_pads::pads::{self, Privacy, USUAL_DEPTH};
 use scoap_pads::{names, why};
 
 #[test]
@@ -15,13 +17,18 @@ fn every_reason_of_every_line_adds_up() {
     }
 }
 
+/// Every line that a pad may be asked for, candidate or not.
+fn unmarked(model: &Model) -> Vec<usize> {
+    model.lines().filter(|&line| !model.is_output[line]).collect()
+}
+
 /// What is asked for is what a new report says, on every line of every example.
 #[test]
 fn asks_are_new_reports() {
     let mut asks = 0;
     for name in ALL {
         let model = model(name);
-        for line in pads::candidates(&model) {
+        for line in unmarked(&model) {
             let (count, asked) = model.ask(line).unwrap();
             assert_eq!((count, &asked), (0, &reported(&model, &[line])), "{name}, line {line}");
             assert_ne!(asked, model.numbers, "{name}, line {line}");
@@ -39,7 +46,7 @@ fn commits_are_new_reports() {
         let mut model = model(name);
         let mut pads = Vec::new();
         for count in 0..5 {
-            let lines = pads::candidates(&model);
+            let lines = unmarked(&model);
             if lines.is_empty() {
                 break;
             }
@@ -59,7 +66,7 @@ fn commits_are_new_reports() {
                 assert!(was[..4] == is[..4] && is[4] <= was[4] && is[5] <= was[5], "{name}: {pads:?}");
             }
             // The ticket is used up.
-            if let Some(&next) = pads::candidates(&model).first() {
+            if let Some(&next) = unmarked(&model).first() {
                 assert_eq!(model.commit(next, ticket), Err(Refusal { number: 24, line: 0 }), "{name}");
             }
         }
@@ -72,8 +79,8 @@ fn commits_are_new_reports() {
 fn effects_are_drawn_from_new_reports() {
     for name in ["shift_register/c1.blif", "recorder/i2c_id.json", "c17"] {
         let model = model(name);
-        let lines = pads::candidates(&model);
-        for effect in pads::effects(&model, &lines).unwrap() {
+        let lines = unmarked(&model);
+        for effect in pads::effects(&model, &lines, &Privacy::default()).unwrap() {
             let mut net = model.net.clone();
             net.extend_from_slice(format!("output,{}\n", effect.line).as_bytes());
             let second::Answer::Accepted { report, .. } = second::analyse(&model.lib, &net, 65_536) else {
@@ -104,100 +111,111 @@ fn effects_are_drawn_from_new_reports() {
     }
 }
 
+/// Whether a line may get a pad, by what the netlist says of it.
+fn may_have(model: &Model, placed: &[usize], line: usize) -> bool {
+    let text = String::from_utf8_lossy(&model.net);
+    let statements: Vec<Vec<&str>> = text.lines().map(|statement| statement.split(',').collect()).collect();
+    let own = line.to_string();
+    let drives = |fields: &&Vec<&str>| fields[0] == "gate" && fields[2] == own && fields.len() > 3;
+    let reads = |fields: &Vec<&str>| fields[0] == "gate" && fields[3..].contains(&own.as_str());
+    let driven = statements.iter().find(drives).is_some() && model.name(line).kind != LineKind::Part;
+    let input = model.inputs_too && statements.contains(&vec!["input", &own]) && model.net_name(line) != "(clock)";
+    let read = statements.iter().any(reads);
+    let marked = statements.contains(&vec!["output", &own]) || placed.contains(&line);
+    !marked && (driven && (read || model.name(line).kind == LineKind::Register) || input && read)
+}
+
 /// The advice by trying every pad and comparing by hand.
 fn brute(model: &Model, placed: &[usize], privacy: &Privacy) -> Option<usize> {
-    let mut best: Option<((usize, usize, u32, u64), usize)> = None;
     let base = reported(model, placed);
-    for line in model.lines().filter(|&line| model.is_ranked(line)) {
-        if model.is_output[line] || placed.contains(&line) || privacy.forbidden.contains(&line) {
-            continue;
-        }
+    let before = pads::measure(model, &base);
+    let mut best: Option<((usize, usize, u32, u64), usize)> = None;
+    for line in model.lines().filter(|&line| may_have(model, placed, line) && !privacy.ruled_out(line)) {
         let mut pads = placed.to_vec();
         pads.push(line);
         let after = reported(model, &pads);
         let shown = |&line: &usize| after.of(line)[4] < base.of(line)[4] || after.of(line)[5] < base.of(line)[5];
-        if privacy.protected.contains(&line) || privacy.protected.iter().any(shown) {
+        if privacy.protected.iter().any(shown) {
             continue;
         }
         let m = pads::measure(model, &after);
         let key = ((m.never, m.over, m.largest, m.sum), line);
-        if best.is_none_or(|best| key < best) {
+        if m < before && best.is_none_or(|best| key < best) {
             best = Some(key);
         }
     }
     best.map(|(_, line)| line)
 }
 
+/// Examples with nets to protect, and how far.
+const PROTECTED: [(&str, &str, usize); 8] = [
+    ("shift_register/c1.blif", "STC*", 1),
+    ("shift_register/c3.blif", "DATB", 0),
+    ("recorder/breath.json", "quiet[*]", 1),
+    ("recorder/breath.json", "quiet[*]", 3),
+    ("recorder/i2c_id.json", "held[*]", 1),
+    ("recorder/i2c_id.json", "held[*]", 0),
+    ("c17", "11", 1),
+    ("latch", "*", 1),
+];
+
 #[test]
 fn advice_is_what_trying_all_gives() {
-    for (name, pattern) in [
-        ("shift_register/c1.blif", "STC*"),
-        ("shift_register/c3.blif", "DATB"),
-        ("recorder/breath.json", "quiet[*]"),
-        ("recorder/i2c_id.json", "held[*]"),
-    ] {
-        let model = model(name);
-        let protected = names::find(&model.names, pattern).unwrap();
-        for privacy in [Privacy::default(), Privacy { forbidden: vec![], protected }] {
-            let (advice, _) = pads::advise(&model, 2, &privacy).unwrap();
-            let mut placed = Vec::new();
-            for pad in &advice {
-                assert_eq!(Some(pad.effect.line), brute(&model, &placed, &privacy), "{name}");
-                placed.push(pad.effect.line);
-            }
-            // No protected net is easier to see than before, whatever was placed.
-            let after = reported(&model, &placed);
-            for &line in &privacy.protected {
-                assert_eq!(after.of(line)[4..], model.numbers.of(line)[4..], "{name}");
+    for (name, pattern, depth) in PROTECTED {
+        let mut model = model(name);
+        let nets = names::find(&model.names, pattern).unwrap();
+        for inputs_too in [false, true] {
+            model.inputs_too = inputs_too;
+            for privacy in [
+                Privacy::default(),
+                Privacy::new(&model, vec![], nets.clone(), depth),
+                Privacy::new(&model, nets.clone(), vec![], depth),
+            ] {
+                let (rounds, _) = pads::advise(&model, 2, &privacy).unwrap();
+                let mut placed = Vec::new();
+                for round in &rounds {
+                    let pad = round.pad.as_ref().map(|pad| pad.line);
+                    assert_eq!(pad, brute(&model, &placed, &privacy), "{name}");
+                    let proved = proved_brute(&model, &placed, &privacy);
+                    assert_eq!(round.proved, Ok(proved), "{name} beside {placed:?}");
+                    placed.extend(pad);
+                }
+                // No protected net is easier to see than before, whatever was placed.
+                let after = reported(&model, &placed);
+                for &line in &privacy.protected {
+                    assert_eq!(after.of(line)[4..], model.numbers.of(line)[4..], "{name}");
+                }
             }
         }
     }
 }
 
-/// The proved adviser's one pad, by trying all: every line counts, ranked or not.
-#[test]
-fn the_proved_adviser_is_what_trying_all_gives() {
-    for (name, pattern) in [
-        ("shift_register/c1.blif", "STC*"),
-        ("recorder/breath.json", "quiet[*]"),
-        ("recorder/uart_log.json", "data[*]"),
-        ("c17", "11"),
-        ("latch", "*"),
-        ("range", "*"),
-    ] {
-        let model = model(name);
-        let nets = names::find(&model.names, pattern).unwrap();
-        for privacy in [
-            Privacy::default(),
-            Privacy { forbidden: nets.clone(), protected: vec![] },
-            Privacy { forbidden: vec![], protected: nets },
-        ] {
-            let mut best = None;
-            for line in pads::candidates(&model) {
-                let after = reported(&model, &[line]);
-                let kept = |other: &usize| after.of(*other)[4..] == model.numbers.of(*other)[4..];
-                let private = privacy.forbidden.contains(&line) || !privacy.protected.iter().all(kept);
-                let largest = model.lines().map(|other| after.of(other)[4]).max().unwrap();
-                if !private && best.is_none_or(|(_, least)| largest < least) {
-                    best = Some((line, largest));
-                }
-            }
-            let (_, effects) = pads::advise(&model, 1, &privacy).unwrap();
-            assert_eq!(pads::proved(&model, &effects, &privacy).unwrap(), best, "{name}");
-            assert_eq!(
-                best.is_none(),
-                pattern == "*" && !(privacy.forbidden.is_empty() && privacy.protected.is_empty())
-            );
+/// The proved adviser's one pad, by trying all: every line counts, ranked or not, but constants and unread inputs.
+fn proved_brute(model: &Model, placed: &[usize], privacy: &Privacy) -> Option<(usize, Cost)> {
+    let base = reported(model, placed);
+    let mut best = None;
+    for line in model.lines().filter(|&line| may_have(model, placed, line) && !privacy.ruled_out(line)) {
+        let after = reported(model, &[placed, &[line]].concat());
+        let kept = |other: &usize| after.of(*other)[4..] == base.of(*other)[4..];
+        let counts = |other: &usize| match model.name(*other).kind {
+            LineKind::Constant => false,
+            LineKind::Input => model.is_read(*other),
+            _ => true,
+        };
+        let largest = model.lines().filter(counts).map(|other| after.of(other)[4]).max().unwrap();
+        if privacy.protected.iter().all(kept) && best.is_none_or(|(_, least)| largest < least) {
+            best = Some((line, largest));
         }
     }
+    best
 }
 
 /// 000's own choice of a pad.
 #[test]
 fn the_pad_of_source_000() {
     let model = model("shift_register/c1.blif");
-    let (advice, _) = pads::advise(&model, 1, &Privacy::default()).unwrap();
-    assert_eq!(model.net_name(advice[0].effect.line), "CNT109");
+    let (rounds, _) = pads::advise(&model, 1, &Privacy::default()).unwrap();
+    assert_eq!(model.net_name(rounds[0].pad.as_ref().unwrap().line), "CNT109");
 }
 
 /// Without privacy the best pad of this design shows protected nets.
@@ -208,10 +226,11 @@ fn protection_changes_the_advice() {
     for pattern in ["data[*]", "mem0[*]", "mem1[*]", "shift[*]"] {
         protected.extend(names::find(&model.names, pattern).unwrap());
     }
-    let open = pads::advise(&model, 1, &Privacy::default()).unwrap().0;
-    let privacy = Privacy { forbidden: vec![], protected };
-    assert!(!privacy.touched(&open[0].effect).is_empty());
-    let closed = pads::advise(&model, 1, &privacy).unwrap().0;
-    assert!(closed[0].allowed < closed[0].candidates);
-    assert_ne!(closed[0].effect.line, open[0].effect.line);
+    let open = &pads::advise(&model, 1, &Privacy::default()).unwrap().0[0];
+    let privacy = Privacy::new(&model, vec![], protected, USUAL_DEPTH);
+    let pad = open.pad.as_ref().unwrap().line;
+    assert!(!pads::effects(&model, &[pad], &privacy).unwrap()[0].touched.is_empty());
+    let closed = &pads::advise(&model, 1, &privacy).unwrap().0[0];
+    assert!(closed.allowed < closed.candidates);
+    assert_ne!(closed.pad.as_ref().unwrap().line, pad);
 }
