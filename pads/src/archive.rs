@@ -1,7 +1,7 @@
 //! The calls of the proved archive; include/scoap.h describes them. Every Goldstein number of this program comes
 //! from here.
 
-use crate::cost::Cost;
+use crate::cost::{grouped, Cost};
 
 mod c {
     extern "C" {
@@ -334,39 +334,49 @@ pub fn qualifies(lib: &[u8], net: &[u8]) -> Result<usize, Refusal> {
     accepted(unsafe { c::scoap_qualifies(lib.as_ptr(), lib.len(), net.as_ptr(), net.len()) })
 }
 
-/// What a refusal's number means, in README's words.
-pub fn words(number: u32) -> &'static str {
+/// What a refusal's number means, in README's words, which are of the published sizes; tests/refusals holds them.
+#[rustfmt::skip]
+fn words(number: u32) -> &'static str {
     match number {
-        2 => "the text has more than 65,535 bytes",
-        3 => {
-            "bad form of a library line: a wrong word, a missing or empty field, a bad number or name, an M or a Z \
-              out of place, no line end, or an entry broken off"
-        }
-        4 => "the cell's name was used before",
+        1 => "a lent table is shorter than its published size",
+        2 => "a text has more than 65,535 bytes",
+        3 => "bad form: a wrong word, a missing or empty field, a bad number or name, an M or a Z out of place, no byte 10 at the end, an entry broken off",
+        4 => "the name was used before",
         5 => "more than 8 pins",
         6 => "a wrong count of groups, or a group of more than 16 rows",
         7 => "a row has a bit above its columns",
-        8 => {
-            "a CC or SC row names no pin while the other group of its line has rows, or a CO or SO row does not \
-              observe the output"
-        }
-        9 => "a 33rd cell",
-        10 => "bad form of a netlist line",
+        8 => "a CC or SC row names no pin while the other group of its line has rows, or a CO or SO row does not observe the output",
+        9 => "a 33rd entry",
+        10 => "bad form",
         11 => "a line number is not 1 to 1,000",
         12 => "the library has no such cell",
         13 => "the count of pins differs from the cell's",
         14 => "the line is driven already, by an input or a gate, or declared open",
         15 => "the line is marked output already",
+        17 => "the report is longer than its buffer; of a netlist with ranges both reports together",
+        18 => "the number is over or never, or there is none",
+        19 => "the plan's text is longer than its buffer",
         20 => "a line is read by a pin or marked output, and neither driven nor declared open",
-        21 => "a range on a line that is not marked input above it",
-        22 => "bounds outside 1 to 999, LOW above HIGH, or a second range for the line",
-        23 => {
-            "the netlist does not mention the line, or it is an output already; or the standing table holds such a pad, \
-              or a count of pads above 1,000"
-        }
+        21 => "a range on a line that is not marked input above",
+        22 => "a bound of a range is not 1 to 999, LOW is above HIGH, or the line has a range already",
+        23 => "the netlist does not mention the line, or it is an output already; or the standing table holds such a pad, or a count of pads above 1,000",
         24 => "the ticket's count of pads is not the present one",
         _ => "the analyser refuses it",
     }
+}
+
+/// The same with the sizes of this analyser.
+pub fn refusal_told(number: u32) -> String {
+    sized(words(number), MOST_LINES, MOST_BYTES)
+}
+
+fn sized(words: &str, lines: usize, bytes: usize) -> String {
+    words.replace("1,000", &grouped(lines as u64)).replace("65,535", &grouped(bytes as u64))
+}
+
+/// `1,000 lines`, as many as this analyser takes.
+pub fn lines_told() -> String {
+    format!("{} lines", grouped(MOST_LINES as u64))
 }
 
 #[cfg(test)]
@@ -420,6 +430,17 @@ mod tests {
         assert_eq!(commit(&lib, net, &mut standing, 4, 1), refused(23));
         assert_eq!(standing, placed);
         assert_eq!(stand(&lib, b"?\n").unwrap_err(), Refusal { number: 10, line: 1 });
+    }
+
+    #[test]
+    fn words_have_the_sizes_of_the_analyser() {
+        assert_eq!(sized(words(11), 4_000, 262_143), "a line number is not 1 to 4,000");
+        assert_eq!(sized(words(2), 4_000, 262_143), "a text has more than 262,143 bytes");
+        assert!(sized(words(23), 32_767, 2_196_479).ends_with("a count of pads above 32,767"));
+        for number in 0..30 {
+            let told = refusal_told(number);
+            assert!(MOST_LINES == 1_000 || !told.contains("1,000") && !told.contains("65,535"), "{told}");
+        }
     }
 
     #[test]

@@ -3,6 +3,7 @@
 use crate::archive::MOST_PINS;
 use crate::blif::put_clock;
 use crate::cells::{self, Cell, Kind};
+use crate::cost::grouped;
 use crate::hub::{too_many, Design, Gate, Lines, Source, MOST_NETS};
 use crate::messages::Messages;
 use crate::rows::Table;
@@ -106,7 +107,7 @@ impl Reader<'_, '_> {
             return self.error(number, "a gate reads NET = WORD(NET, NET, ..)");
         };
         if arguments.len() > MOST_NETS {
-            return self.error(number, "a gate of more than 40,000 pins");
+            return self.error(number, format!("a gate of more than {} pins", grouped(MOST_NETS as u64)));
         }
         if let Some(bad) = arguments.iter().find(|name| !is_name(name)) {
             return self.error(number, format!("'{bad}' is no name of a net"));

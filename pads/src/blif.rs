@@ -2,6 +2,7 @@
 
 use crate::archive::MOST_PINS;
 use crate::cells::{self, Cell, Kind, Op};
+use crate::cost::grouped;
 use crate::hub::{too_many, Design, Gate, Lines, Source, MOST_NETS};
 use crate::messages::Messages;
 use crate::names::OWN_CLOCK;
@@ -126,7 +127,7 @@ impl Reader<'_, '_> {
         let words: Vec<&str> = line.split_whitespace().take(MOST_NETS + 1).collect();
         let Some(&first) = words.first() else { return };
         if words.len() > MOST_NETS {
-            return self.error(number, "a statement of more than 40,000 words");
+            return self.error(number, format!("a statement of more than {} words", grouped(MOST_NETS as u64)));
         }
         if !first.starts_with('.') {
             if self.ended {

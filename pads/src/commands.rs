@@ -1,10 +1,10 @@
 //! The commands: each answers what it prints and its exit status.
 
-use crate::archive::{words, Numbers, MOST_BYTES, MOST_CELLS, MOST_LINES, MOST_PINS, MOST_ROWS};
+use crate::archive::{refusal_told, Numbers, MOST_BYTES, MOST_CELLS, MOST_LINES, MOST_PINS, MOST_ROWS};
 use crate::args::{Args, Takes};
 use crate::cost::{grouped, Cost};
 use crate::load::{self, Loaded};
-use crate::messages::{printable, Messages};
+use crate::messages::Messages;
 use crate::model::{Model, Number};
 use crate::names::{self, cut, LineKind};
 use crate::pads::{self, Effect, Measure, Privacy, Round, Touching};
@@ -19,11 +19,18 @@ use std::path::Path;
 pub struct Done {
     pub text: String,
     pub status: u8,
+    /// A file of the command line is standard output, and has it for itself.
+    pub aside: bool,
 }
 
 impl Done {
     fn well(text: String) -> Result<Done, Stop> {
-        Ok(Done { text, status: 0 })
+        Ok(Done { text, status: 0, aside: false })
+    }
+
+    /// What is said of a file that was written.
+    fn beside(file: Option<&str>, text: String) -> Result<Done, Stop> {
+        Ok(Done { text, status: 0, aside: file.is_some_and(text::is_standard_output) })
     }
 }
 
@@ -70,6 +77,9 @@ pub fn run(given: &[String], messages: &mut Messages) -> Result<Done, Stop> {
 
 fn import(args: &Args, messages: &mut Messages) -> Result<Done, Stop> {
     let folder = args.value("-o").ok_or_else(|| Stop::Usage("-o DIR is missing".to_string()))?;
+    if text::is_standard_output(folder) {
+        return Err(Stop::Usage(format!("-o {folder}: a folder is wanted, for three files")));
+    }
     let Loaded { model, texts } = load::load(&args.source, messages)?;
     let folder = Path::new(folder);
     std::fs::create_dir_all(folder).map_err(|e| Stop::Usage(format!("{}: can't be made: {e}", folder.display())))?;
@@ -77,9 +87,10 @@ fn import(args: &Args, messages: &mut Messages) -> Result<Done, Stop> {
         Some(texts) => (texts.lib.as_bytes(), texts.net.as_bytes(), &texts.names),
         None => (&model.lib[..], &model.net[..], &model.names),
     };
-    text::write(&folder.join("lib.txt"), lib)?;
-    text::write(&folder.join("net.txt"), net)?;
-    text::write(&folder.join("names.csv"), names::write(names).as_bytes())?;
+    let file = |name: &str| folder.join(name).display().to_string();
+    text::write(&file("lib.txt"), lib)?;
+    text::write(&file("net.txt"), net)?;
+    text::write(&file("names.csv"), names::write(names).as_bytes())?;
     Done::well(format!(
         "{}\nwritten: lib.txt, net.txt and names.csv in {}\n",
         load::summary(&args.source.path, &model),
@@ -112,7 +123,7 @@ fn check(args: &Args, messages: &mut Messages) -> Result<Done, Stop> {
             format!("  {:<8} {}, {}  {types}", cell.name, load::many(cell.pins, "pin"), load::many(gates, "gate"));
         let _ = writeln!(text, "{}", line.trim_end());
     }
-    Done::well(printable(&text))
+    Done::well(text)
 }
 
 fn gain_told(effect: Option<&Effect>) -> String {
@@ -168,11 +179,14 @@ fn report(args: &Args, messages: &mut Messages) -> Result<Done, Stop> {
     let bound = args.value("--fail-above").map(|_| args.number("--fail-above", 0)).transpose()?;
     let model = model_of(args, messages)?;
     let privacy = privacy_of(args, &model, messages)?;
+    if bound.is_some() {
+        judgeable(&args.source.path, &model, messages)?;
+    }
     messages.print();
     let effects = pads::by_line_under(&model, &privacy).map_err(Stop::Usage)?;
     let ranked = ranking::ranked(&model, key, &effects);
     if let Some(file) = args.value("--csv") {
-        text::write(Path::new(file), csv_of(&model, &ranked, &effects, &privacy).as_bytes())?;
+        text::write(file, csv_of(&model, &ranked, &effects, &privacy).as_bytes())?;
     }
     let mut text = load::summary(&args.source.path, &model) + "\n";
     text += &never::text(&model);
@@ -211,7 +225,7 @@ fn report(args: &Args, messages: &mut Messages) -> Result<Done, Stop> {
             );
         }
     }
-    Ok(Done { text: printable(&text), status })
+    Ok(Done { status, ..Done::beside(args.value("--csv"), text)? })
 }
 
 fn row_of(model: &Model, line: usize, effect: Option<&Effect>) -> Vec<String> {
@@ -227,6 +241,18 @@ fn row_of(model: &Model, line: usize, effect: Option<&Effect>) -> Vec<String> {
         _ => String::new(),
     });
     row
+}
+
+/// A design of which no number can be above a bound is no design that passed: it is refused.
+fn judgeable(path: &str, model: &Model, messages: &mut Messages) -> Result<(), Stop> {
+    if model.gates.iter().all(|gate| gate.pins.is_empty()) {
+        messages.error(path, "no gates: --fail-above has nothing to judge");
+    } else if !model.lines().any(|line| model.is_ranked(line)) {
+        messages.error(path, "no net that anything reads: --fail-above has nothing to judge");
+    } else {
+        return Ok(());
+    }
+    Err(Stop::Refused)
 }
 
 /// Ranked lines with CO or hardest fault above a bound, over or never.
@@ -337,6 +363,15 @@ fn privacy_of(args: &Args, model: &Model, messages: &mut Messages) -> Result<Pri
     Ok(Privacy::new(model, forbidden, protected, depth))
 }
 
+/// Of which numbers those shown are, where a netlist has ranges; a summary says the same.
+fn low_told(model: &Model) -> &'static str {
+    if model.ranges {
+        "numbers at LOW of the ranges\n"
+    } else {
+        ""
+    }
+}
+
 /// One net of the command line.
 fn one_net(model: &Model, wanted: &str) -> Result<usize, Stop> {
     match names::find(&model.names, wanted).map_err(Stop::Usage)?.as_slice() {
@@ -370,8 +405,9 @@ fn reason(args: &Args, messages: &mut Messages) -> Result<Done, Stop> {
         six[5],
         number.word().to_ascii_uppercase()
     );
+    text += low_told(&model);
     text += &why::text(&model, line, number, steps).map_err(Stop::Usage)?;
-    Done::well(printable(&text))
+    Done::well(text)
 }
 
 /// The lines that a file of patterns means.
@@ -419,6 +455,7 @@ fn pad(args: &Args, messages: &mut Messages) -> Result<Done, Stop> {
         if told.is_empty() { "nothing".to_string() } else { told.join(", ") },
         change_told(measures[0], measures[1])
     );
+    text += low_told(&model);
     for &line in &lines {
         for told in privacy.told(&model, line) {
             let _ = writeln!(text, "{}: {told}", model.net_name(line));
@@ -446,7 +483,7 @@ fn pad(args: &Args, messages: &mut Messages) -> Result<Done, Stop> {
         text += &table(&rows, &[0, 1, 3, 5, 6]);
     }
     text += &touched_told(&model, &privacy, &lines, &changed, &after)?;
-    Done::well(printable(&text))
+    Done::well(text)
 }
 
 /// The protected nets that pads touch.
@@ -479,7 +516,7 @@ fn advise(args: &Args, messages: &mut Messages) -> Result<Done, Stop> {
     messages.print();
     let (rounds, effects) = pads::advise(&model, count, &privacy).map_err(Stop::Usage)?;
     if let Some(file) = args.value("--csv") {
-        text::write(Path::new(file), candidates_csv(&model, &effects, &privacy).as_bytes())?;
+        text::write(file, candidates_csv(&model, &effects, &privacy).as_bytes())?;
     }
     let mut text = load::summary(&args.source.path, &model) + "\n";
     let mut before = pads::measure(&model, &model.numbers);
@@ -496,11 +533,11 @@ fn advise(args: &Args, messages: &mut Messages) -> Result<Done, Stop> {
         text += &match round.proved {
             Ok(Some((line, largest))) => format!("{}, largest CO {largest}\n", model.net_name(line)),
             Ok(None) => "none, no line is allowed\n".to_string(),
-            Err(refusal) => format!("refuses, {} (refusal {})\n", words(refusal.number), refusal.number),
+            Err(refusal) => format!("refuses, {} (refusal {})\n", refusal_told(refusal.number), refusal.number),
         };
     }
     text += &trouble_told(&model);
-    Done::well(printable(&text))
+    Done::beside(args.value("--csv"), text)
 }
 
 fn pad_told(model: &Model, at: usize, before: Measure, pad: &Effect, round: &Round, privacy: &Privacy) -> String {
@@ -528,8 +565,9 @@ fn page_of(args: &Args, messages: &mut Messages) -> Result<Done, Stop> {
     let said = messages.text();
     messages.print();
     let page = page::page(&args.source.path, &model, &placed, &privacy, &said).map_err(Stop::Usage)?;
-    text::write(Path::new(file), page.as_bytes())?;
-    Done::well(format!("{}\nwritten: {file}, {} KB\n", load::summary(&args.source.path, &model), page.len() / 1000))
+    text::write(file, page.as_bytes())?;
+    let summary = load::summary(&args.source.path, &model);
+    Done::beside(Some(file), format!("{summary}\nwritten: {file}, {} KB\n", page.len() / 1000))
 }
 
 /// A pad does not help where setting is the trouble.

@@ -1,6 +1,6 @@
 //! The hub that every reader fills: inputs, outputs, gates of one output each, and names.
 
-use crate::archive::MOST_LINES;
+use crate::archive::{lines_told, MOST_LINES};
 use crate::cells::{Cell, Kind};
 use crate::cost::grouped;
 use crate::messages::Messages;
@@ -98,13 +98,18 @@ pub struct Design {
 }
 
 /// Gates and nets that a reader takes at all; far above what the analyser does.
-pub const MOST_GATES: usize = 20_000;
-pub const MOST_NETS: usize = 40_000;
+pub const MOST_GATES: usize = 20 * MOST_LINES;
+pub const MOST_NETS: usize = 40 * MOST_LINES;
 /// Bytes of all names together.
 pub const MOST_NAME_BYTES: usize = 16 << 20;
 pub fn too_many() -> String {
-    let lines = grouped(MOST_LINES as u64);
-    format!("more than 20,000 gates, 40,000 nets or 16 MB of names, the analyser takes {lines} lines")
+    format!(
+        "more than {} gates, {} nets or {} MB of names, the analyser takes {}",
+        grouped(MOST_GATES as u64),
+        grouped(MOST_NETS as u64),
+        MOST_NAME_BYTES >> 20,
+        lines_told()
+    )
 }
 
 /// The texts of a netlist's lines, for messages; none for JSON.

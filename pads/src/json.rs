@@ -1,5 +1,7 @@
 //! JSON, read into a tree with a bounded count of values.
 
+use crate::archive::{lines_told, MOST_LINES};
+use crate::cost::grouped;
 use std::borrow::Cow;
 
 #[derive(Clone, Debug, PartialEq)]
@@ -14,7 +16,8 @@ pub enum Value<'a> {
     Object(Vec<(Cow<'a, str>, Value<'a>)>),
 }
 
-const MOST_VALUES: usize = 500_000;
+/// Far above what a netlist of as many lines as the analyser takes has.
+const MOST_VALUES: usize = 500 * MOST_LINES;
 const MOST_DEPTH: usize = 64;
 
 /// The byte where it went wrong, and why.
@@ -107,7 +110,8 @@ impl<'a> Reader<'a> {
     fn value(&mut self, depth: usize) -> Result<Value<'a>, Wrong> {
         self.values += 1;
         if self.values > MOST_VALUES {
-            return Err(self.wrong("more than 500,000 values, which is far above what 1,000 lines take"));
+            let most = grouped(MOST_VALUES as u64);
+            return Err(self.wrong(&format!("more than {most} values, which is far above what {} take", lines_told())));
         }
         if depth > MOST_DEPTH {
             return Err(self.wrong("more than 64 brackets within each other"));

@@ -1,9 +1,9 @@
 //! A SOURCE of the command line: a netlist with its libraries, or a folder.
 
-use crate::archive::words;
+use crate::archive::refusal_told;
 use crate::cost::grouped;
 use crate::hub::Design;
-use crate::messages::Messages;
+use crate::messages::{shown_name, Messages};
 use crate::model::Model;
 use crate::names::LineKind;
 use crate::text::{self, Stop};
@@ -51,7 +51,7 @@ pub fn load(source: &Source, messages: &mut Messages) -> Result<Loaded, Stop> {
             Ok(Loaded { model, texts: Some(texts) })
         }
         Err(refusal) => {
-            let said = words(refusal.number);
+            let said = refusal_told(refusal.number);
             let words = format!(
                 "internal error: the analyser refuses what was written: {said} (refusal {}, line {})",
                 refusal.number, refusal.line
@@ -156,7 +156,8 @@ pub fn summary(path: &str, model: &Model) -> String {
     }
     let outputs = model.lines().filter(|&line| model.is_output[line]).count();
     format!(
-        "{path}: {}, {} ({}), {}, {}{}",
+        "{}: {}, {} ({}), {}, {}{}",
+        shown_name(path),
         model.title,
         many(model.names.len(), "line"),
         kinds.join(", "),

@@ -2,8 +2,7 @@
 
 use scoap_pads::commands;
 use scoap_pads::messages::{printable, Messages};
-use scoap_pads::text::Stop;
-use std::io::Write;
+use scoap_pads::text::{self, Stop};
 use std::process::ExitCode;
 
 fn main() -> ExitCode {
@@ -11,13 +10,17 @@ fn main() -> ExitCode {
     let mut messages = Messages::new();
     let answer = commands::run(&given, &mut messages);
     messages.print();
-    match answer {
-        Ok(done) => {
-            let mut out = std::io::stdout().lock();
-            // A reader that has seen enough may close its end.
-            let _ = out.write_all(done.text.as_bytes()).and_then(|()| out.flush());
-            ExitCode::from(done.status)
+    let told = answer.and_then(|done| {
+        let text = printable(&done.text);
+        if done.aside {
+            eprint!("{text}");
+        } else {
+            text::print(text.as_bytes())?;
         }
+        Ok(done.status)
+    });
+    match told {
+        Ok(status) => ExitCode::from(status),
         Err(Stop::Refused) => ExitCode::from(1),
         Err(Stop::Usage(words)) => {
             eprintln!("scoap_pads: {}", printable(&words));

@@ -107,9 +107,34 @@ fn shown(text: &str) -> String {
     format!("{}…", &text[..end])
 }
 
-/// Control characters other than line ends never reach a terminal.
+/// Whether a character acts on a terminal or a page and is not seen: control characters, marks of direction, what has no
+/// width.
+fn is_hidden(c: char) -> bool {
+    let marks = matches!(c, '\u{61c}' | '\u{200b}'..='\u{200f}' | '\u{2028}'..='\u{202e}' | '\u{2060}'..='\u{206f}');
+    let unseen = matches!(c, '\u{ad}' | '\u{34f}' | '\u{180e}' | '\u{feff}' | '\u{fff9}'..='\u{fffb}');
+    c.is_control() || marks || unseen || ('\u{e0000}'..='\u{e007f}').contains(&c)
+}
+
+/// A text as it reaches a terminal: hidden characters other than line ends are written out, as `\u{1b}`.
 pub fn printable(text: &str) -> String {
-    text.chars().map(|c| if c.is_control() && c != '\n' { '?' } else { c }).collect()
+    shown_but(text, "\n")
+}
+
+/// A name as it reaches a terminal or the page, on one line. A model's names are all of this form.
+pub fn shown_name(name: &str) -> String {
+    shown_but(name, "")
+}
+
+fn shown_but(text: &str, kept: &str) -> String {
+    let mut out = String::with_capacity(text.len());
+    for c in text.chars() {
+        if is_hidden(c) && !kept.contains(c) {
+            out.extend(c.escape_unicode());
+        } else {
+            out.push(c);
+        }
+    }
+    out
 }
 
 #[cfg(test)]
@@ -134,6 +159,17 @@ mod tests {
         messages.error_at("a", 1, &"ä".repeat(200), "w\u{1b}[1m");
         let text = messages.text();
         assert!(text.lines().nth(1).unwrap().chars().count() < 80);
-        assert!(!text.contains('\u{1b}'));
+        assert!(!text.contains('\u{1b}') && text.contains("w\\u{1b}[1m"));
+    }
+
+    #[test]
+    fn nothing_hidden_is_left() {
+        let hostile = "a\u{1b}[2J\u{9b}1m\r\u{7}\u{202e}b\u{2066}\u{200e}\u{200f}\u{61c}\u{200b}\u{feff}\u{2028}\n";
+        assert!(printable(hostile).chars().all(|c| c == '\n' || !is_hidden(c)));
+        assert!(!shown_name(hostile).chars().any(is_hidden));
+        assert_eq!(shown_name("\u{202e}"), "\\u{202e}");
+        // What is shown already stays, and other scripts do.
+        assert_eq!(printable(&printable(hostile)), printable(hostile));
+        assert_eq!(shown_name("größe_ω[3]"), "größe_ω[3]");
     }
 }

@@ -3,6 +3,7 @@
 
 use crate::archive::{self, Numbers, Refusal, Standing, MOST_LINES};
 use crate::cost::Cost;
+use crate::messages::shown_name;
 use crate::names::{LineKind, Name};
 
 /// One of the six numbers, in the report's order.
@@ -116,7 +117,7 @@ impl Model {
         let standing = archive::stand(&lib, &net)?;
         let cells = read_library(&String::from_utf8_lossy(&lib));
         let mut model = Model {
-            title: title.to_string(),
+            title: shown_name(title),
             lib,
             net,
             cells,
@@ -137,7 +138,7 @@ impl Model {
         let mut given: Vec<Option<Name>> = vec![None; MOST_LINES + 1];
         for name in names {
             let line = name.line;
-            given[line] = Some(name);
+            given[line] = Some(name.shown());
         }
         let lines: Vec<usize> = model.numbers.lines().collect();
         for line in lines {

@@ -1,7 +1,9 @@
 //! The names of a netlist's lines: names.csv, finding a net by what the user calls it, patterns.
 
+use crate::archive::MOST_LINES;
+use crate::cost::grouped;
 use crate::csv;
-use crate::messages::Messages;
+use crate::messages::{shown_name, Messages};
 
 #[derive(Clone, Copy, Debug, PartialEq, Eq)]
 pub enum LineKind {
@@ -50,6 +52,22 @@ pub struct Name {
     pub source: String,
 }
 
+impl Name {
+    /// The same without hidden characters: what is printed and what stands on the page.
+    pub fn shown(self) -> Name {
+        let all = |words: Vec<String>| words.iter().map(|word| shown_name(word)).collect();
+        Name {
+            net: shown_name(&self.net),
+            cell: shown_name(&self.cell),
+            instance: shown_name(&self.instance),
+            pins: all(self.pins),
+            aliases: all(self.aliases),
+            source: shown_name(&self.source),
+            ..self
+        }
+    }
+}
+
 const HEAD: [&str; 9] = ["line", "net", "kind", "cell", "instance", "output", "pins", "aliases", "source"];
 
 pub fn write(names: &[Name]) -> String {
@@ -80,7 +98,7 @@ pub fn read(file: &str, text: &str, messages: &mut Messages) -> Vec<Name> {
         }
     };
     let mut names: Vec<Name> = Vec::new();
-    let mut at_line = vec![0usize; crate::archive::MOST_LINES + 1];
+    let mut at_line = vec![0usize; MOST_LINES + 1];
     for (number, fields) in records {
         let shown = text.lines().nth(number - 1).unwrap_or("");
         let wrong = match read_one(&fields) {
@@ -112,8 +130,8 @@ fn read_one(fields: &[String]) -> Result<Option<Name>, String> {
         return Err(format!("{} fields, a line of names has {}: {}", fields.len(), HEAD.len(), HEAD.join(",")));
     };
     let line: usize = line.parse().map_err(|_| format!("'{line}' is no line number"))?;
-    if !(1..=crate::archive::MOST_LINES).contains(&line) {
-        return Err(format!("line number {line} is not 1 to 1,000"));
+    if !(1..=MOST_LINES).contains(&line) {
+        return Err(format!("line number {line} is not 1 to {}", grouped(MOST_LINES as u64)));
     }
     let kind = LineKind::read(kind).ok_or_else(|| format!("'{kind}' is no kind of line"))?;
     if net.is_empty() {
@@ -153,6 +171,8 @@ pub fn fits(pattern: &str, name: &str) -> bool {
 
 /// The lines that a name, an alias, `line:N` or a pattern with `*` means; where there is none, the three nearest names.
 pub fn find(names: &[Name], wanted: &str) -> Result<Vec<usize>, String> {
+    let wanted = shown_name(wanted);
+    let wanted = wanted.as_str();
     if let Some(number) = wanted.strip_prefix("line:") {
         let line: Option<usize> = number.parse().ok();
         return match names.iter().find(|name| Some(name.line) == line) {
@@ -208,7 +228,7 @@ fn distance(a: &str, b: &str) -> usize {
 
 /// A name at most `most` letters long, cut in the middle.
 pub fn cut(name: &str, most: usize) -> String {
-    let letters: Vec<char> = crate::messages::printable(name).chars().collect();
+    let letters: Vec<char> = shown_name(name).chars().collect();
     if letters.len() <= most {
         return letters.into_iter().collect();
     }

@@ -1,8 +1,8 @@
 //! Folders with the analyser's own texts: lib.txt, net.txt and, if there, names.csv. All bad lines of a netlist are told,
 //! by the proved reader itself.
 
-use crate::archive::{self, words, Refusal, MOST_LINES};
-use crate::messages::Messages;
+use crate::archive::{self, refusal_told, Refusal, MOST_LINES};
+use crate::messages::{shown_name, Messages};
 use crate::model::Model;
 use crate::names;
 use crate::text::{self, Stop};
@@ -33,7 +33,7 @@ pub fn read(folder: &str, messages: &mut Messages) -> Result<Model, Stop> {
     let mut model = match Model::new(folder, lib.into_bytes(), net.into_bytes(), given.clone()) {
         Ok(model) => model,
         Err(Refusal { number, line }) => {
-            messages.error(folder, format!("{} (refusal {number}, line {line})", words(number)));
+            messages.error(folder, format!("{} (refusal {number}, line {line})", refusal_told(number)));
             return Err(Stop::Refused);
         }
     };
@@ -46,7 +46,7 @@ pub fn read(folder: &str, messages: &mut Messages) -> Result<Model, Stop> {
     if !strange.is_empty() {
         messages.warn(format!("{names_file} names lines that the netlist does not have: {}", strange.join(", ")));
     }
-    model.title = folder.trim_end_matches('/').rsplit('/').next().unwrap_or(folder).to_string();
+    model.title = shown_name(folder.trim_end_matches('/').rsplit('/').next().unwrap_or(folder));
     Ok(model)
 }
 
@@ -66,7 +66,7 @@ pub fn tell_refusals(lib_file: &str, lib: &str, net_file: &str, net: &str, messa
         let Err(Refusal { number, line }) = archive::report_text(lib.as_bytes(), copy.as_bytes()) else {
             return;
         };
-        let said = format!("{} (refusal {number})", words(number));
+        let said = format!("{} (refusal {number})", refusal_told(number));
         match number {
             2 if lib.len() > archive::MOST_BYTES => messages.error(lib_file, said),
             2 => messages.error(net_file, said),

@@ -1,7 +1,7 @@
 //! What pads would change, as the archive answers when it is asked for a pad, and the advice drawn from that. A pad is an
 //! output: it changes CO and SO alone.
 
-use crate::archive::{words, Numbers, Refusal, Six};
+use crate::archive::{refusal_told, Numbers, Refusal, Six};
 use crate::cost::Cost;
 use crate::model::{Driver, Model};
 use crate::names::{LineKind, OWN_CLOCK};
@@ -134,7 +134,7 @@ impl Progress {
 }
 
 fn refused(refusal: Refusal) -> String {
-    format!("a pad is refused: {} (refusal {})", words(refusal.number), refusal.number)
+    format!("a pad is refused: {} (refusal {})", refusal_told(refusal.number), refusal.number)
 }
 
 /// The protected lines that pads on these lines touch together: their SO falls, or their CO. With ranges a CO counts as

@@ -9,6 +9,7 @@ use crate::messages::Messages;
 use crate::rows::Table;
 use crate::text::Stop;
 use crate::types::{add_gates, Place, Type, Types};
+use std::borrow::Cow;
 use std::collections::HashMap;
 use std::rc::Rc;
 
@@ -37,7 +38,7 @@ pub fn read(
             return Err(Stop::Refused);
         }
     };
-    let Some(modules) = root.get("modules") else {
+    let Some(modules) = root.get("modules").filter(|modules| matches!(modules, Value::Object(_))) else {
         messages.error(file, "no modules: is it JSON that Yosys wrote (write_json)?");
         return Err(Stop::Refused);
     };
@@ -157,15 +158,13 @@ impl Reader<'_, '_, '_> {
     }
 
     fn module(&mut self, module: &Value, types: &mut Types) {
-        let empty = Value::Null;
-        let part = |name: &str| module.get(name).unwrap_or(&empty).members();
-        for (name, port) in part("ports") {
+        for (name, port) in self.members(module, "ports", "the block") {
             self.port(name, port);
         }
-        for (name, net) in part("netnames") {
+        for (name, net) in self.members(module, "netnames", "the block") {
             self.names(name, net);
         }
-        let cells = part("cells");
+        let cells = self.members(module, "cells", "the block");
         if cells.len() > MOST_GATES {
             self.messages.error(
                 self.file,
@@ -195,9 +194,31 @@ impl Reader<'_, '_, '_> {
         }
     }
 
+    /// The members of a part, which may be missing but be nothing else.
+    fn members<'v, 'w>(&mut self, of: &'v Value<'w>, name: &str, who: &str) -> &'v [(Cow<'w, str>, Value<'w>)] {
+        let part = of.get(name);
+        if part.is_some_and(|part| !matches!(part, Value::Object(_))) || !matches!(of, Value::Object(_)) {
+            self.strange(who, name);
+        }
+        part.map_or(&[][..], Value::members)
+    }
+
+    /// The bits of a port, a net or a pin.
+    fn bits<'v, 'w>(&mut self, bits: Option<&'v Value<'w>>, who: &str) -> &'v [Value<'w>] {
+        if bits.is_some_and(|bits| !matches!(bits, Value::List(_))) {
+            self.strange(who, "bits");
+        }
+        bits.map_or(&[][..], Value::items)
+    }
+
+    fn strange(&mut self, who: &str, name: &str) {
+        let words = format!("{who}: its {name} are not what Yosys writes (write_json)");
+        self.messages.error(self.file, words);
+    }
+
     fn port(&mut self, name: &str, port: &Value) {
         let direction = port.get("direction").and_then(Value::text).unwrap_or("");
-        let bits = port.get("bits").map_or(&[][..], Value::items);
+        let bits = self.bits(port.get("bits"), &format!("port {name}"));
         for (at, bit) in bits.iter().enumerate() {
             if self.design.full() {
                 return;
@@ -240,7 +261,7 @@ impl Reader<'_, '_, '_> {
         let attributes = net.get("attributes");
         let source = attributes.and_then(|all| all.get("src")).and_then(Value::text).unwrap_or("");
         let has_init = attributes.is_some_and(|all| all.get("init").is_some());
-        let bits = net.get("bits").map_or(&[][..], Value::items);
+        let bits = self.bits(net.get("bits"), &format!("net {name}"));
         for (at, bit) in bits.iter().enumerate() {
             if self.design.full() {
                 return;
@@ -283,9 +304,8 @@ impl Reader<'_, '_, '_> {
         };
         let mut pins = HashMap::new();
         let mut outputs = HashMap::new();
-        let connections = cell.get("connections").map_or(&[][..], Value::members);
-        for (pin, bits) in connections {
-            let bits = bits.items();
+        for (pin, bits) in self.members(cell, "connections", &who) {
+            let bits = self.bits(Some(bits), &who);
             for (at, bit) in bits.iter().enumerate() {
                 let pin = if bits.len() == 1 && title != "$lut" { pin.to_string() } else { format!("{pin}[{at}]") };
                 let source = self.source(bit);
