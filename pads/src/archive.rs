@@ -89,13 +89,6 @@ const STANDING_NUMBERS: usize = 5 + MOST_LINES;
 const OBSERVED: usize = 2 * MOST_LINES;
 const REFUSED: u64 = 1_000_000;
 
-/// The same calls as WebAssembly, for the page; empty where the toolchain has none.
-pub const WASM: &[u8] = include_bytes!(env!("SCOAP_WASM_COPY"));
-/// What the page lends them: the sizes of a text, a standing table, the place of line 1's costs in it, an answer, a report
-/// and a plan, the most lines, and the number that refusals begin with.
-pub const SIZES: [usize; 8] =
-    [MOST_BYTES, STANDING, STANDING_NUMBERS, OBSERVED, REPORT_ROOM, PLAN_ROOM, MOST_LINES, REFUSED as usize];
-
 #[derive(Clone, Copy, Debug, PartialEq, Eq)]
 pub struct Refusal {
     pub number: u32,

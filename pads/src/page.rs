@@ -1,6 +1,5 @@
 //! One self-contained page of a design: profiles, the table, reasons and pads. Names are data, never markup.
 
-use crate::archive;
 use crate::cost::Cost;
 use crate::load;
 use crate::model::{Model, Number};
@@ -11,7 +10,20 @@ use crate::why::{Node, Reasons, Step, Way};
 use std::collections::HashMap;
 use std::fmt::Write;
 
-const TEMPLATE: &str = include_str!("page.html");
+const TEMPLATE: &str = include_str!("page/page.html");
+const STYLE: &str = include_str!("page/page.css");
+/// The calls as WebAssembly, as they are installed too: pads/wasm writes them. Empty where nothing did, and the page is still.
+const SCOAP: &str = include_str!(env!("SCOAP_JS_COPY"));
+const SCRIPT: &str = concat!(
+    include_str!("page/base.js"),
+    include_str!("page/why.js"),
+    include_str!("page/live.js"),
+    include_str!("page/draw.js"),
+    include_str!("page/table.js"),
+    include_str!("page/panel.js"),
+    include_str!("page/sheet.js"),
+    include_str!("page/start.js"),
+);
 const MOST_WAYS: usize = 12;
 
 /// A string of JSON that can stand inside a script: `<` never begins a tag.
@@ -45,18 +57,6 @@ fn cost(of: Cost) -> String {
     }
 }
 
-fn base64(bytes: &[u8]) -> String {
-    const DIGITS: &[u8; 64] = b"ABCDEFGHIJKLMNOPQRSTUVWXYZabcdefghijklmnopqrstuvwxyz0123456789+/";
-    let mut out = String::with_capacity(bytes.len() / 3 * 4 + 4);
-    for three in bytes.chunks(3) {
-        let all = (0..3).fold(0, |all, at| all << 8 | u32::from(three.get(at).copied().unwrap_or(0)));
-        for at in 0..4 {
-            out.push(if at > three.len() { '=' } else { DIGITS[(all >> (18 - 6 * at) & 63) as usize] as char });
-        }
-    }
-    out
-}
-
 /// The role of a node: 0 and 1 set a line to the value, 2 sees it.
 fn role(node: Node) -> usize {
     match node {
@@ -88,16 +88,17 @@ fn step(reasons: &Reasons, step: &Step) -> String {
 
 /// The page of a design with pads placed already.
 pub fn page(path: &str, model: &Model, placed: &[usize], privacy: &Privacy, said: &str) -> Result<String, String> {
+    let may: Vec<usize> = pads::candidates(model);
     let model = pads::placed(model, placed)?;
     let effects = pads::by_line(&model)?;
     let steps = all_steps(&model)?;
-    let lines = model.lines().map(|line| line_data(&model, line, effects.get(&line), &steps[&line]));
+    let lines =
+        model.lines().map(|line| line_data(&model, line, effects.get(&line), may.contains(&line), &steps[&line]));
     let numbers = |lines: &[usize]| list(lines.iter().map(usize::to_string));
     let texts = format!(
-        "{{\"lib\":{},\"net\":{},\"sizes\":{}}}",
+        "{{\"lib\":{},\"net\":{}}}",
         text(&String::from_utf8_lossy(&model.lib)),
-        text(&String::from_utf8_lossy(&model.net)),
-        numbers(&archive::SIZES)
+        text(&String::from_utf8_lossy(&model.net))
     );
     let data = format!(
         "{{\"title\":{},\"summary\":{},\"nevers\":{},\"warnings\":{},\"pads\":{},\"forbidden\":{},\"protected\":{},\"lines\":{}}}",
@@ -113,9 +114,16 @@ pub fn page(path: &str, model: &Model, placed: &[usize], privacy: &Privacy, said
     let mut page = TEMPLATE.to_string();
     // Each place is after the one before it, so that no data is taken for a place.
     let mut from = 0;
-    for (place, content) in [("@DATA@", data), ("@TEXTS@", texts), ("@WASM@", base64(archive::WASM))] {
+    let contents = [
+        ("@STYLE@", STYLE),
+        ("@DATA@", data.as_str()),
+        ("@TEXTS@", texts.as_str()),
+        ("@SCOAP@", SCOAP),
+        ("@SCRIPT@", SCRIPT),
+    ];
+    for (place, content) in contents {
         let at = from + page[from..].find(place).expect("a place for the data");
-        page.replace_range(at..at + place.len(), &content);
+        page.replace_range(at..at + place.len(), content);
         from = at + content.len();
     }
     Ok(page)
@@ -138,14 +146,14 @@ fn all_steps(model: &Model) -> Result<HashMap<usize, Vec<String>>, String> {
     Ok(steps)
 }
 
-fn line_data(model: &Model, line: usize, effect: Option<&Effect>, steps: &[String]) -> String {
+fn line_data(model: &Model, line: usize, effect: Option<&Effect>, may: bool, steps: &[String]) -> String {
     let name = model.name(line);
     let six = model.numbers.of(line);
     let mut readers: Vec<usize> = model.readers[line].iter().map(|&(gate, _)| model.gates[gate].line).collect();
     readers.dedup();
     let ranked = model.is_ranked(line);
     let mut out = format!(
-        "{{\"l\":{line},\"n\":{},\"k\":{},\"c\":{},\"h\":{},\"q\":{},\"o\":{},\"r\":{ranked},\"a\":{},\"s\":{},\"t\":{},\"i\":{},\"v\":{},\"w\":{}",
+        "{{\"l\":{line},\"n\":{},\"k\":{},\"c\":{},\"h\":{},\"q\":{},\"o\":{},\"r\":{ranked},\"may\":{may},\"a\":{},\"s\":{},\"t\":{},\"i\":{},\"v\":{},\"w\":{}",
         text(&name.net),
         text(name.kind.word()),
         list(six.iter().map(|&of| cost(of))),
@@ -183,13 +191,6 @@ mod tests {
     }
 
     #[test]
-    fn bytes_in_base64() {
-        for (bytes, told) in [("", ""), ("f", "Zg=="), ("fo", "Zm8="), ("foo", "Zm9v"), ("foob", "Zm9vYg==")] {
-            assert_eq!(base64(bytes.as_bytes()), told);
-        }
-    }
-
-    #[test]
     fn the_data_is_json() {
         let lib = crate::archive::cell("NAND2", 2, "1110").unwrap();
         let net = b"input,1\ninput,2\ngate,NAND2,3,1,4\ngate,NAND2,4,2,3\noutput,3\n".to_vec();
@@ -199,9 +200,8 @@ mod tests {
         let data = crate::json::parse(data).unwrap();
         assert_eq!(data.get("lines").unwrap().items().len(), 4);
         assert_eq!(data.get("pads").unwrap().items()[0].whole(), Some(2));
-        assert_eq!(
-            page.matches("@DATA@").count() + page.matches("@TEXTS@").count() + page.matches("@WASM@").count(),
-            0
-        );
+        for place in ["@STYLE@", "@DATA@", "@TEXTS@", "@SCOAP@", "@SCRIPT@"] {
+            assert!(!page.contains(place), "{place}");
+        }
     }
 }
