@@ -21,9 +21,9 @@ static void is(const char *label, unsigned long long found, unsigned long long e
 #define TEXT(text) (const uint8_t *)(text), sizeof(text) - 1
 #define REFUSAL(number, line) ((uint64_t)(number) * SCOAP_REFUSED + (line))
 
-/* The latch of document 01, and the same with a row added to its cell, as docs/TABLES.md has both. */
+/* The latch of document 01, and its cell with a row added for each pin that observes it without asking for the other. */
 #define LIB "Name,NAND2,2\nCC,13,21,M,5\nCO,203,211\nSC,12,20,M,4\nSO,202,210\nEnd\n"
-#define MORE "Name,NAND2,2\nCC,13,M,11,21,M,5\nCO,203,211\nSC,12,20,M,4\nSO,202,210\nEnd\n"
+#define MORE "Name,NAND2,2\nCC,13,21,M,5\nCO,203,M,201,211,M,201\nSC,12,20,M,4\nSO,202,210\nEnd\n"
 #define NET "input,1\ninput,2\ngate,NAND2,3,1,4\ngate,NAND2,4,2,3\noutput,3\n"
 #define OTHER "input,4\ngate,NAND2,5,4,4\noutput,5\n"
 #define UNFINISHED "input,1\ngate,NAND2,3,1,4\noutput,3\n"
@@ -100,7 +100,8 @@ static void twice(void)
     static const uint8_t texts[] = NET "x";
 
     is("a netlist as library", scoap_report(TEXT(NET), TEXT(NET), report, sizeof report), REFUSAL(3, 1));
-    is("a text within a text", scoap_report(texts + sizeof NET - 1, 0, texts, sizeof NET - 1, report, sizeof report), REFUSAL(12, 3));
+    is("a text within a text", scoap_report(texts + sizeof NET - 1, 0, texts, sizeof NET - 1, report, sizeof report),
+       REFUSAL(12, 3));
     scoap_stand(TEXT(LIB), TEXT(NET), standing, SCOAP_STANDING, report, sizeof report);
     is("the same library again", scoap_change(TEXT(LIB), TEXT(LIB), TEXT(NET), standing, SCOAP_STANDING), SCOAP_WENT_ON);
 }
@@ -185,8 +186,9 @@ static void tickets(void)
     is("a row more", scoap_change(TEXT(LIB), TEXT(MORE), TEXT(NET), standing, SCOAP_STANDING), SCOAP_WENT_ON);
     scoap_ask(TEXT(MORE), TEXT(NET), standing, SCOAP_STANDING, 4, asked, SCOAP_OBSERVED);
     is("a ticket after a change", scoap_commit(TEXT(MORE), TEXT(NET), standing, SCOAP_STANDING, 4, count), 1);
-    is("the numbers under the new library", scoap_standing_co(standing, 1), scoap_asked_co(asked, 1));
-    is("of line 2 too", scoap_standing_co(standing, 2), scoap_asked_co(asked, 2));
+    is("the number that the ask wrote", scoap_asked_co(before, 1), 3);
+    is("the number under the new library", scoap_standing_co(standing, 1), 1);
+    is("as an ask after the change wrote it", scoap_asked_co(asked, 1), 1);
 
     /* A table of another netlist is taken: nothing in it says of which it is. */
     scoap_stand(TEXT(LIB), TEXT(OTHER), standing, SCOAP_STANDING, report, sizeof report);
