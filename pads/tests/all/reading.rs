@@ -3,7 +3,7 @@
 use crate::common::{model, reported, Random, ALL};
 use scoap_pads::archive::Refusal;
 use scoap_pads::cost::Cost;
-use scoap_pads::model::Model;
+use scoap_pads::model::{Driver, Model};
 use scoap_pads::names::LineKind;
 use scoap_pads::pads::{self, Privacy, USUAL_DEPTH};
 use scoap_pads::{names, why};
@@ -233,4 +233,35 @@ fn protection_changes_the_advice() {
     let closed = &pads::advise(&model, 1, &privacy).unwrap().0[0];
     assert!(closed.allowed < closed.candidates);
     assert_ne!(closed.pad.as_ref().unwrap().line, pad);
+}
+
+/// Each register protected by itself: no pad that is allowed has its next value, or what an inverter makes of it.
+#[test]
+fn the_data_of_a_protected_register_gets_no_pad() {
+    let mut registers = 0;
+    for name in ["recorder/afe_spi.json", "recorder/breath.json", "recorder/uart_log.json", "recorder/decim.json"] {
+        let model = model(name);
+        for line in model.lines().filter(|&line| model.name(line).kind == LineKind::Register) {
+            let Some(Driver::Gate(gate)) = model.driver[line] else { panic!("{name}: a register without a gate") };
+            let privacy = Privacy::new(&model, vec![], vec![line], USUAL_DEPTH);
+            let pin = model.name(line).pins.iter().position(|pin| pin == "D").unwrap();
+            let mut data = model.gates[gate].pins[pin];
+            let constant = model.name(data).kind == LineKind::Constant;
+            loop {
+                assert!(constant || privacy.ruled_out(data), "{name}: {}", model.net_name(data));
+                match model.driver[data] {
+                    Some(Driver::Gate(gate))
+                        if model.gates[gate].pins.len() == 1 && model.name(data).kind != LineKind::Register =>
+                    {
+                        data = model.gates[gate].pins[0];
+                    }
+                    _ => break,
+                }
+            }
+            let narrow = Privacy::new(&model, vec![], vec![line], 0);
+            assert!(constant || data == line || !narrow.ruled_out(data), "{name}");
+            registers += 1;
+        }
+    }
+    assert!(registers > 100, "{registers} registers");
 }
