@@ -219,6 +219,11 @@ impl Privacy {
         Privacy { forbidden, protected, depth, upstream }
     }
 
+    /// How far upstream lines are ruled out.
+    pub fn depth(&self) -> usize {
+        self.depth
+    }
+
     /// Whether a line carries a protected value.
     pub fn carries(&self, line: usize) -> bool {
         self.upstream.carries(line)

@@ -6,6 +6,7 @@ use crate::model::{Model, Number};
 use crate::never;
 use crate::pads::{self, Effect, Privacy};
 use crate::ranking;
+use crate::upstream;
 use crate::why::{Node, Reasons, Step, Way};
 use std::collections::HashMap;
 use std::fmt::Write;
@@ -92,8 +93,11 @@ pub fn page(path: &str, model: &Model, placed: &[usize], privacy: &Privacy, said
     let model = pads::placed(model, placed)?;
     let effects = pads::by_line(&model)?;
     let steps = all_steps(&model)?;
-    let lines =
-        model.lines().map(|line| line_data(&model, line, effects.get(&line), may.contains(&line), &steps[&line]));
+    let lines = model.lines().map(|line| {
+        line_data(&model, line, effects.get(&line), may.contains(&line), &steps[&line])
+            + &near_data(&model, line, privacy)
+            + "}"
+    });
     let numbers = |lines: &[usize]| list(lines.iter().map(usize::to_string));
     let texts = format!(
         "{{\"lib\":{},\"net\":{}}}",
@@ -101,7 +105,7 @@ pub fn page(path: &str, model: &Model, placed: &[usize], privacy: &Privacy, said
         text(&String::from_utf8_lossy(&model.net))
     );
     let data = format!(
-        "{{\"title\":{},\"summary\":{},\"nevers\":{},\"warnings\":{},\"pads\":{},\"forbidden\":{},\"protected\":{},\"lines\":{}}}",
+        "{{\"title\":{},\"summary\":{},\"nevers\":{},\"warnings\":{},\"pads\":{},\"forbidden\":{},\"protected\":{},\"depth\":{},\"lines\":{}}}",
         text(&model.title),
         text(&load::summary(path, &model)),
         list(never::text(&model).lines().map(text)),
@@ -109,6 +113,7 @@ pub fn page(path: &str, model: &Model, placed: &[usize], privacy: &Privacy, said
         numbers(placed),
         numbers(&privacy.forbidden),
         numbers(&privacy.protected),
+        privacy.depth(),
         list(lines)
     );
     let mut page = TEMPLATE.to_string();
@@ -174,8 +179,25 @@ fn line_data(model: &Model, line: usize, effect: Option<&Effect>, may: bool, ste
     } else {
         out.push_str(",\"g\":null,\"f\":0,\"en\":0");
     }
-    let _ = write!(out, ",\"p\":{}}}", list(name.pins.iter().map(|pin| text(pin))));
+    let _ = write!(out, ",\"p\":{}", list(name.pins.iter().map(|pin| text(pin))));
     out
+}
+
+/// What feeds a line, and what privacy says of it: whether it carries a protected value, which protected line it is upstream
+/// of and how far, and whether it gets no pad. The page finds the latter anew, and is held to these.
+fn near_data(model: &Model, line: usize, privacy: &Privacy) -> String {
+    let numbers = |lines: &[usize]| list(lines.iter().map(usize::to_string));
+    let fed = upstream::feeding(model, line);
+    let near =
+        privacy.upstream(line).map_or("null".to_string(), |(to, registers, gates)| numbers(&[to, registers, gates]));
+    format!(
+        ",\"u\":{},\"b\":{},\"y\":{},\"m\":[{},{near},{}]",
+        numbers(&fed.reads),
+        numbers(&fed.beside),
+        numbers(&fed.takes),
+        privacy.carries(line),
+        privacy.ruled_out(line)
+    )
 }
 
 #[cfg(test)]

@@ -279,6 +279,25 @@ fn steps(model: &Model, carried: &[Option<Carried>]) -> Vec<Option<usize>> {
     steps
 }
 
+/// What the page finds the same from, whichever nets are protected there.
+pub struct Feeding {
+    /// What the line's gate reads, but for the clock.
+    pub reads: Vec<usize>,
+    /// What has its value at the same time: the line that its gate hands on, or registers with the same pins.
+    pub beside: Vec<usize>,
+    /// What its register takes.
+    pub takes: Vec<usize>,
+}
+
+pub fn feeding(model: &Model, line: usize) -> Feeding {
+    let register = gate_of(model, line).filter(|_| is_register(model, line));
+    Feeding {
+        reads: read_by(model, line),
+        beside: beside(model, line, line),
+        takes: register.map_or(Vec::new(), |gate| taken(model, gate)),
+    }
+}
+
 #[cfg(test)]
 mod tests {
     use super::*;

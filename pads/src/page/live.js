@@ -25,6 +25,7 @@ async function wake() {
       if (here !== c) throw new Error(`${words[at].toUpperCase()} of line ${l.l} is ${short(here)} by the calls in this page and ${short(c)} as native code wrote it. Trust neither`);
     });
   }
+  nearAsWritten();
   for (const l of data.lines) l.before = six(made.none, l.l);
   made.woke = performance.now() - begun;
   live = made;
@@ -74,6 +75,11 @@ function stand() {
     l.f = l.en = 0;
   }
   live.ranked = data.lines.filter(l => l.r).map(l => l.l);
+  if (live.ranged) {
+    // CO at HIGH without a further pad, out of the second of the two reports.
+    live.high = new Map(live.scoap.report(live.lib, marked(live.pads)).split("\nhigh\n")[1].split("\n").map(row => row.split(",")).map(f => [Number(f[0]), /^\d+$/.test(f[5]) ? Number(f[5]) : f[5]]));
+    live.bare ||= live.scoap.stand(live.lib, live.bareNet ||= texts.net.replace(/^output,.*\n/gm, "")).standing;
+  }
   live.measure = measured(line => live.standing[place(line, 4)]);
   live.effects = live.kept.get(key) || new Map();
   live.kept.delete(key);
@@ -105,13 +111,20 @@ function effect(line) {
     if (co < was) { if (was < sizes.OVER) x.gain += was - co; else x.freed++; }
     if (co < was || seen[2 * l - 1] < standing[place(l, 5)]) { x.count++; x.bits[l >> 3] |= 1 << (l & 7); }
   }
+  if (live.ranged) {
+    // Whatever the prices within the ranges: CO at HIGH without the pad, against that at LOW with the pad as the only output.
+    const alone = live.scoap.ask(live.lib, live.bareNet, live.bare, line).seen;
+    x.ends = new Uint8Array(x.bits.length);
+    for (const l of data.lines) if (rank(Scoap.cost(alone[2 * l.l - 2])) < rank(live.high.get(l.l))) x.ends[l.l >> 3] |= 1 << (l.l & 7);
+  }
   return x;
 }
 const eases = (x, line) => x.bits[line >> 3] >> (line & 7) & 1;
 function note(x) {
   Object.assign(byLine.get(x.line), {g: x.gain, f: x.freed, en: x.count});
 }
-const may = l => l.may && l.r && !l.o;
+const may = l => l.may && !l.o;
+const marked = lines => texts.net + lines.map(line => `output,${line}\n`).join("");
 // Every pad that may be, asked in pieces while nothing else is to be done: no piece takes longer than a frame or one ask.
 const idle = typeof requestIdleCallback === "function" ? f => requestIdleCallback(f, {timeout: 50}) : f => setTimeout(f, 0);
 function askAll() {
@@ -145,14 +158,63 @@ const done = () => live.asked === live.of;
 
 // What privacy rules out: the forbidden, the protected, what carries a protected value, and what makes one easier to see.
 function touches(x) {
-  if (!live.touched.has(x.line)) live.touched.set(x.line, [...live.protected].filter(line => eases(x, line)));
+  if (!live.touched.has(x.line)) live.touched.set(x.line, [...live.protected].filter(line => eases(x, line) || x.ends && x.ends[line >> 3] >> (line & 7) & 1));
   return live.touched.get(x.line);
 }
-const ruledOut = line => live.forbidden.has(line) || live.protected.has(line) || live.near.carries.has(line);
+const ruledOut = line => live.forbidden.has(line) || live.protected.has(line) || near0(live.near, line);
+const near0 = (near, line) => data.depth > 0 && (near.carries.has(line) || near.steps.has(line) && near.steps.get(line) < data.depth);
 const allowed = x => !ruledOut(x.line) && !touches(x).length;
-// Nothing of protected nets is known of lines before they are asked for.
+
+// What feeds the protected nets, as upstream.rs finds it, over what it wrote of each line: u what its gate reads, b what has its
+// value at the same time, y what its register takes.
+const handers = new Map();
+for (const l of data.lines) if (l.k !== "register") for (const line of l.b || []) handers.set(line, [...handers.get(line) || [], l.l]);
 function nearness(protect) {
-  return {carries: new Set(), upstream: new Map()};
+  const carries = new Map(), upstream = new Map(), steps = new Map();
+  let front = protect.map(of => [of, of, 0]), earlier = [];
+  while (front.length) {
+    for (let k = 0; k < front.length; k++) {
+      const [line, of, registers] = front[k], l = byLine.get(line);
+      if (carries.has(line)) continue;
+      carries.set(line, [of, registers]);
+      for (const other of l.b) front.push([other, of, registers]);
+      if (line !== of) for (const other of handers.get(line) || []) front.push([other, of, registers]);
+      if (registers === 0) for (const data of l.y) earlier.push([data, of, 1]);
+    }
+    [front, earlier] = [earlier, []];
+  }
+  // The fewest registers, then gates, then the lowest protected line.
+  const before = (a, b) => a[1] - b[1] || a[2] - b[2] || a[0] - b[0];
+  const far = protect.map(line => [line, [line, 0, 0]]);
+  for (let k = 0; k < far.length; k++) {
+    const [line, [to, registers, gates]] = far[k], l = byLine.get(line);
+    if (upstream.has(line) && before(upstream.get(line), far[k][1]) <= 0) continue;
+    upstream.set(line, far[k][1]);
+    const on = l.k === "register" ? [to, registers + 1, gates] : [to, registers, gates + (l.k === "part" ? 0 : 1)];
+    for (const from of l.u) far.push([from, on]);
+  }
+  for (const line of protect) upstream.delete(line);
+  const count = [...carries.keys()].map(line => [line, 0]);
+  for (let k = 0; k < count.length; k++) {
+    const [line, own] = count[k], l = byLine.get(line);
+    if (steps.has(line) && steps.get(line) <= own) continue;
+    steps.set(line, own);
+    const free = l.k === "part" || l.k !== "register" && l.b.length > 0;
+    for (const from of l.u) count.push([from, free ? own : own + 1]);
+  }
+  return {carries, upstream, steps};
+}
+// The lists that the page was made with must come to what native code found.
+function nearAsWritten() {
+  const near = nearness(data.protected), forbidden = new Set([...data.forbidden, ...data.protected]);
+  for (const l of data.lines) {
+    const here = JSON.stringify([near.carries.has(l.l), near.upstream.get(l.l) || null, forbidden.has(l.l) || near0(near, l.l)]);
+    if (here !== JSON.stringify(l.m)) throw new Error(`what is upstream of protected nets comes out otherwise at line ${l.l} than native code wrote it. Trust neither`);
+  }
+}
+function carriesTold(line) {
+  const [of, registers] = live.near.carries.get(line);
+  return `carries ${byLine.get(of).n}${registers ? ", one register earlier" : ""}`;
 }
 
 // Advice in the command's order, and the proved adviser's, to which every line is forbidden that gets no pad.
@@ -160,7 +222,9 @@ function advise() {
   const all = [...live.effects.values()], ok = all.filter(allowed);
   ok.sort((a, b) => lower(a.after, b.after) || a.line - b.line);
   const best = ok.length && lower(ok[0].after, live.measure) < 0 ? ok[0] : null, free = new Set(ok.map(x => x.line));
-  const no = data.lines.filter(l => !free.has(l.l)).map(l => l.l), net = texts.net + live.pads.map(l => `output,${l}\n`).join("");
+  // As the command asks it: a constant, or an input that nothing reads, is marked output, so that its own CO does not count.
+  const bare = data.lines.filter(l => !l.o && (chip.drivers.has(l.l) ? !chip.drivers.get(l.l).pins.length : chip.inputs.has(l.l) && !l.v.length)).map(l => l.l);
+  const no = data.lines.filter(l => !free.has(l.l)).map(l => l.l), net = marked([...live.pads, ...bare]);
   const {line, largest} = live.scoap.advise(live.lib, net, no);
   live.advice = {best, ok: ok.length, of: all.length, line, largest: line ? Scoap.cost(largest) : null};
   if (best) go({line: String(best.line), of: ""}); else show();
@@ -192,7 +256,7 @@ function tellState() {
 function showLive() {
   tellState();
   $("live").hidden = false;
-  const a = live.advice, was = live.before ||= (() => { const kept = live.ranked; const m = measured(line => live.none[place(line, 4)]); live.ranked = kept; return m; })();
+  const a = live.advice, was = measured(line => live.none[place(line, 4)]);
   const is = live.measure, pair = (word, x, y) => x === y ? `${word} ${group(x)}` : `${word} ${group(x)} → ${group(y)}`;
   $("pads").replaceChildren(make("b", null, "Pads:"),
     ...live.pads.map(line => make("span", {class: "pad"}, name(line, 24), make("button", {title: "take this pad away", "aria-label": "take away the pad on " + byLine.get(line).n, onclick: () => toggle("pads", line)}, "×"))),
@@ -209,13 +273,13 @@ function showLive() {
 
 // Marks of a net, with the words of the column.
 function marks(l) {
-  const privacy = live || {forbidden: new Set(data.forbidden), protected: new Set(data.protected), pads: data.pads, near: {carries: new Set(), upstream: new Map()}};
-  const m = [], up = privacy.near.upstream.get(l.l);
-  if (privacy.pads.includes(l.l)) m.push(["pad", "pad", "a pad is placed here"]);
-  if (privacy.forbidden.has(l.l)) m.push(["forbidden", "no pad", "forbidden: gets no pad"]);
-  if (privacy.protected.has(l.l)) m.push(["protected", "protected", "no pad may make it easier to see"]);
-  if (privacy.near.carries.has(l.l)) m.push(["carries", "carries", "the value of a protected net stands here too"]);
-  else if (up) m.push(["upstream", `up ${up[1]}r ${up[2]}g`, upstreamTold(up)]);
+  const m = [], lists = live || {pads: data.pads, forbidden: new Set(data.forbidden), protected: new Set(data.protected)};
+  const carries = live ? live.near.carries.has(l.l) : l.m[0], up = live ? live.near.upstream.get(l.l) : l.m[1];
+  if (lists.pads.includes(l.l)) m.push(["pad", "pad", "a pad is placed here"]);
+  if (lists.forbidden.has(l.l)) m.push(["forbidden", "no pad", "forbidden: gets no pad"]);
+  if (lists.protected.has(l.l)) m.push(["protected", "protected", "protected: no pad may make it easier to see"]);
+  else if (carries) m.push(["carries", "carries", live ? carriesTold(l.l) : "the value of a protected net stands here too"]);
+  if (up) m.push(["upstream", `up ${up[1]}r ${up[2]}g`, upstreamTold(up)]);
   return m;
 }
 const upstreamTold = ([line, registers, gates]) => `upstream of ${byLine.get(line).n}: ${many(registers, "register")}, ${many(gates, "gate")}`;

@@ -31,7 +31,8 @@ function padPart(l) {
   const {x, after} = d, inside = touches(x), why = [];
   if (live.forbidden.has(l.l)) why.push("it is forbidden");
   if (live.protected.has(l.l)) why.push("the net is protected");
-  if (live.near.carries.has(l.l)) why.push("the value of a protected net stands here too");
+  else if (live.near.carries.has(l.l) && data.depth > 0) why.push("it " + carriesTold(l.l));
+  else if (ruledOut(l.l) && !live.forbidden.has(l.l)) why.push("it is too near upstream of a protected net");
   if (inside.length) why.push(`${many(inside.length, "protected net")} easier to see`);
   const fall = line => { const [was, is] = [byLine.get(line).c[4], after.get(line)[0]]; return typeof was === "number" && typeof is === "number" ? was - is : was === is ? 0 : 2e9; };
   const listed = [...after.keys()].sort((a, b) => live.protected.has(b) - live.protected.has(a) || fall(b) - fall(a) || a - b);

@@ -20,7 +20,7 @@ function sheet() {
     const secret = falls.filter(l => live.protected.has(l.l)).map(l => named(l.l)), up = live.near.upstream.get(line);
     live.scoap.commit(live.lib, live.net, standing, line, count);
     return [named(line), byLine.get(line).s || "-", group(falls.length), secret.join(", ") || "none",
-      [live.forbidden.has(line) ? "forbidden" : "", live.protected.has(line) ? "protected itself" : "", live.near.carries.has(line) ? "carries a protected value" : "", up ? upstreamTold(up) : ""].filter(x => x).join("; ") || "-"];
+      [live.forbidden.has(line) ? "forbidden" : "", live.protected.has(line) ? "protected itself" : "", !live.protected.has(line) && live.near.carries.has(line) ? carriesTold(line) : "", up ? upstreamTold(up) : ""].filter(x => x).join("; ") || "-"];
   });
   const closest = line => live.pads.filter(pad => { const up = live.near.upstream.get(pad); return pad === line || up && up[0] === line; }).map(named).join(", ") || "none";
   const sums = make("table"), sum = (what, text) => {

@@ -2,7 +2,7 @@
 // why.rs finds them: the first row in library order whose terms and depth give the number, over nets that were found before.
 const index = (role, sequential) => role === 2 ? 4 + sequential : 2 * sequential + role;
 const chip = (() => {
-  const cells = new Map(), readers = new Map(), drivers = new Map();
+  const cells = new Map(), readers = new Map(), drivers = new Map(), inputs = new Set();
   let cell = null;
   const unpack = (octal, {n, three}) => {
     let row = parseInt(octal, 8);
@@ -34,6 +34,7 @@ const chip = (() => {
   }
   for (const line of texts ? texts.net.split("\n") : []) {
     const f = line.split(",");
+    if (f[0] === "input") inputs.add(Number(f[1]));
     if (f[0] !== "gate") continue;
     const gate = {cell: cells.get(f[1]), name: f[1], line: Number(f[2]), pins: f.slice(3).map(Number)};
     drivers.set(gate.line, gate);
@@ -42,7 +43,7 @@ const chip = (() => {
       readers.get(line).push([gate, pin]);
     });
   }
-  return {readers, drivers};
+  return {readers, drivers, inputs};
 })();
 const pinName = (gate, pin) => byLine.get(gate.line).p[pin] || String(pin + 1);
 function throughTold({gate, pin, row}) {
