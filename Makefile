@@ -1,7 +1,7 @@
 # make help says what there is to make. README says how long each takes the first time. What is proved stays proved until
 # its files change.
 
-.PHONY: help run programs test check fuzz bench archive second pads large install uninstall tools clean need-rt need-cargo
+.PHONY: help run programs test check fuzz bench archive wasm second pads large install uninstall tools clean need-rt need-cargo
 
 PROGRAMS = scoap scoap_cell scoap_open scoap_plan
 # For make fuzz; without SEED the time gives it.
@@ -24,7 +24,8 @@ help:
 	@echo '                 LINES=4000 the same over an analyser of that size'
 	@echo 'make large     proves and builds the analyser for more lines, under names of its own: LINES=4000'
 	@echo 'make archive   proves and builds the archive for C, target/staticlib/libscoap_c.a'
-	@echo 'make install   installs programs, header, archive, shared library and scoap.pc'
+	@echo 'make wasm      the same calls as WebAssembly, target/wasm: scoap.wasm, scoap.js, scoap.d.ts'
+	@echo 'make install   installs programs, header, archive, shared library, scoap.pc and the WebAssembly'
 	@echo '                 PREFIX=/usr/local DESTDIR= (make uninstall takes them out again)'
 	@echo 'make check     the quick loop: proves what has changed, and passes the tests that take seconds'
 	@echo "make test      passes all tests, from nothing: its last line is 'N passed, 0 failed'"
@@ -68,6 +69,10 @@ archive: need-rt
 	tests/told target/log/archive.out staticlib scoap_c || { echo 'not built: target/log/archive.out has it whole'; exit 1; }; \
 	echo "$$sum" >$(ARCHIVE).sum
 
+# The archive as WebAssembly, and what JavaScript and TypeScript need around it.
+wasm: archive
+	@pads/wasm
+
 # The programs that compare it with the second implementation.
 second: archive need-cargo
 	@cd tests/second && cargo build -q --release --offline -j2
@@ -83,8 +88,7 @@ ifneq ($(LINES),)
 pads: need-rt need-cargo
 	@large/build '$(LINES)' --pads
 else
-pads: archive need-cargo
-	@pads/wasm
+pads: wasm need-cargo
 	@cd pads && cargo build -q --release --offline -j1
 	@mkdir -p target/bin && cp target/pads/release/scoap_pads target/bin/scoap_pads
 	@target/bin/scoap_pads page examples/c17 -o target/c17.html
@@ -99,7 +103,7 @@ large: need-rt
 	@large/build '$(LINES)'
 
 # The shared library has the archive's calls and no others. scoap_pads is installed where it was built.
-install: programs archive
+install: programs wasm
 	@mkdir -p target/install
 	@$(CC) -shared -o target/install/$(SHARED).$(VERSION) -Wl,-soname,$(SHARED).$(MAJOR) \
 	    -Wl,--whole-archive $(ARCHIVE) -Wl,--no-whole-archive
@@ -107,16 +111,16 @@ install: programs archive
 	@install -d $(INTO)/bin $(INTO)/include $(INTO)/lib/pkgconfig
 	@install -m 755 $(PROGRAMS:%=target/bin/%) $(wildcard target/bin/scoap_pads) $(INTO)/bin
 	@install -m 644 include/scoap.h $(INTO)/include
-	@install -m 644 $(ARCHIVE) $(INTO)/lib
+	@install -m 644 $(ARCHIVE) target/wasm/scoap.wasm target/wasm/scoap.js target/wasm/scoap.d.ts $(INTO)/lib
 	@install -m 755 target/install/$(SHARED).$(VERSION) $(INTO)/lib
 	@ln -sf $(SHARED).$(VERSION) $(INTO)/lib/$(SHARED).$(MAJOR)
 	@ln -sf $(SHARED).$(MAJOR) $(INTO)/lib/$(SHARED)
 	@install -m 644 target/install/scoap.pc $(INTO)/lib/pkgconfig
-	@echo 'installed in $(INTO): bin/, include/scoap.h, lib/libscoap_c.a, lib/$(SHARED), lib/pkgconfig/scoap.pc'
+	@echo 'installed in $(INTO): bin/, include/scoap.h, lib/libscoap_c.a, lib/$(SHARED), lib/scoap.wasm, lib/scoap.js, lib/scoap.d.ts, lib/pkgconfig/scoap.pc'
 	@test -e $(INTO)/bin/scoap_pads || echo 'without scoap_pads, which make pads builds'
 
 uninstall:
-	@rm -f $(PROGRAMS:%=$(INTO)/bin/%) $(INTO)/bin/scoap_pads $(INTO)/include/scoap.h $(INTO)/lib/libscoap_c.a \
+	@rm -f $(PROGRAMS:%=$(INTO)/bin/%) $(INTO)/bin/scoap_pads $(INTO)/include/scoap.h $(INTO)/lib/libscoap_c.a $(INTO)/lib/scoap.wasm $(INTO)/lib/scoap.js $(INTO)/lib/scoap.d.ts \
 	    $(INTO)/lib/$(SHARED) $(INTO)/lib/$(SHARED).* $(INTO)/lib/pkgconfig/scoap.pc
 
 # What its tests use beyond the toolchain; without it they say what they skip.

@@ -76,7 +76,7 @@ const cut = (s, n) => {
   return a.length <= n ? s : a.slice(0, Math.ceil((n - 1) / 2)).join("") + "…" + a.slice(a.length - Math.floor((n - 1) / 2)).join("");
 };
 const labels = new Map();
-function label(line, n = 34) {
+function label(line, n = innerWidth < 640 ? 20 : 34) {
   if (!labels.has(n)) labels.set(n, cutAll(n));
   return labels.get(n).get(line);
 }
@@ -109,7 +109,7 @@ const name = (line, n) => make("button", {class: "link", title: about(byLine.get
 
 // What is shown lives in the fragment, so that it can be sent, and gone back to. The lists are lines with dots between; one
 // that is not there is the one that the page was made with, and 'none' is an empty one.
-const columns = ["hardest", "line", "net", "kind", ...words, "gain", "touches", "marks", "feeds"];
+const columns = ["hardest", "line", "net", "marks", "kind", ...words, "gain", "touches", "feeds"];
 const choices = {
   only: {"": "all nets", pads: "pads", easier: "easier to see with the pad", protected: "protected", forbidden: "forbidden", carries: "carries a protected value",
     upstream: "upstream of a protected net", touches: "a pad touches protected nets", allowed: "a pad is allowed"},

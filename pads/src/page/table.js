@@ -67,28 +67,29 @@ function rowOf(item, at) {
   const {l} = item, x = live && chosenEffect(), after = x && x.after.get(l.l);
   const is = String(l.l) === state.line ? "on" : after ? (live.protected.has(l.l) ? "leaks" : "easier") : null;
   const row = make("tr", {"data-line": l.l, class: is, "aria-rowindex": at + 2, "aria-selected": is === "on" ? "true" : null, onclick: () => go({line: String(l.l), of: ""})},
-    cell("hardest", cost(l.h)), cell("line", String(l.l), l.s || null), cell("net", (item.within ? "  " : "") + label(l.l), about(l)), cell("kind", l.k === "register" ? "reg" : l.k));
+    cell("hardest", cost(l.h)), cell("line", String(l.l), l.s || null), cell("net", (item.within ? "  " : "") + label(l.l), about(l)),
+    cell("marks", make("span", null, ...marks(l).map(([kind, word, title]) => make("span", {class: "mark " + kind, title}, word)))), cell("kind", l.k === "register" ? "reg" : l.k));
   words.forEach((word, at) => {
     const td = cell(word, cost(l.c[at]));
     if (after && at > 3 && rank(after[at - 4]) < rank(l.c[at])) td.append(make("span", {class: "after"}, " → ", short(after[at - 4])));
     row.append(td);
   });
-  const t = touched(l), m = make("span", null, ...marks(l).map(([kind, word, title]) => make("span", {class: "mark " + kind, title}, word)));
+  const t = touched(l);
   row.append(cell("gain", l.may && live && l.g === null && !l.o && !done() ? "…" : gained(l), l.f ? `${l.f} nets freed of never or over` : null),
-    cell("touches", t < 0 ? "" : t ? make("span", {class: "never"}, String(t)) : "0"), cell("marks", m), cell("feeds", l.d ? label(l.d, 18) : "", fed(l) || null));
+    cell("touches", t < 0 ? "" : t ? make("span", {class: "never"}, String(t)) : "0"), cell("feeds", l.d ? label(l.d, 18) : "", fed(l) || null));
   return row;
 }
 const worst = costs => costs.reduce((a, b) => rank(b) > rank(a) ? b : a);
 function groupRow(item, at) {
   const {key, inside} = item, open = opened.has(key);
   const turn = () => { if (open) opened.delete(key); else opened.add(key); show(); };
+  const kinds = new Map(inside.flatMap(marks).map(m => [m[0], m]));
   const row = make("tr", {class: "folded", "data-group": key, "aria-rowindex": at + 2, "aria-expanded": String(open), onclick: turn},
     cell("hardest", cost(worst(inside.map(l => l.h)))), cell("line", ""),
-    cell("net", make("button", {class: "link", onclick: e => { e.stopPropagation(); turn(); }}, `${open ? "▾" : "▸"} ${cut(groupName(item), 30)}`), `${groupName(item)}: the worst of ${inside.length}`), cell("kind", "× " + inside.length));
+    cell("net", make("button", {class: "link", onclick: e => { e.stopPropagation(); turn(); }}, `${open ? "▾" : "▸"} ${cut(groupName(item), 30)}`), `${groupName(item)}: the worst of ${inside.length}`),
+    cell("marks", make("span", null, ...[...kinds.values()].map(([kind, word]) => make("span", {class: "mark " + kind}, kind === "upstream" ? "upstream" : word)))), cell("kind", "× " + inside.length));
   words.forEach((word, at) => row.append(cell(word, cost(worst(inside.map(l => l.c[at]))))));
-  const kinds = new Map(inside.flatMap(marks).map(m => [m[0], m]));
-  row.append(cell("gain", gained(inside.reduce((a, b) => value(b, "gain") > value(a, "gain") ? b : a))), cell("touches", String(Math.max(0, ...inside.map(touched)))),
-    cell("marks", make("span", null, ...[...kinds.values()].map(([kind, word]) => make("span", {class: "mark " + kind}, kind === "upstream" ? "upstream" : word)))), cell("feeds", ""));
+  row.append(cell("gain", gained(inside.reduce((a, b) => value(b, "gain") > value(a, "gain") ? b : a))), cell("touches", String(Math.max(0, ...inside.map(touched)))), cell("feeds", ""));
   return row;
 }
 // All rows of a short table; of a long one those in view and some around them.

@@ -20,6 +20,7 @@ mod netlist;
 mod plan;
 mod qualifies;
 pub mod random;
+pub mod record;
 pub mod refusal;
 mod report;
 pub mod shapes;

@@ -10,6 +10,8 @@
 //!
 //!     compare [SEED [PAIRS]]          another seed; another count of random pairs, and of the rest in proportion
 //!     compare --fuzz SECONDS [SEED]   random calls alone, for so many seconds
+//!     compare --record FILE EVERY [SEED [PAIRS]]   as the first, and every so-manieth call is written into the file, up to
+//!                                     16 MB: its slices before and after it, and its answer
 
 mod advice;
 #[path = "../../archive.rs"]
@@ -36,7 +38,19 @@ use extent::Extent;
 use std::process::ExitCode;
 
 fn main() -> ExitCode {
-    let words: Vec<String> = std::env::args().skip(1).collect();
+    let mut words: Vec<String> = std::env::args().skip(1).collect();
+    if words.first().is_some_and(|word| word == "--record") {
+        let every = words.get(2).and_then(|every| every.parse().ok());
+        let Some(every) = every else {
+            eprintln!("usage: compare --record FILE EVERY [SEED [PAIRS]]");
+            return ExitCode::FAILURE;
+        };
+        if let Err(error) = second::record::begin(&words[1], every, 16_000_000) {
+            eprintln!("{}: {error}", words[1]);
+            return ExitCode::FAILURE;
+        }
+        words.drain(..3);
+    }
     let asked = match &words[..] {
         [word, seconds, seed @ ..] if word == "--fuzz" && seed.len() < 2 => seconds
             .parse()
@@ -45,7 +59,7 @@ fn main() -> ExitCode {
         _ => Extent::of(&words).map(|extent| (extent, None)),
     };
     let Some((extent, seconds)) = asked else {
-        eprintln!("usage: compare [SEED [PAIRS]]\n       compare --fuzz SECONDS [SEED]");
+        eprintln!("usage: compare [SEED [PAIRS]]\n       compare --fuzz SECONDS [SEED]\n       compare --record FILE EVERY [SEED [PAIRS]]");
         return ExitCode::FAILURE;
     };
     println!("seed {:#x}", extent.seed);
@@ -53,6 +67,7 @@ fn main() -> ExitCode {
         Some(seconds) => fuzz::fuzz(seconds, extent),
         None => whole(extent),
     };
+    second::record::end();
     println!("{} passed, {} failed", all.passed, all.failed);
     if all.failed == 0 {
         ExitCode::SUCCESS
