@@ -31,7 +31,7 @@ Conditions = List (ℕ × Bool)
 abbrev Holds : Conditions → ℕ → Type 0
 Holds xs n = List·Memᴰ (n, true) xs
 
--- Listed in the numbers' order.
+-- In the order of the numbers.
 abbrev Ascends : Conditions → Type 0
 Ascends [] = Unit {0}
 Ascends (x ∷ xs) = Each (λ (y : ℕ × Bool). x .0 < y .0) xs × Ascends xs
