@@ -17,7 +17,7 @@ use Rattle.calculation.specs.declared.Advice.{Advice}
 use Rattle.calculation.specs.Advice.{allowed, allowedLines, leaves, largest, before, best, advice, rankOf, rankWords, noRank, lineRank, ranks}
 use Rattle.calculation.proofs.AdvisedLine.{allowed-said, allowed-free}
 use Rattle.advice_lines.specs.declared.Left.{Left}
-use Rattle.advice_lines.specs.Parts.{Barred, mayPad, leftOf, Stands, Considered, LineRanked, AllRanked}
+use Rattle.advice_lines.specs.Parts.{Barred, mayPad, leftOf, Stands, TrialsFit, Considered, LineRanked, AllRanked}
 use Rattle.advice_lines.proofs.Lines.{above, may-allowed}
 use Rattle.advice_lines.proofs.Ranks.{four, RanksLaid}
 
@@ -62,6 +62,11 @@ module _ {library netlist links numbers : List ℕ} {cells : List Cell} {ss : Li
           → LineRanked cells ss forbidden l count table after count
       unfolding lineRank noRank rankWords pick
       unranked count table after h = record { counts = rw (← is-allowed, t); lays = h ∙ rw (← is-allowed, t) }
+
+-- Where the array holds the numbers again, the next line may be tried.
+pub laid-still : {library netlist links numbers before after : List ℕ} {barred : List Bool} → after ≡ numbers → TrialsFit library netlist links numbers before barred
+    → TrialsFit library netlist links numbers after barred
+laid-still e f = record { cells = f .cells; statements = f .statements; forbidden = f .forbidden; stands = f .stands; laid = e; bars = f .bars }
 
 -- ---- the loops' ends
 

@@ -1,4 +1,5 @@
 pub mod Lines
 mod PadCosts
+mod Changes
 pub mod Ranks
 mod Candidate

@@ -15,7 +15,7 @@ use Rattle.sizes.specs.Places.{observingPlace}
 use Rattle.reading.specs.Choice.{pick}
 use Rattle.reading.proofs.Laws.{by-test}
 use Rattle.cost.specs.Cost.{most, over, never, isNever, isOver, _⊕_}
-use Rattle.plans.specs.Sweep.{at, lower}
+use Rattle.plans.specs.Sweep.{at, lower, Bounded}
 use Rattle.plans.proofs.Laws.{at-getD, lower-stores, settles-length}
 use Rattle.library_table.specs.Cells.{Cell}
 use Rattle.netlist_table.specs.Netlist.{Statement, mentioned, isOutput, linesWhere}
@@ -119,6 +119,10 @@ map-where p f g (suc n) first same =
     let rest = map-where p f g n (suc first) (λ l low high. same l (omega arith) (omega arith)) in
     by-test (p first) (λ t. rw t (ap₂ (λ (x : ℕ) (xs : List ℕ). x ∷ xs) (same first (omega arith) (omega arith)) rest)) (λ t. rw t rest)
 
+-- The numbers laid into an array of their size.
+pub laid-whole : (numbers before after : List ℕ) → length before ≡ Size.numbers → after ≡ numbers ++ drop Size.numbers before → after ≡ numbers
+laid-whole numbers before after size e = e ∙ rw (drop-of-length-le before (le-of-eq size)) (append-nil numbers)
+
 module _ {library netlist links numbers : List ℕ} {cells : List Cell} {ss : List Statement} (s : Stands library netlist links numbers cells ss) where
   analysed-long : length (analysed cells ss .numbers) ≡ Size.numbers
   analysed-long = numbers-length cells ss (s .holds .sound) (pricesOf ss) (own-figures (s .holds .sound))
@@ -126,9 +130,8 @@ module _ {library netlist links numbers : List ℕ} {cells : List Cell} {ss : Li
   pub stands-long : length numbers ≡ Size.numbers
   stands-long = ap length (s .stand) ∙ analysed-long
 
-  -- The numbers laid into an array of their size.
-  pub laid-whole : (before after : List ℕ) → length before ≡ Size.numbers → after ≡ numbers ++ drop Size.numbers before → after ≡ numbers
-  laid-whole before after size e = e ∙ rw (drop-of-length-le before (le-of-eq size)) (append-nil numbers)
+  pub stands-bounded : Bounded numbers
+  stands-bounded = rw (s .stand) (numbers-bounded cells ss (s .holds .sound) (pricesOf ss) (own-figures (s .holds .sound)))
 
   module _ (l : ℕ) (range : InRange l) {tried : List ℕ} (laid : tried ≡ numbers) where
     pub try-fits : TryFits library netlist links tried l
@@ -141,35 +144,36 @@ module _ {library netlist links numbers : List ℕ} {cells : List Cell} {ss : Li
                 holds = s .holds;
                 linked = s .linked;
                 size = ap length laid ∙ stands-long;
-                costs = rw (laid, s .stand) (numbers-bounded cells ss (s .holds .sound) (pricesOf ss) (own-figures (s .holds .sound)));
+                costs = rw laid stands-bounded;
               };
           rests = rw (laid, s .stand) (co-rests cells ss (s .holds .sound));
           range = range;
         }
 
-    module _ (said : mentioned l ss ≡ true) (free : isOutput l ss ≡ false) {zs : List ℕ} {count : ℕ} (t : PadTried cells ss l tried count zs) where
+    module _ {zs : List ℕ} {count : ℕ} (t : PadTried cells ss l tried count zs) where
       ran : PadTried cells ss l (analysed cells ss .numbers) count zs
       ran = rw (laid, s .stand) at t
 
-      long : length zs ≡ Size.numbers
-      long = settles-length lower lower-stores ran ∙ length-set (analysed cells ss .numbers) (node combinational (observe l)) 0 ∙ analysed-long
+      pub tried-long : length zs ≡ Size.numbers
+      tried-long = settles-length lower lower-stores ran ∙ length-set (analysed cells ss .numbers) (node combinational (observe l)) 0 ∙ analysed-long
 
-      cost-left : (m : ℕ) → InRange m → costAt zs m ≡ observedWith cells ss l m
-      cost-left m r =
-          let place : observingPlace 0 m ≡ node combinational (observe m) = unfold node in omega arith in
-          rw place
-          (sym (at-getD zs (node combinational (observe m)) 0 (rw long (node-inside combinational (observe m) r)))
-          ∙ tried-observed cells ss l (s .holds .sound) said free count zs ran m r)
+      module _ (said : mentioned l ss ≡ true) (free : isOutput l ss ≡ false) where
+        pub cost-left : (m : ℕ) → InRange m → costAt zs m ≡ observedWith cells ss l m
+        cost-left m r =
+            let place : observingPlace 0 m ≡ node combinational (observe m) = unfold node in omega arith in
+            rw place
+            (sym (at-getD zs (node combinational (observe m)) 0 (rw tried-long (node-inside combinational (observe m) r)))
+            ∙ tried-observed cells ss l (s .holds .sound) said free count zs ran m r)
 
-      pub left-leaves : (r : Left) → r ≡ leftOf (map (costAt zs) (mentionsHeld netlist)) → r ≡ leftOf (leaves cells ss l)
-      unfolding leaves InRange
-      left-leaves r e =
-          e
-          ∙ ap (λ (ls : List ℕ). leftOf (map (costAt zs) ls)) held
-          ∙ ap leftOf (map-where (λ m. mentioned m ss) (costAt zs) (observedWith cells ss l) Size.lines 1 (λ m low high. cost-left m (low, omega arith)))
-        where
-          held : mentionsHeld netlist ≡ linesWhere (λ m. mentioned m ss) Size.lines 1
-          held = rw (s .holds .statementsStand) (mentions-held ss (s .holds .past))
+        pub left-leaves : (r : Left) → r ≡ leftOf (map (costAt zs) (mentionsHeld netlist)) → r ≡ leftOf (leaves cells ss l)
+        unfolding leaves InRange
+        left-leaves r e =
+            e
+            ∙ ap (λ (ls : List ℕ). leftOf (map (costAt zs) ls)) held
+            ∙ ap leftOf (map-where (λ m. mentioned m ss) (costAt zs) (observedWith cells ss l) Size.lines 1 (λ m low high. cost-left m (low, omega arith)))
+          where
+            held : mentionsHeld netlist ≡ linesWhere (λ m. mentioned m ss) Size.lines 1
+            held = rw (s .holds .statementsStand) (mentions-held ss (s .holds .past))
 
 -- ---- behind the analysis
 

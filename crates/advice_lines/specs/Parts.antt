@@ -80,19 +80,26 @@ pub record Stands (library netlist links numbers : List ℕ) (cells : List Cell)
   pub linked : Links library netlist links
   pub stand : numbers ≡ analysed cells ss .numbers
 
--- One of the 1,000 lines may be tried.
-pub record TryLineFits (library netlist links numbers : List ℕ) (l : ℕ) : Type 0 where
+-- One of the 1,000 lines may be tried, in an array that holds the numbers.
+pub record TryLineFits (library netlist links numbers tried : List ℕ) (l : ℕ) : Type 0 where
   pub cells : List Cell
   pub statements : List Statement
   pub stands : Stands library netlist links numbers cells statements
+  pub laid : tried ≡ numbers
   pub range : InRange l
 
+-- What the trial comes to; the array holds the numbers again.
+pub record LineTried (cells : List Cell) (ss : List Statement) (l : ℕ) (numbers after : List ℕ) (said : Left) : Type 0 where
+  pub leave : said ≡ leftOf (leaves cells ss l)
+  pub back : after ≡ numbers
+
 -- Any line may be, with the lines that some list names barred.
-pub record TrialsFit (library netlist links numbers : List ℕ) (barred : List Bool) : Type 0 where
+pub record TrialsFit (library netlist links numbers tried : List ℕ) (barred : List Bool) : Type 0 where
   pub cells : List Cell
   pub statements : List Statement
   pub forbidden : List ℕ
   pub stands : Stands library netlist links numbers cells statements
+  pub laid : tried ≡ numbers
   pub bars : Barred forbidden barred
 
 -- ---- what the loops come to

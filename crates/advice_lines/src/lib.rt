@@ -2,8 +2,8 @@
 // K13.
 //
 // For the crates above: `advise_on` and `rank_on`, over the tables of an accepted library and netlist. A pad is tried by
-// `sweep_reruns::try_pad` from the numbers of one analysis, which `sweep_runs::hand_over` lays anew for each line.
-// specs/Parts.antt says what the parts ask and leave.
+// `sweep_reruns::try_pad` in a second array that holds the numbers of one analysis, and what it changed is put back by
+// `trial_back::put_back` (D264). specs/Parts.antt says what the parts ask and leave.
 use calculation::Advice;
 use cost::MOST;
 use cost::NEVER;
@@ -17,6 +17,7 @@ use sweep_runs::calculate;
 use sweep_runs::hand_over;
 use sweep_start::LOW;
 use sweep_sums::kinds::wide;
+use trial_back::put_back;
 ghost use mathlib.Core.Bool.{true, false};
 ghost use mathlib.Core.List.{List, [], map};
 ghost use mathlib.Core.Path.{_≡_};
@@ -33,7 +34,8 @@ ghost use Rattle.netlist_table.specs.Sound.{InRange};
 ghost use Rattle.calculation.specs.Advice.{leaves, before, advice, rankWords};
 ghost use Rattle.calculation.specs.Stored.{Holds};
 ghost use Rattle.advice_lines.specs.Parts.{Barred, Bars, mayPad, costAt, leftOf, leftWith};
-ghost use Rattle.advice_lines.specs.Parts.{Holding, Stands, TryLineFits, TrialsFit};
+ghost use Rattle.trial_back.specs.Back.{BackFits, BehindOf, Changed};
+ghost use Rattle.advice_lines.specs.Parts.{Holding, Stands, TryLineFits, LineTried, TrialsFit};
 ghost use Rattle.advice_lines.specs.Parts.{Considered, LineRanked, AllRanked};
 
 // ---- which lines may be padded
@@ -173,23 +175,43 @@ fn left_by(netlist: &[u32], numbers: &[u32; sizes::NUMBERS]) -> Left
     left
 }
 
-// What a pad on a line leaves, tried from the numbers of the analysis.
+// Puts back what a trial on a line changed; where the walk ends early, the numbers are laid anew.
+fn lay_back(
+    netlist: &[u32],
+    links: &[sizes::Link; sizes::LINKS],
+    numbers: &[u32; sizes::NUMBERS],
+    tried: &mut [u32; sizes::NUMBERS],
+    line: usize,
+)
+    requires { ⌜ BackFits (now netlist) (now links) (now numbers) (now tried) line ⌝ }
+    ensures { λ _. ⌜ (Changed (now (numbers .entry)) (now (tried .entry))
+        (BehindOf (now (netlist .entry)) (now (links .entry))) line → now (tried .exit) ≡ now (numbers .entry)) ⌝ }
+{
+    if put_back(netlist, links, numbers, tried, line) {
+        return;
+    }
+    hand_over(numbers, tried);
+}
+
+// What a pad on a line leaves, tried in an array that holds the numbers of the analysis, and holds them again behind it.
 fn try_line(
     library: &[u32],
     netlist: &[u32],
     links: &[sizes::Link; sizes::LINKS],
     numbers: &[u32; sizes::NUMBERS],
+    tried: &mut [u32; sizes::NUMBERS],
     l: u32,
 ) -> Left
-    requires { ⌜ TryLineFits (now library) (now netlist) (now links) (now numbers) l ⌝ }
+    requires { ⌜ TryLineFits (now library) (now netlist) (now links) (now numbers) (now tried) l ⌝ }
     ensures { λ r. ⌜ ((cells : List Cell) (ss : List Netlist.Statement)
         → Stands (now (library .entry)) (now (netlist .entry)) (now (links .entry)) (now (numbers .entry)) cells ss
-        → Netlist.mentioned l ss ≡ true → Netlist.isOutput l ss ≡ false → r ≡ leftOf (leaves cells ss l)) ⌝ }
+        → Netlist.mentioned l ss ≡ true → Netlist.isOutput l ss ≡ false
+        → LineTried cells ss l (now (numbers .entry)) (now (tried .exit)) r) ⌝ }
 {
-    let mut tried = [0u32; sizes::NUMBERS];
-    hand_over(numbers, &mut tried);
-    let _count = try_pad(library, netlist, links, &mut tried, l);
-    left_by(netlist, &tried)
+    let _count = try_pad(library, netlist, links, tried, l);
+    let left = left_by(netlist, tried);
+    lay_back(netlist, links, numbers, tried, wide(l));
+    left
 }
 
 // ---- the advice
@@ -210,17 +232,19 @@ fn consider(
     netlist: &[u32],
     links: &[sizes::Link; sizes::LINKS],
     numbers: &[u32; sizes::NUMBERS],
+    tried: &mut [u32; sizes::NUMBERS],
     barred: &[bool; sizes::LINE_PLACES],
     found: Advice,
     l: u32,
 ) -> Advice
-    requires { ⌜ TrialsFit (now library) (now netlist) (now links) (now numbers) (now barred) × InRange l ⌝ }
+    requires { ⌜ TrialsFit (now library) (now netlist) (now links) (now numbers) (now tried) (now barred) × InRange l ⌝ }
     ensures { λ r. ⌜ ((cells : List Cell) (ss : List Netlist.Statement) (forbidden : List ℕ)
         → Stands (now (library .entry)) (now (netlist .entry)) (now (links .entry)) (now (numbers .entry)) cells ss
-        → Barred forbidden (now (barred .entry)) → Considered cells ss forbidden l found r) ⌝ }
+        → Barred forbidden (now (barred .entry)) → Considered cells ss forbidden l found r)
+        × (now (tried .exit) ≡ now (numbers .entry)) ⌝ }
 {
     if may_pad(netlist, barred, l) {
-        let left = try_line(library, netlist, links, numbers, l);
+        let left = try_line(library, netlist, links, numbers, tried, l);
         better(found, l, left.largest)
     } else {
         found
@@ -233,9 +257,10 @@ fn choose(
     netlist: &[u32],
     links: &[sizes::Link; sizes::LINKS],
     numbers: &[u32; sizes::NUMBERS],
+    tried: &mut [u32; sizes::NUMBERS],
     barred: &[bool; sizes::LINE_PLACES],
 ) -> Advice
-    requires { ⌜ TrialsFit (now library) (now netlist) (now links) (now numbers) (now barred) ⌝ }
+    requires { ⌜ TrialsFit (now library) (now netlist) (now links) (now numbers) (now tried) (now barred) ⌝ }
     ensures { λ r. ⌜ ((cells : List Cell) (ss : List Netlist.Statement) (forbidden : List ℕ)
         → Stands (now (library .entry)) (now (netlist .entry)) (now (links .entry)) (now (numbers .entry)) cells ss
         → Barred forbidden (now (barred .entry)) → r ≡ advice cells ss forbidden) ⌝ }
@@ -243,7 +268,7 @@ fn choose(
     let mut found = Advice::NoneAllowed;
     let mut l: u32 = sizes::LINES as u32;
     while l != 0 {
-        found = consider(library, netlist, links, numbers, barred, found, l);
+        found = consider(library, netlist, links, numbers, tried, barred, found, l);
         l -= 1;
     }
     found
@@ -270,20 +295,22 @@ fn rank_line(
     netlist: &[u32],
     links: &[sizes::Link; sizes::LINKS],
     numbers: &[u32; sizes::NUMBERS],
+    tried: &mut [u32; sizes::NUMBERS],
     barred: &[bool; sizes::LINE_PLACES],
     table: &mut [u32],
     count: usize,
     l: u32,
 ) -> usize
-    requires { ⌜ TrialsFit (now library) (now netlist) (now links) (now numbers) (now barred) × InRange l
+    requires { ⌜ TrialsFit (now library) (now netlist) (now links) (now numbers) (now tried) (now barred) × InRange l
         × (Size.ranks ≤ length (now table)) × (count < Size.lines) ⌝ }
     ensures { λ r. ⌜ ((cells : List Cell) (ss : List Netlist.Statement) (forbidden : List ℕ)
         → Stands (now (library .entry)) (now (netlist .entry)) (now (links .entry)) (now (numbers .entry)) cells ss
         → Barred forbidden (now (barred .entry))
-        → LineRanked cells ss forbidden l count (now (table .entry)) (now (table .exit)) r) ⌝ }
+        → LineRanked cells ss forbidden l count (now (table .entry)) (now (table .exit)) r)
+        × (now (tried .exit) ≡ now (numbers .entry)) ⌝ }
 {
     if may_pad(netlist, barred, l) {
-        let left = try_line(library, netlist, links, numbers, l);
+        let left = try_line(library, netlist, links, numbers, tried, l);
         put_rank(table, l, left.nevers, left.overs, left.figure, left.total);
         count + 1
     } else {
@@ -298,10 +325,11 @@ fn rank_lines(
     netlist: &[u32],
     links: &[sizes::Link; sizes::LINKS],
     numbers: &[u32; sizes::NUMBERS],
+    tried: &mut [u32; sizes::NUMBERS],
     barred: &[bool; sizes::LINE_PLACES],
     table: &mut [u32],
 ) -> usize
-    requires { ⌜ TrialsFit (now library) (now netlist) (now links) (now numbers) (now barred)
+    requires { ⌜ TrialsFit (now library) (now netlist) (now links) (now numbers) (now tried) (now barred)
         × (Size.ranks ≤ length (now table)) ⌝ }
     ensures { λ r. ⌜ ((cells : List Cell) (ss : List Netlist.Statement) (forbidden : List ℕ)
         → Stands (now (library .entry)) (now (netlist .entry)) (now (links .entry)) (now (numbers .entry)) cells ss
@@ -311,7 +339,17 @@ fn rank_lines(
     let mut count = 0;
     let mut l: u32 = sizes::LINES as u32;
     while l != 0 {
-        count = rank_line(library, netlist, links, numbers, barred, table, count, l);
+        count = rank_line(
+            library,
+            netlist,
+            links,
+            numbers,
+            tried,
+            barred,
+            table,
+            count,
+            l,
+        );
         l -= 1;
     }
     count
@@ -348,7 +386,9 @@ pub fn advise_on(library: &[u32], netlist: &[u32], forbidden: &[u32]) -> Advice
     analyse(library, netlist, &mut links, &mut numbers);
     let mut barred = [false; sizes::LINE_PLACES];
     bar_all(&mut barred, forbidden);
-    choose(library, netlist, &links, &numbers, &barred)
+    let mut tried = [0u32; sizes::NUMBERS];
+    hand_over(&numbers, &mut tried);
+    choose(library, netlist, &links, &numbers, &mut tried, &barred)
 }
 
 // The ranks over them; how many lines are allowed.
@@ -363,5 +403,15 @@ pub fn rank_on(library: &[u32], netlist: &[u32], forbidden: &[u32], table: &mut 
     analyse(library, netlist, &mut links, &mut numbers);
     let mut barred = [false; sizes::LINE_PLACES];
     bar_all(&mut barred, forbidden);
-    rank_lines(library, netlist, &links, &numbers, &barred, table)
+    let mut tried = [0u32; sizes::NUMBERS];
+    hand_over(&numbers, &mut tried);
+    rank_lines(
+        library,
+        netlist,
+        &links,
+        &numbers,
+        &mut tried,
+        &barred,
+        table,
+    )
 }

@@ -42,7 +42,7 @@ use Rattle.calculation.proofs.Budget.{value-listed, value-of, leaf-node, leaf-v
 use Rattle.calculation.proofs.Sweeps.{apiece-once}
 use Rattle.calculation.proofs.Places.{Placed, node-injective, start-at}
 use Rattle.calculation.proofs.Prices.{own-figures}
-use Rattle.calculation.proofs.Visits.{getD-listed, Has, Visiting, visiting-node, setting-listed}
+use Rattle.calculation.proofs.Visits.{getD-listed, listed-at, Has, Visiting, visiting-node, setting-listed}
 use Rattle.calculation.proofs.Acceptance.{gate-cell, purpose-placed}
 use Rattle.calculation.proofs.Needs.{setting-reads}
 use Rattle.calculation.proofs.Bounds.{all-from, all-listed, gates-apiece}
@@ -112,12 +112,6 @@ module _ (cells : List Cell) (ss : List Statement) (sound : BothSound cells ss) 
 
 leaf-apart : (i j : ℕ) → (i ≡ j → ⊥) → leafPlace i ≡ leafPlace j → ⊥
 leaf-apart i j d e = d (omega arith)
-
-pub listed-at : {A : Type 0} (d x : A) (xs : List A) → List·Memᴰ x xs → (i : ℕ) × (i < length xs) × (getD xs i d ≡ x)
-listed-at d x (y ∷ xs) (List·Memᴰ·head e) = (0, omega arith, sym e)
-listed-at d x (y ∷ xs) (List·Memᴰ·tail m) =
-    let t : (i : ℕ) × (i < length xs) × (getD xs i d ≡ x) = listed-at d x xs m in
-    (suc (t .0), omega (arith, t .1), t .2)
 
 -- A search below a bound.
 pub search-below : (P : ℕ → Type 0) → ((g : ℕ) → Dec (P g)) → (n : ℕ) → ((g : ℕ) × (g < n) × P g) ⊎ ((g : ℕ) → g < n → P g → ⊥)

@@ -34,7 +34,7 @@ use Rattle.calculation.specs.Stored.{Holds}
 use Rattle.calculation.proofs.Budget.{leaf-value, leaf-placed}
 use Rattle.calculation.proofs.Places.{Placed, node-injective, start-length, start-bounded}
 use Rattle.calculation.proofs.Prices.{own-figures}
-use Rattle.calculation.proofs.Visits.{Has, Visiting, visiting-node}
+use Rattle.calculation.proofs.Visits.{listed-at, Has, Visiting, visiting-node}
 use Rattle.calculation.proofs.Acceptance.{purpose-placed}
 use Rattle.calculation.proofs.Bounds.{all-from}
 use Rattle.calculation.proofs.PlansAlike.{start-first}
@@ -43,7 +43,7 @@ use Rattle.sweep_runs.proofs.Bridge.{start-is}
 use Rattle.budget_queue.specs.Queue.{costAt, Queue, Empty, Put}
 use Rattle.budget_run.specs.Steps.{LeafAmong, Stale, Fresh, AnyGate}
 use Rattle.budget_run.specs.Queued.{leafBid, Matches, PricesFit, Priced, Made, Stepped, RanWithin}
-use Rattle.budget_run.proofs.Bids.{listed-at, search-below}
+use Rattle.budget_run.proofs.Bids.{search-below}
 use Rattle.budget_run.proofs.Step.{held-bids}
 
 abbrev none : List ℕ

@@ -50,6 +50,12 @@ getD-listed [] i d h = absurd (omega arith)
 getD-listed (x ∷ xs) zero d h = List·Memᴰ·head refl
 getD-listed (x ∷ xs) (suc i) d h = List·Memᴰ·tail (getD-listed xs i d (omega arith))
 
+pub listed-at : {A : Type 0} (d x : A) (xs : List A) → List·Memᴰ x xs → (i : ℕ) × (i < length xs) × (getD xs i d ≡ x)
+listed-at d x (y ∷ xs) (List·Memᴰ·head e) = (0, omega arith, sym e)
+listed-at d x (y ∷ xs) (List·Memᴰ·tail m) =
+    let t : (i : ℕ) × (i < length xs) × (getD xs i d ≡ x) = listed-at d x xs m in
+    (suc (t .0), omega (arith, t .1), t .2)
+
 -- ---- the roles that a cell has: those of CC and SC, those of CO and SO, and all
 
 abbrev pub Sets : Cell → Role → Type 0

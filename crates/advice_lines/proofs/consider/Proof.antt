@@ -11,22 +11,32 @@ use Rattle.advice_lines.proofs.consider.Tie as tie
 abbrev began : tie.After-may-pad → tie.Start
 began c = c .before .before .before
 
+abbrev asked : tie.After-try-line → tie.Then1
+asked c = c .before .before
+
 returns : tie.Need-returns
-returns c cells ss forbidden s b =
+returns c =
     let t = c .before in
-    let i = t .before in
+    let i = asked t in
     let m = i .before in
     let a = began m .args in
-    let range = began m .pre .1 in
-    considered s b (a .l) range (m .may-pad .ensures) (i .if1 .taken) (t .try-line .result)
-    (t .try-line .ensures cells ss s (may-said s b (a .l) range (m .may-pad .ensures) (i .if1 .taken)) (may-free s b (a .l) range (m .may-pad .ensures) (i .if1 .taken)))
-    (a .found) (c .better .result) (c .better .ensures)
+    let p = began m .pre .0 in
+    let range = began m .pre .1 in (
+      λ cells ss forbidden s b.
+          considered s b (a .l) range (m .may-pad .ensures) (i .if1 .taken) (t .try-line .result)
+          (t .try-line .ensures cells ss s (may-said s b (a .l) range (m .may-pad .ensures) (i .if1 .taken)) (may-free s b (a .l) range (m .may-pad .ensures) (i .if1 .taken)) .leave)
+          (a .found) (c .better .result) (c .better .ensures),
+      t .try-line .ensures (p .cells) (p .statements) (p .stands) (may-said (p .stands) (p .bars) (a .l) range (m .may-pad .ensures) (i .if1 .taken))
+          (may-free (p .stands) (p .bars) (a .l) range (m .may-pad .ensures) (i .if1 .taken)) .back,
+    )
 
 returns-2 : tie.Need-returns-2
-returns-2 c cells ss forbidden s b =
+returns-2 c =
     let m = c .before in
-    let a = began m .args in
-    passed s b (a .l) (began m .pre .1) (m .may-pad .ensures) (c .if1 .left) (a .found)
+    let a = began m .args in (
+      λ cells ss forbidden s b. passed s b (a .l) (began m .pre .1) (m .may-pad .ensures) (c .if1 .left) (a .found),
+      began m .pre .0 .laid,
+    )
 
 pub consider-spec : {M : Type 1} → statement M
 consider-spec =
@@ -34,8 +44,8 @@ consider-spec =
     (tie.spec
     (λ c κs. let p = c .before .before .pre in (line-most (p .1), room (p .0 .stands .holds), p .0 .bars .size))
     (λ c κs.
-    let p = began (c .before) .pre in
-    record { cells = p .0 .cells; statements = p .0 .statements; stands = p .0 .stands; range = p .1 })
+    let p = began (c .before .before) .pre in
+    record { cells = p .0 .cells; statements = p .0 .statements; stands = p .0 .stands; laid = p .0 .laid; range = p .1 })
     (λ c κs. search needs)
     returns
     returns-2)
