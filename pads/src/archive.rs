@@ -88,6 +88,10 @@ const STANDING_NUMBERS: usize = 5 + MOST_LINES;
 /// Numbers of an answer to an ask: CO and SO of line 1, of line 2, ..
 const OBSERVED: usize = 2 * MOST_LINES;
 const REFUSED: u64 = 1_000_000;
+/// Stack that a thread has for the calls, in bytes: what the header says of the deepest, scoap_plan, and as much as a
+/// program usually has for this program's own.
+pub const STACK: usize = PLAN_STACK + (8 << 20);
+const PLAN_STACK: usize = (1 << 20) * MOST_LINES.div_ceil(1_000);
 
 #[derive(Clone, Copy, Debug, PartialEq, Eq)]
 pub struct Refusal {
@@ -224,8 +228,15 @@ pub fn stand(lib: &[u8], net: &[u8]) -> Result<Standing, Refusal> {
     Ok(Standing { table, lines: report.lines().collect() })
 }
 
-/// What a pad on a line would leave, and the count of pads placed so far, which with the line is the ticket.
-pub fn ask(lib: &[u8], net: &[u8], standing: &Standing, line: usize) -> Result<(u64, Numbers), Refusal> {
+/// What a pad on a line would leave, and the count of pads placed so far, which with the line is the ticket. `before` are
+/// the standing table's numbers.
+pub fn ask(
+    lib: &[u8],
+    net: &[u8],
+    standing: &Standing,
+    before: &Numbers,
+    line: usize,
+) -> Result<(u64, Numbers), Refusal> {
     let mut seen = vec![0; OBSERVED];
     // Each slice is valid for its length, and no two overlap.
     let answer = unsafe {
@@ -242,7 +253,6 @@ pub fn ask(lib: &[u8], net: &[u8], standing: &Standing, line: usize) -> Result<(
         )
     };
     let count = accepted(answer)? as u64;
-    let before = standing.numbers();
     let numbers = standing.numbers_of(|line| {
         let [cc0, cc1, sc0, sc1, ..] = *before.of(line);
         let place = 2 * (line - 1);
@@ -408,13 +418,14 @@ mod tests {
         let mut standing = stand(&lib, net).unwrap();
         assert_eq!(standing.numbers(), report(&lib, net).unwrap());
         let fresh = standing.clone();
-        let (count, asked) = ask(&lib, net, &standing, 4).unwrap();
+        let before = standing.numbers();
+        let (count, asked) = ask(&lib, net, &standing, &before, 4).unwrap();
         assert_eq!((count, &standing), (0, &fresh));
         let co: Vec<Cost> = [1, 2, 3, 4].map(|line| asked.of(line)[4]).to_vec();
         assert_eq!(co, [3, 3, 0, 0].map(Cost::Figure));
         let refused = |number| Err(Refusal { number, line: 0 });
         for line in [0, 3, 5, 1_001] {
-            assert_eq!(ask(&lib, net, &standing, line).map(|_| ()), refused(23), "line {line}");
+            assert_eq!(ask(&lib, net, &standing, &before, line).map(|_| ()), refused(23), "line {line}");
         }
         commit(&lib, net, &mut standing, 4, count).unwrap();
         assert_eq!((standing.count(), standing.numbers()), (1, asked));
@@ -423,6 +434,12 @@ mod tests {
         assert_eq!(commit(&lib, net, &mut standing, 4, 1), refused(23));
         assert_eq!(standing, placed);
         assert_eq!(stand(&lib, b"?\n").unwrap_err(), Refusal { number: 10, line: 1 });
+    }
+
+    #[test]
+    fn the_stack_is_the_header_s() {
+        let header = include_str!("../../include/scoap.h");
+        assert!(header.contains(&format!("#define SCOAP_PLAN_STACK {PLAN_STACK}u\n")));
     }
 
     #[test]

@@ -1,11 +1,25 @@
 //! The program: runs a command, prints what it answers on standard output and all messages on standard error.
 
+use scoap_pads::archive::STACK;
 use scoap_pads::commands;
 use scoap_pads::messages::{printable, Messages};
 use scoap_pads::text::{self, Stop};
 use std::process::ExitCode;
 
+/// All is done in a thread with a stack that is large enough for the calls, whatever the shell gives.
 fn main() -> ExitCode {
+    match std::thread::Builder::new().stack_size(STACK).spawn(run).map(|thread| thread.join()) {
+        Ok(Ok(status)) => status,
+        // It has said why it panicked.
+        Ok(Err(_)) => ExitCode::from(101),
+        Err(e) => {
+            eprintln!("scoap_pads: no thread with {} MB of stack: {e}", STACK >> 20);
+            ExitCode::from(2)
+        }
+    }
+}
+
+fn run() -> ExitCode {
     let given: Vec<String> = std::env::args_os().skip(1).map(|word| word.to_string_lossy().into_owned()).collect();
     let mut messages = Messages::new();
     let answer = commands::run(&given, &mut messages);

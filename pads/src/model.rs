@@ -268,7 +268,7 @@ impl Model {
 
     /// What a pad on a line would leave, and its ticket: the count of pads placed so far. Nothing changes.
     pub fn ask(&self, line: usize) -> Result<(u64, Numbers), Refusal> {
-        archive::ask(&self.lib, &self.net, &self.standing, line)
+        archive::ask(&self.lib, &self.net, &self.standing, &self.numbers, line)
     }
 
     /// Places a pad by its ticket: the line is an output from now on.

@@ -1,12 +1,13 @@
 //! What pads would change, as the archive answers when it is asked for a pad, and the advice drawn from that. A pad is an
 //! output: it changes CO and SO alone.
 
-use crate::archive::{refusal_told, Numbers, Refusal, Six};
+use crate::archive::{refusal_told, Numbers, Refusal, Six, STACK};
 use crate::cost::Cost;
 use crate::model::{Driver, Model};
 use crate::names::{LineKind, OWN_CLOCK};
 use crate::upstream::{self, Upstream};
 use std::collections::HashMap;
+use std::sync::atomic::{AtomicUsize, Ordering};
 use std::time::{Duration, Instant};
 
 /// How well the ranked lines are seen. Ordered: lines that are never seen, over, the largest figure, the sum of figures.
@@ -19,8 +20,13 @@ pub struct Measure {
 }
 
 pub fn measure(model: &Model, numbers: &Numbers) -> Measure {
+    let ranked: Vec<usize> = model.lines().filter(|&line| model.is_ranked(line)).collect();
+    measured(&ranked, numbers)
+}
+
+fn measured(ranked: &[usize], numbers: &Numbers) -> Measure {
     let mut measure = Measure { never: 0, over: 0, largest: 0, sum: 0 };
-    for line in model.lines().filter(|&line| model.is_ranked(line)) {
+    for &line in ranked {
         match numbers.of(line)[4] {
             Cost::Never => measure.never += 1,
             Cost::Over => measure.over += 1,
@@ -72,11 +78,11 @@ pub fn is_easier(was: &Six, is: &Six) -> bool {
 
 /// The effect of a pad on a line: what it leaves, by the count of pads when it was asked for, and the protected lines that
 /// it touches.
-fn effect(model: &Model, line: usize, (count, after): (u64, Numbers), touched: Vec<usize>) -> Effect {
+fn effect(model: &Model, ranked: &[usize], line: usize, (count, after): (u64, Numbers), touched: Vec<usize>) -> Effect {
     let mut freed = 0;
     let mut gain = 0;
     let mut easier = Vec::new();
-    for other in model.lines().filter(|&other| model.is_ranked(other)) {
+    for &other in ranked {
         let (was, is) = (model.numbers.of(other), after.of(other));
         let (free, figures) = fall(was[4], is[4]);
         freed += usize::from(free);
@@ -85,7 +91,7 @@ fn effect(model: &Model, line: usize, (count, after): (u64, Numbers), touched: V
             easier.push((other, is[4]));
         }
     }
-    Effect { line, count, after: measure(model, &after), freed, gain, easier, touched }
+    Effect { line, count, after: measured(ranked, &after), freed, gain, easier, touched }
 }
 
 /// Whether a line may get a pad: it is no output and has none yet, a gate or a register drives it, and something reads it,
@@ -163,18 +169,40 @@ impl<'p> Touching<'p> {
     }
 }
 
-/// The effect of a pad on each of these lines alone, beside those that are placed already.
+/// The effect of a pad on each of these lines alone, beside those that are placed already; by a thread for each processor.
 pub fn effects(model: &Model, lines: &[usize], privacy: &Privacy) -> Result<Vec<Effect>, String> {
-    let mut progress = Progress::new("pads tried");
     let touching = Touching::new(model, privacy)?;
-    let mut effects = Vec::with_capacity(lines.len());
-    for (at, &line) in lines.iter().enumerate() {
+    let ranked: Vec<usize> = model.lines().filter(|&line| model.is_ranked(line)).collect();
+    let one = |line: usize| -> Result<Effect, String> {
         let (count, after) = model.ask(line).map_err(refused)?;
         let touched = touching.by(model, &[line], &after)?;
-        effects.push(effect(model, line, (count, after), touched));
-        progress.tell(at + 1, lines.len());
-    }
-    Ok(effects)
+        Ok(effect(model, &ranked, line, (count, after), touched))
+    };
+    let next = AtomicUsize::new(0);
+    let work = |mut progress: Option<Progress>| {
+        let mut done = Vec::new();
+        loop {
+            let at = next.fetch_add(1, Ordering::Relaxed);
+            let Some(&line) = lines.get(at) else { return done };
+            done.push((at, one(line)));
+            if let Some(progress) = &mut progress {
+                progress.tell(at + 1, lines.len());
+            }
+        }
+    };
+    let helpers = std::thread::available_parallelism().map_or(1, usize::from).min(lines.len()).saturating_sub(1);
+    let mut done = std::thread::scope(|scope| {
+        // A thread that cannot be had leaves its work to the others.
+        let spawn = |_| std::thread::Builder::new().stack_size(STACK).spawn_scoped(scope, || work(None)).ok();
+        let helpers: Vec<_> = (0..helpers).filter_map(spawn).collect();
+        let mut done = work(Some(Progress::new("pads tried")));
+        for helper in helpers {
+            done.extend(helper.join().expect("a thread that ends"));
+        }
+        done
+    });
+    done.sort_by_key(|(at, _)| *at);
+    done.into_iter().map(|(_, effect)| effect).collect()
 }
 
 /// The effect of a pad on each line that may get one, by line.
