@@ -3,6 +3,7 @@
 //! the call and as it was after it, and the answer. What is lent is a list of `b` bytes, `u` numbers of four bytes, each
 //! with its length in eight bytes, and `s` single numbers; all numbers begin with their lowest byte.
 
+use std::collections::HashMap;
 use std::fs::File;
 use std::io::{self, BufWriter, Write};
 use std::sync::atomic::{AtomicBool, Ordering};
@@ -12,7 +13,9 @@ struct Record {
     out: BufWriter<File>,
     every: u64,
     calls: u64,
-    left: usize,
+    /// How many bytes each call may still have, by its name.
+    left: HashMap<String, usize>,
+    most: usize,
 }
 
 static ON: AtomicBool = AtomicBool::new(false);
@@ -46,14 +49,15 @@ impl Given for u64 {
     }
 }
 
-/// Begins a record: of every so-manieth call, as long as all of them together have no more than so many bytes.
+/// Begins a record: of every so-manieth call, as long as those of one name have no more than so many bytes together.
 pub fn begin(path: &str, every: u64, most: usize) -> io::Result<()> {
     let out = BufWriter::new(File::create(path)?);
     *RECORD.lock().unwrap() = Some(Record {
         out,
         every: every.max(1),
         calls: 0,
-        left: most,
+        left: HashMap::new(),
+        most,
     });
     ON.store(true, Ordering::Relaxed);
     Ok(())
@@ -77,10 +81,11 @@ pub fn write(name: &str, before: &[u8], after: &[u8], answer: u64) {
         return;
     };
     let bytes = 2 * before.len() + name.len() + 13;
-    if before.len() != after.len() || bytes > record.left {
+    let left = record.left.entry(name.to_string()).or_insert(record.most);
+    if before.len() != after.len() || bytes > *left {
         return;
     }
-    record.left -= bytes;
+    *left -= bytes;
     let mut all = vec![name.len() as u8];
     all.extend(name.as_bytes());
     all.extend((before.len() as u32).to_le_bytes());

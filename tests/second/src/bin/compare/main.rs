@@ -11,7 +11,7 @@
 //!     compare [SEED [PAIRS]]          another seed; another count of random pairs, and of the rest in proportion
 //!     compare --fuzz SECONDS [SEED]   random calls alone, for so many seconds
 //!     compare --record FILE EVERY [SEED [PAIRS]]   as the first, and every so-manieth call is written into the file, up to
-//!                                     16 MB: its slices before and after it, and its answer
+//!                                     1.2 MB of each name: its slices before and after it, and its answer
 
 mod advice;
 #[path = "../../archive.rs"]
@@ -45,7 +45,7 @@ fn main() -> ExitCode {
             eprintln!("usage: compare --record FILE EVERY [SEED [PAIRS]]");
             return ExitCode::FAILURE;
         };
-        if let Err(error) = second::record::begin(&words[1], every, 16_000_000) {
+        if let Err(error) = second::record::begin(&words[1], every, 1_200_000) {
             eprintln!("{}: {error}", words[1]);
             return ExitCode::FAILURE;
         }
