@@ -460,6 +460,9 @@ fn pad(args: &Args, messages: &mut Messages) -> Result<Done, Stop> {
         for told in privacy.told(&model, line) {
             let _ = writeln!(text, "{}: {told}", model.net_name(line));
         }
+        if privacy.ruled_out(line) {
+            let _ = writeln!(text, "{}: ruled out, no pad is advised here", model.net_name(line));
+        }
     }
     let mut changed: Vec<usize> =
         model.lines().filter(|&line| pads::is_easier(model.numbers.of(line), after.of(line))).collect();

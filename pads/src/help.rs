@@ -69,10 +69,11 @@ term, N steps in all (4 if not said).
 ";
 
 pub const PAD: &str = "\
-scoap_pads pad SOURCE NET.. [--protect FILE]
+scoap_pads pad SOURCE NET.. [--protect FILE] [--protect-depth N]
 
 Numbers before and after, if these nets get pads together: which nets become easier to see, and by how much. With
---protect it says which of them are protected, which pads carry a protected value, and how far upstream the others are.
+--protect it says which of them are protected, which pads carry a protected value, how far upstream the others are, and
+which of them 'advise' would rule out, by --protect-depth N as it has it.
 A pad is an output: it changes CO and SO alone.
 ";
 
