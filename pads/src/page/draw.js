@@ -101,8 +101,8 @@ function near(l) {
       onkeydown: k => { if (k.key === "Enter" || k.key === " ") { k.preventDefault(); k.stopPropagation(); pick(); } }},
       make("title", {svg: 1}, `${about(n)}; ${told}`),
       make("rect", {svg: 1, x, y, width: wide, height: tall, rx: 3, style: `fill: color-mix(in oklab, var(--warm) ${Math.round(100 * heat)}%, var(--cool))`}),
-      make("text", {svg: 1, x: x + 6, y: y + 15}, label(line, 21)), make("text", {svg: 1, class: "soft", x: x + 6, y: y + 30}, `${n.t ? n.t.slice(0, 9) + "  " : ""}${told}`.slice(0, 30)),
+      make("text", {svg: 1, x: x + 6, y: y + 15}, label(line, 19)), make("text", {svg: 1, class: "soft", x: x + 6, y: y + 30}, `${n.t ? n.t.slice(0, 9) + "  " : ""}${told}`.slice(0, 30)),
       n.o ? make("rect", {svg: 1, class: pad ? "pad" : null, x: x + wide - 12, y: y + 4, width: 8, height: 8, style: pad ? null : "fill: none; stroke: var(--ink)"}) : null));
   }
-  return make("div", {id: "near"}, svg, more ? make("p", {class: "soft"}, `and ${many(more, "net")} more`) : null);
+  return make("div", {id: "near", "data-at": Math.max(0, box(l.l)[0] - 150)}, svg, more ? make("p", {class: "soft"}, `and ${many(more, "net")} more`) : null);
 }

@@ -20,6 +20,8 @@ function panel() {
     make("h3", null, "Around it"), near(l)];
   if (l.v.length) parts.push(make("h3", null, "Read by"), make("ul", {class: "tree"}, ...l.v.slice(0, 40).map(line => make("li", null, name(line, 48)))));
   p.replaceChildren(...parts.filter(x => x));
+  // The chosen net is in view.
+  $("near").scrollLeft = Number($("near").dataset.at);
 }
 const gainTold = (gain, freed, easier) => `CO of all nets falls by ${group(gain)}` + (freed ? `, ${freed} nets are freed of never or over` : "") + `; ${many(easier, "net")} easier to see`;
 function padPart(l) {
