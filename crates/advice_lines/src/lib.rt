@@ -3,7 +3,7 @@
 //
 // For the crates above: `advise_on` and `rank_on`, over the tables of an accepted library and netlist. A pad is tried by
 // `sweep_reruns::try_pad` in a second array that holds the numbers of one analysis, and what it changed is put back by
-// `trial_back::put_back` (D264). specs/Parts.antt says what the parts ask and leave.
+// `trial_back::put_back` (D199). specs/Parts.antt says what the parts ask and leave.
 use calculation::Advice;
 use cost::MOST;
 use cost::NEVER;

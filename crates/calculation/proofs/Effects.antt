@@ -1,5 +1,5 @@
 -- A pad, and its line as the only output: what falls with the pad, and what falls at no prices within the ranges. No code cites
--- this page yet: request E3 is to (D263).
+-- this page yet: request E3 is to (D198).
 -- Assumes nothing.
 use mathlib.Core.Bool.{Bool, true, false, _||_, or-false, or-true}
 use mathlib.Core.List.{List, [], _∷_, _++_, flatMap}

@@ -1,6 +1,6 @@
 -- What one more pad does to the CO and SO of a line, at whatever prices within the ranges. By `falls-spread` pads on trial are put
 -- back (`advice_lines`); the other laws no code cites yet: request E3, which counts the protected lines that a pad touches, is
--- to (D263).
+-- to (D198).
 -- Assumes nothing.
 use mathlib.Core.Bool.{Bool, true, false, _||_}
 use mathlib.Core.List.{List, [], _∷_, List·Memᴰ}
@@ -42,7 +42,7 @@ seenAt price cells ss k m = numberAt price cells ss k (observe m)
 -- ---- whether a pad on line l may lower a number of line m
 
 -- Its SO falls, or its CO without the pad, at HIGH, is above the CO that it would have at LOW were the pad's line the only output.
--- E3's own relation is tighter: each line on the way is below its own CO at HIGH (D263).
+-- E3's own relation is tighter: each line on the way is below its own CO at HIGH (D198).
 unfoldable pub mayFall : List Cell → List Statement → ℕ → ℕ → Bool
 mayFall cells ss l m =
     ltb (seenAt (lowPrice ss) cells (withPad ss l) sequential m) (seenAt (lowPrice ss) cells ss sequential m)

@@ -61,7 +61,7 @@ pub record AtAllPrices (cells : List Cell) (ss : List Statement) : Type 0 where
   pub high : WithinRanges ss (highPrice ss)
   pub analyses : (price : Pricing) → WithinRanges ss price → AnalysisAt cells ss price
   pub between : (price : Pricing) → WithinRanges ss price → (p : Purpose) → Reported p → Between cells ss price p
-  -- The same where the two values of an input have prices of their own within its range (D241).
+  -- The same where the two values of an input have prices of their own within its range (D186).
   pub eachValue : (price : ℕ → ℕ → ℕ) → EachWithin ss price → (p : Purpose) → Reported p → (x : ℕ)
       → ExactEach price cells ss p x → BetweenEach cells ss p x
 

@@ -1,4 +1,4 @@
--- Outputs that are added, as pads are, change nothing of what the sweeps that set lines remember. Of request E1 (D261).
+-- Outputs that are added, as pads are, change nothing of what the sweeps that set lines remember. Of request E1 (D196).
 -- Assumes nothing.
 use mathlib.Core.List.{List}
 use mathlib.Core.Path.{_≡_, refl, sym, ap, _∙_}

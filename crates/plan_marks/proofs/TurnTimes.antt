@@ -1,6 +1,6 @@
 -- At which times a gate's pins have their turns in the sweeps that observe lines: behind those of all later gates, "gates in
 -- reverse order, pins in order". So what a writer of marks notes, a gate and a pin, is the turn at the mark's time.
--- No code cites this page yet: the marks of request E1 are to (D261).
+-- No code cites this page yet: the marks of request E1 are to (D196).
 -- Assumes nothing.
 use mathlib.Core.List.{List, [], _∷_, _++_, append-assoc, append-nil}
 use mathlib.Core.Path.{_≡_, refl, sym, ap, _∙_}

@@ -1,5 +1,5 @@
 -- The sweeps of one kind, once more, with what each visit lowered. Document 02, K3: "the row is the one by which the sweeps last
--- lowered the number, the first in library order among equals at that visit". Request E1 (D261), of a line observed: the gate is
+-- lowered the number, the first in library order among equals at that visit". Request E1 (D196), of a line observed: the gate is
 -- the one at whose visit the sweeps last lowered its number, the pin the lowest, and the row the first in library order, of those
 -- whose sums reach the number at that visit.
 -- Assumes nothing.

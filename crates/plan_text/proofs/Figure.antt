@@ -51,7 +51,7 @@ module _ (cells : List Cell) (ss : List Statement) (sound : BothSound cells ss) 
   nothing : P.Codes cells ss sound k (λ p. ⊥) (λ before depth p. [])
   nothing = record { unmarkedCode = λ p placed q. absurd q; markedCode = λ p placed q. absurd q; covers = λ g role d h q. q }
 
-  -- Of whatever purpose, and of a line observed: the promise of request E1, whose call is to come (D261).
+  -- Of whatever purpose, and of a line observed: the promise of request E1, whose call is to come (D196).
   pub all-told : (p : Purpose) → Placed p → getD (analysed cells ss .numbers) (node k p) 0 ≤ most → Told cells ss k p
   all-told p placed small = figure-told (λ p. ⊥) (λ before depth p. []) nothing p placed small .0
 

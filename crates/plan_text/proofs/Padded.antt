@@ -1,5 +1,5 @@
 -- Outputs that are added, as pads are, change no setting plan's text: the setting plans of a route are those that K3 writes.
--- No code cites this page yet: request E1 is to (D261).
+-- No code cites this page yet: request E1 is to (D196).
 -- Assumes nothing.
 use mathlib.Core.List.{List, [], _∷_, _++_, map, List·Memᴰ, List·Memᴰ·head, List·Memᴰ·tail, append-nil, append-assoc}
 use mathlib.Core.Option.{Option, none, some}

@@ -1,6 +1,6 @@
 -- A route goes from line to line: a node that observes has the values that its row names below it, and then, last, the node that
 -- observes its gate's output. So a writer may go along a route in a loop, and turn to the writer of setting plans for each value.
--- No code cites this page yet: the writer of request E1 is to (D261).
+-- No code cites this page yet: the writer of request E1 is to (D196).
 -- Assumes nothing.
 use mathlib.Core.Bool.{Bool, true, false}
 use mathlib.Core.List.{List, [], _∷_, _++_, List·Memᴰ, append-assoc, append-nil}
