@@ -1,9 +1,9 @@
 //! The program: runs a command, prints what it answers on standard output and all messages on standard error.
 
-use scoap_pads::archive::STACK;
-use scoap_pads::commands;
-use scoap_pads::messages::{printable, Messages};
-use scoap_pads::text::{self, Stop};
+use scoap_pads::ask::archive::STACK;
+use scoap_pads::show::commands;
+use scoap_pads::show::messages::{printable, Messages};
+use scoap_pads::show::text::{self, Stop};
 use std::process::ExitCode;
 
 /// All is done in a thread with a stack that is large enough for the calls, whatever the shell gives.

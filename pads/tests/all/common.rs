@@ -1,9 +1,9 @@
 //! What the tests share.
 
-use scoap_pads::archive::{self, Numbers};
-use scoap_pads::load::{self, Loaded, Source};
-use scoap_pads::messages::Messages;
-use scoap_pads::model::Model;
+use scoap_pads::ask::archive::{self, Numbers};
+use scoap_pads::ask::model::Model;
+use scoap_pads::read::load::{self, Loaded, Source};
+use scoap_pads::show::messages::Messages;
 use std::path::{Path, PathBuf};
 
 pub fn root() -> PathBuf {

@@ -1,9 +1,9 @@
 //! Figures of sources 000 and 002, and every example against the second implementation.
 
 use crate::common::{model, ALL};
-use scoap_pads::cost::Cost;
-use scoap_pads::model::{Model, Number};
-use scoap_pads::names;
+use scoap_pads::ask::model::{Model, Number};
+use scoap_pads::read::names;
+use scoap_pads::show::cost::Cost;
 use second::Answer;
 
 fn largest(model: &Model, numbers: &[Number]) -> (u32, String) {
@@ -76,7 +76,7 @@ fn differs(model: &Model) -> Option<String> {
     let Answer::Accepted { report, .. } = second::analyse(&model.lib, &model.net, 65_536) else {
         return Some("refused".to_string());
     };
-    let own = scoap_pads::archive::report_text(&model.lib, &model.net).ok()?;
+    let own = scoap_pads::ask::archive::report_text(&model.lib, &model.net).ok()?;
     (own.as_bytes() != report).then(|| "another report".to_string())
 }
 

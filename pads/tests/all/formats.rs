@@ -1,11 +1,11 @@
 //! One design through several formats; wide gates; what is written is always accepted.
 
 use crate::common::{example, load, model, root, source, worked, Random};
-use scoap_pads::archive::{self, Six};
-use scoap_pads::cost::Cost;
-use scoap_pads::load::Source;
-use scoap_pads::model::Model;
-use scoap_pads::names::LineKind;
+use scoap_pads::ask::archive::{self, Six};
+use scoap_pads::ask::model::Model;
+use scoap_pads::read::load::Source;
+use scoap_pads::read::names::LineKind;
+use scoap_pads::show::cost::Cost;
 use std::collections::BTreeMap;
 use std::path::PathBuf;
 
@@ -228,8 +228,8 @@ fn what_is_written_is_accepted() {
             accepted += 1;
             let model = loaded.model;
             assert!(archive::report(&model.lib, &model.net).is_ok());
-            scoap_pads::why::check_all(&model).unwrap_or_else(|words| panic!("{words}\n{text}"));
-            scoap_pads::never::text(&model);
+            scoap_pads::ask::why::check_all(&model).unwrap_or_else(|words| panic!("{words}\n{text}"));
+            scoap_pads::ask::never::text(&model);
         }
     }
     assert!(accepted > 300, "{accepted} accepted");
@@ -300,7 +300,7 @@ fn damaged_folders_end_well() {
     let mut random = Random(7);
     let (loaded, _) = load(&source(&example("shift_register/c1.blif")));
     let texts = loaded.unwrap().texts.unwrap();
-    let names = scoap_pads::names::write(&texts.names);
+    let names = scoap_pads::read::names::write(&texts.names);
     for turn in 0..400 {
         for (name, text) in [("lib.txt", &texts.lib), ("net.txt", &texts.net), ("names.csv", &names)] {
             let mut bytes = text.clone().into_bytes();
@@ -315,7 +315,7 @@ fn damaged_folders_end_well() {
         }
         let (loaded, said) = load(&source(&room.0.display().to_string()));
         if let Some(loaded) = loaded {
-            scoap_pads::why::check_all(&loaded.model).unwrap();
+            scoap_pads::ask::why::check_all(&loaded.model).unwrap();
         } else {
             assert!(said.contains("error: "), "{said}");
         }

@@ -1,12 +1,13 @@
 //! Reasons, pads and advice on every example.
 
 use crate::common::{model, reported, Random, ALL};
-use scoap_pads::archive::Refusal;
-use scoap_pads::cost::Cost;
-use scoap_pads::model::{Driver, Model};
-use scoap_pads::names::LineKind;
-use scoap_pads::pads::{self, Privacy, USUAL_DEPTH};
-use scoap_pads::{names, why};
+use scoap_pads::ask::archive::Refusal;
+use scoap_pads::ask::model::{Driver, Model};
+use scoap_pads::ask::pads::{self, Privacy, USUAL_DEPTH};
+use scoap_pads::ask::why;
+use scoap_pads::read::names;
+use scoap_pads::read::names::LineKind;
+use scoap_pads::show::cost::Cost;
 
 #[test]
 fn every_reason_of_every_line_adds_up() {

@@ -1,7 +1,7 @@
 //! The calls of the proved archive; include/scoap.h describes them. Every Goldstein number of this program comes
 //! from here.
 
-use crate::cost::{grouped, Cost};
+use crate::show::cost::{grouped, Cost};
 
 mod c {
     extern "C" {
@@ -438,7 +438,7 @@ mod tests {
 
     #[test]
     fn the_stack_is_the_header_s() {
-        let header = include_str!("../../include/scoap.h");
+        let header = include_str!("../../../include/scoap.h");
         assert!(header.contains(&format!("#define SCOAP_PLAN_STACK {PLAN_STACK}u\n")));
     }
 

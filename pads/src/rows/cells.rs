@@ -1,7 +1,7 @@
 //! What a cell does, whatever library it is from: the hub's cells, and Yosys's own ones.
 
-use crate::archive::MOST_PINS;
-use crate::registers::{Driver, Function, Register};
+use crate::ask::archive::MOST_PINS;
+use crate::rows::registers::{Driver, Function, Register};
 use crate::rows::Table;
 
 #[derive(Clone, Copy, Debug, PartialEq, Eq)]
@@ -343,7 +343,7 @@ pub mod tests {
     /// The registers that examples/built_in has by hand are those of the rule.
     #[test]
     fn registers_of_the_example() {
-        let library = include_str!("../../examples/built_in/lib.txt");
+        let library = include_str!("../../../examples/built_in/lib.txt");
         for (title, name) in [("$_DFF_P_", "DFF"), ("$_DFF_NP0_", "DFFR"), ("$_DLATCH_P_", "LATCH")] {
             let Kind::Register(register) = yosys(title).unwrap().unwrap().kind else { panic!() };
             assert!(library.contains(&register.entry().text(name)), "{name}");
@@ -377,7 +377,7 @@ pub mod tests {
                 _ => unreachable!(),
             }
         };
-        assert_eq!(toggle.trouble(), Some(crate::registers::Trouble::NamesOld));
+        assert_eq!(toggle.trouble(), Some(crate::rows::registers::Trouble::NamesOld));
     }
 
     /// All types of Yosys that are registers with rows.

@@ -1,11 +1,11 @@
 //! Liberty: what its cells do. Timing, power and the rest are passed over.
 
-use crate::archive::MOST_PINS;
-use crate::cells::{Cell, Kind};
-use crate::expr::Expr;
-use crate::messages::Messages;
-use crate::registers::{Driver, Function, Register};
+use crate::ask::archive::MOST_PINS;
+use crate::read::expr::Expr;
+use crate::rows::cells::{Cell, Kind};
+use crate::rows::registers::{Driver, Function, Register};
 use crate::rows::Table;
+use crate::show::messages::Messages;
 use std::collections::HashMap;
 use std::rc::Rc;
 

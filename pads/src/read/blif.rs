@@ -1,13 +1,13 @@
 //! Flat BLIF: `.names`, `.latch`, `.subckt` and `.gate`.
 
-use crate::archive::MOST_PINS;
-use crate::cells::{self, Cell, Kind, Op};
-use crate::cost::grouped;
-use crate::hub::{too_many, Design, Gate, Lines, Source, MOST_NETS};
-use crate::messages::Messages;
-use crate::names::OWN_CLOCK;
+use crate::ask::archive::MOST_PINS;
+use crate::read::hub::{too_many, Design, Gate, Lines, Source, MOST_NETS};
+use crate::read::names::OWN_CLOCK;
+use crate::rows::cells::{self, Cell, Kind, Op};
+use crate::rows::types::{add_gates, Place, Types};
 use crate::rows::Table;
-use crate::types::{add_gates, Place, Types};
+use crate::show::cost::grouped;
+use crate::show::messages::Messages;
 use std::collections::HashMap;
 use std::rc::Rc;
 

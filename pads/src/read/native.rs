@@ -1,11 +1,11 @@
 //! Folders with the analyser's own texts: lib.txt, net.txt and, if there, names.csv. All bad lines of a netlist are told,
 //! by the proved reader itself.
 
-use crate::archive::{self, refusal_told, Refusal, MOST_LINES};
-use crate::messages::{shown_name, Messages};
-use crate::model::Model;
-use crate::names;
-use crate::text::{self, Stop};
+use crate::ask::archive::{self, refusal_told, Refusal, MOST_LINES};
+use crate::ask::model::Model;
+use crate::read::names;
+use crate::show::messages::{shown_name, Messages};
+use crate::show::text::{self, Stop};
 use std::path::Path;
 
 const MOST_TOLD: usize = 50;

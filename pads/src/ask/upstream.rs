@@ -2,9 +2,9 @@
 //! data of its register, what buffers and inverters only hand on. Of the rest of the fan-in the distance is told. All of it
 //! is read off the rows, so that it holds for any library; a cell's name says nothing here.
 
-use crate::load::many;
-use crate::model::{Driver, Model, Row};
-use crate::names::LineKind;
+use crate::ask::model::{Driver, Model, Row};
+use crate::read::load::many;
+use crate::read::names::LineKind;
 use std::cmp::Reverse;
 use std::collections::{BinaryHeap, VecDeque};
 
@@ -301,8 +301,8 @@ pub fn feeding(model: &Model, line: usize) -> Feeding {
 #[cfg(test)]
 mod tests {
     use super::*;
-    use crate::archive;
-    use crate::names::Name;
+    use crate::ask::archive;
+    use crate::read::names::Name;
 
     /// D, clock, synchronous reset, active at 0; and a scan register (D SE SI CK) and a latch (D E).
     const REGISTERS: &str = "Name,DFF,2\nCC,26,16\nCO,206,246,M,316\nSC,27,17\nSO,207,247,M,317\nEnd\n\

@@ -1,9 +1,9 @@
 //! The hub that every reader fills: inputs, outputs, gates of one output each, and names.
 
-use crate::archive::{lines_told, MOST_LINES};
-use crate::cells::{Cell, Kind};
-use crate::cost::grouped;
-use crate::messages::Messages;
+use crate::ask::archive::{lines_told, MOST_LINES};
+use crate::rows::cells::{Cell, Kind};
+use crate::show::cost::grouped;
+use crate::show::messages::Messages;
 use std::rc::Rc;
 
 /// What a pin or an output reads.

@@ -1,13 +1,13 @@
 //! One self-contained page of a design: profiles, the table, reasons and pads. Names are data, never markup.
 
-use crate::cost::Cost;
-use crate::load;
-use crate::model::{Model, Number};
-use crate::never;
-use crate::pads::{self, Effect, Privacy};
-use crate::ranking;
-use crate::upstream;
-use crate::why::{Node, Reasons, Step, Way};
+use crate::ask::model::{Model, Number};
+use crate::ask::never;
+use crate::ask::pads::{self, Effect, Privacy};
+use crate::ask::ranking;
+use crate::ask::upstream;
+use crate::ask::why::{Node, Reasons, Step, Way};
+use crate::read::load;
+use crate::show::cost::Cost;
 use std::collections::HashMap;
 use std::fmt::Write;
 
@@ -209,17 +209,17 @@ mod tests {
         assert_eq!(text("</script><b>\"\\\n"), "\"\\u003c/script\\u003e\\u003cb\\u003e\\\"\\\\\\u000a\"");
         let out = text("\u{2028}ä");
         assert_eq!(out, "\"\\u2028ä\"");
-        assert!(crate::json::parse(&out).is_ok());
+        assert!(crate::read::json::parse(&out).is_ok());
     }
 
     #[test]
     fn the_data_is_json() {
-        let lib = crate::archive::cell("NAND2", 2, "1110").unwrap();
+        let lib = crate::ask::archive::cell("NAND2", 2, "1110").unwrap();
         let net = b"input,1\ninput,2\ngate,NAND2,3,1,4\ngate,NAND2,4,2,3\noutput,3\n".to_vec();
         let model = Model::new("latch", lib.into_bytes(), net, Vec::new()).unwrap();
         let page = page("latch", &model, &[2], &Privacy::default(), "note: x\n").unwrap();
         let data = page.split("id=\"data\">").nth(1).unwrap().split("</script>").next().unwrap();
-        let data = crate::json::parse(data).unwrap();
+        let data = crate::read::json::parse(data).unwrap();
         assert_eq!(data.get("lines").unwrap().items().len(), 4);
         assert_eq!(data.get("pads").unwrap().items()[0].whole(), Some(2));
         for place in ["@STYLE@", "@DATA@", "@TEXTS@", "@SCOAP@", "@SCRIPT@"] {

@@ -1,14 +1,14 @@
 //! Netlists as Yosys writes them in JSON.
 
-use crate::archive::MOST_LINES;
-use crate::cells::{Cell, Kind};
-use crate::cost::grouped;
-use crate::hub::{too_many, Design, Lines, Source, MOST_GATES};
-use crate::json::{self, Value};
-use crate::messages::Messages;
+use crate::ask::archive::MOST_LINES;
+use crate::read::hub::{too_many, Design, Lines, Source, MOST_GATES};
+use crate::read::json::{self, Value};
+use crate::rows::cells::{Cell, Kind};
+use crate::rows::types::{add_gates, Place, Type, Types};
 use crate::rows::Table;
-use crate::text::Stop;
-use crate::types::{add_gates, Place, Type, Types};
+use crate::show::cost::grouped;
+use crate::show::messages::Messages;
+use crate::show::text::Stop;
 use std::borrow::Cow;
 use std::collections::HashMap;
 use std::rc::Rc;
@@ -379,8 +379,8 @@ fn bit_name(name: &str, of: &Value, at: usize, width: usize) -> String {
 fn lut(cell: &Value) -> Result<Rc<Type>, String> {
     let parameters = cell.get("parameters");
     let width = cell.get("connections").and_then(|all| all.get("A")).map_or(0, |bits| bits.items().len());
-    if width > crate::archive::MOST_PINS {
-        return Err(format!("a table of {width} pins, the analyser takes {}", crate::archive::MOST_PINS));
+    if width > crate::ask::archive::MOST_PINS {
+        return Err(format!("a table of {width} pins, the analyser takes {}", crate::ask::archive::MOST_PINS));
     }
     let table = parameters.and_then(|all| all.get("LUT")).ok_or("a table without the parameter LUT")?;
     let bits: Vec<bool> = match table {

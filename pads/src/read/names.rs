@@ -1,9 +1,9 @@
 //! The names of a netlist's lines: names.csv, finding a net by what the user calls it, patterns.
 
-use crate::archive::MOST_LINES;
-use crate::cost::grouped;
-use crate::csv;
-use crate::messages::{shown_name, Messages};
+use crate::ask::archive::MOST_LINES;
+use crate::read::csv;
+use crate::show::cost::grouped;
+use crate::show::messages::{shown_name, Messages};
 
 #[derive(Clone, Copy, Debug, PartialEq, Eq)]
 pub enum LineKind {

@@ -1,7 +1,7 @@
 //! The command line.
 
-use crate::load::Source;
-use crate::text::Stop;
+use crate::read::load::Source;
+use crate::show::text::Stop;
 
 /// What a command takes besides its source's options.
 pub struct Takes {

@@ -1,15 +1,15 @@
 //! From the hub to the analyser's texts: gates that are too wide are split, lines are numbered, cells named, limits
 //! counted. `net.txt` is written here and nowhere else.
 
-use crate::archive::{MOST_BYTES, MOST_CELLS, MOST_LINES, MOST_PINS, MOST_ROWS};
-use crate::cells::{Kind, Op, Wide};
-use crate::cost::grouped;
-use crate::hub::{Design, Source};
-use crate::messages::Messages;
-use crate::names::{LineKind, Name};
-use crate::registers::{Function, Register, Trouble};
+use crate::ask::archive::{MOST_BYTES, MOST_CELLS, MOST_LINES, MOST_PINS, MOST_ROWS};
+use crate::read::hub::{Design, Source};
+use crate::read::names::{LineKind, Name};
+use crate::rows::cells::{Kind, Op, Wide};
+use crate::rows::registers::{Function, Register, Trouble};
 use crate::rows::{Entry, Table, COMBINATIONAL, PART};
-use crate::text::Stop;
+use crate::show::cost::grouped;
+use crate::show::messages::Messages;
+use crate::show::text::Stop;
 use std::collections::{BTreeSet, HashMap};
 
 /// A cell of the library that was written: its name, the types that share it, and how many gates use it.

@@ -3,7 +3,7 @@
 //! A register has a next value over its sampled pins and its own old value, a clock with an active edge (a latch a gate
 //! with an active level), perhaps clear and preset. Depth 0 in CC and CO, 1 in SC and SO (000, section IV.B).
 
-use crate::primes::{primes, Cube};
+use crate::rows::primes::{primes, Cube};
 use crate::rows::{descending, Entry, Group, Named, Table, COMBINATIONAL, SEQUENTIAL};
 
 /// A function of the pins (pin i is bit i), and for the next value of the old one (bit `pins`).

@@ -1,16 +1,16 @@
 //! .bench, as ISCAS and as ABC write it.
 
-use crate::archive::MOST_PINS;
-use crate::blif::put_clock;
-use crate::cells::{self, Cell, Kind};
-use crate::cost::grouped;
-use crate::hub::{too_many, Design, Gate, Lines, Source, MOST_NETS};
-use crate::messages::Messages;
+use crate::ask::archive::MOST_PINS;
+use crate::read::blif::put_clock;
+use crate::read::hub::{too_many, Design, Gate, Lines, Source, MOST_NETS};
+use crate::rows::cells::{self, Cell, Kind};
 use crate::rows::Table;
+use crate::show::cost::grouped;
+use crate::show::messages::Messages;
 use std::collections::HashMap;
 use std::rc::Rc;
 
-pub use crate::blif::{Wanted, MOST_BYTES};
+pub use crate::read::blif::{Wanted, MOST_BYTES};
 
 pub fn read(file: &str, text: &str, wanted: &Wanted, messages: &mut Messages) -> Design {
     let lines = Lines { file, text };

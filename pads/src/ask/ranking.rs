@@ -1,10 +1,10 @@
 //! The order of lines: never, over, then the hardest fault, the larger of CC1 + CO and CC0 + CO. These sums are this
 //! program's own.
 
-use crate::archive::Six;
-use crate::cost::Cost;
-use crate::model::{Model, Number};
-use crate::pads::Effect;
+use crate::ask::archive::Six;
+use crate::ask::model::{Model, Number};
+use crate::ask::pads::Effect;
+use crate::show::cost::Cost;
 use std::cmp::Reverse;
 use std::collections::HashMap;
 

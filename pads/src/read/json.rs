@@ -1,7 +1,7 @@
 //! JSON, read into a tree with a bounded count of values.
 
-use crate::archive::{lines_told, MOST_LINES};
-use crate::cost::grouped;
+use crate::ask::archive::{lines_told, MOST_LINES};
+use crate::show::cost::grouped;
 use std::borrow::Cow;
 
 #[derive(Clone, Debug, PartialEq)]

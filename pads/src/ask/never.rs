@@ -1,9 +1,9 @@
 //! Why lines can never be set: loops, constants and open lines on which the others rest.
 
-use crate::archive;
-use crate::cost::Cost;
-use crate::model::{Driver, Model};
-use crate::names::{cut, LineKind};
+use crate::ask::archive;
+use crate::ask::model::{Driver, Model};
+use crate::read::names::{cut, LineKind};
+use crate::show::cost::Cost;
 use std::collections::HashMap;
 
 /// On what values that can never be set rest.
@@ -248,7 +248,7 @@ pub fn text(model: &Model) -> String {
 #[cfg(test)]
 mod tests {
     use super::*;
-    use crate::cells::{yosys, Kind};
+    use crate::rows::cells::{yosys, Kind};
 
     fn model(net: &str) -> Model {
         let mut lib = String::new();

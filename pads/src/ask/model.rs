@@ -1,10 +1,10 @@
 //! The texts that the analyser accepted, read once more for their structure: cells with their rows, gates, readers, and
 //! the user's names. Numbers are asked of the archive.
 
-use crate::archive::{self, Numbers, Refusal, Standing, MOST_LINES};
-use crate::cost::Cost;
-use crate::messages::shown_name;
-use crate::names::{LineKind, Name};
+use crate::ask::archive::{self, Numbers, Refusal, Standing, MOST_LINES};
+use crate::read::names::{LineKind, Name};
+use crate::show::cost::Cost;
+use crate::show::messages::shown_name;
 
 /// One of the six numbers, in the report's order.
 #[derive(Clone, Copy, Debug, PartialEq, Eq, Hash)]

@@ -1,16 +1,18 @@
 //! The commands: each answers what it prints and its exit status.
 
-use crate::archive::{refusal_told, Numbers, MOST_BYTES, MOST_CELLS, MOST_LINES, MOST_PINS, MOST_ROWS};
-use crate::args::{Args, Takes};
-use crate::cost::{grouped, Cost};
-use crate::load::{self, Loaded};
-use crate::messages::Messages;
-use crate::model::{Model, Number};
-use crate::names::{self, cut, LineKind};
-use crate::pads::{self, Effect, Measure, Privacy, Round, Touching};
-use crate::ranking::{self, Key};
-use crate::text::{self, Stop};
-use crate::{csv, help, never, page, why};
+use crate::ask::archive::{refusal_told, Numbers, MOST_BYTES, MOST_CELLS, MOST_LINES, MOST_PINS, MOST_ROWS};
+use crate::ask::model::{Model, Number};
+use crate::ask::pads::{self, Effect, Measure, Privacy, Round, Touching};
+use crate::ask::ranking::{self, Key};
+use crate::ask::{never, why};
+use crate::read::csv;
+use crate::read::load::{self, Loaded};
+use crate::read::names::{self, cut, LineKind};
+use crate::show::args::{Args, Takes};
+use crate::show::cost::{grouped, Cost};
+use crate::show::messages::Messages;
+use crate::show::text::{self, Stop};
+use crate::show::{help, page};
 use std::collections::HashMap;
 use std::fmt::Write;
 use std::path::Path;

@@ -1,7 +1,13 @@
 //! Library entries: rows as document 01 packs them, groups of rows, and the entry's text.
 
-use crate::archive;
-use crate::primes::{primes, Cube};
+pub mod cells;
+pub mod primes;
+pub mod registers;
+pub mod types;
+pub mod writer;
+
+use crate::ask::archive;
+use crate::rows::primes::{primes, Cube};
 
 /// What a row names: pins (pin i is variable i, the first pin 0), the cell's output, observing it.
 #[derive(Clone, Copy, Debug, Default, PartialEq, Eq)]

@@ -2,9 +2,9 @@
 //! sum of. For setting, the row is the one of the proved plan; where that text is too long, and for observing, the first
 //! row in library order whose terms and depth give the number, taken so that no step goes back to a node above it.
 
-use crate::archive;
-use crate::cost::Cost;
-use crate::model::{Driver, Model, Number, Row};
+use crate::ask::archive;
+use crate::ask::model::{Driver, Model, Number, Row};
+use crate::show::cost::Cost;
 use std::collections::HashMap;
 
 /// What a plan does with a line: set it to a value, or see it.

@@ -1,8 +1,8 @@
 //! The cell types that a netlist may use: Yosys's own gates and those of the libraries given.
 
-use crate::cells::{self, Cell};
-use crate::hub::{Design, Gate, Source};
-use crate::liberty::Library;
+use crate::read::hub::{Design, Gate, Source};
+use crate::read::liberty::Library;
+use crate::rows::cells::{self, Cell};
 use std::collections::HashMap;
 use std::rc::Rc;
 

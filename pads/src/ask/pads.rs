@@ -1,11 +1,11 @@
 //! What pads would change, as the archive answers when it is asked for a pad, and the advice drawn from that. A pad is an
 //! output: it changes CO and SO alone.
 
-use crate::archive::{refusal_told, Numbers, Refusal, Six, STACK};
-use crate::cost::Cost;
-use crate::model::{Driver, Model};
-use crate::names::{LineKind, OWN_CLOCK};
-use crate::upstream::{self, Upstream};
+use crate::ask::archive::{refusal_told, Numbers, Refusal, Six, STACK};
+use crate::ask::model::{Driver, Model};
+use crate::ask::upstream::{self, Upstream};
+use crate::read::names::{LineKind, OWN_CLOCK};
+use crate::show::cost::Cost;
 use std::collections::HashMap;
 use std::sync::atomic::{AtomicUsize, Ordering};
 use std::time::{Duration, Instant};
@@ -339,7 +339,7 @@ fn proved(model: &Model, allowed: &[usize]) -> Result<Option<(usize, Cost)>, Ref
 #[cfg(test)]
 mod tests {
     use super::*;
-    use crate::archive;
+    use crate::ask::archive;
 
     fn chain() -> Model {
         let lib = archive::cell("AND2", 2, "0001").unwrap();

@@ -1,7 +1,7 @@
 //! Reading and writing files: bounded, line ends of other systems taken with a note, written through a new file.
 
-use crate::archive::lines_told;
-use crate::messages::Messages;
+use crate::ask::archive::lines_told;
+use crate::show::messages::Messages;
 use std::fs::{self, File, OpenOptions, Permissions};
 use std::io::{ErrorKind, Read, Write};
 use std::path::{Path, PathBuf};

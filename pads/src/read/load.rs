@@ -1,15 +1,15 @@
 //! A SOURCE of the command line: a netlist with its libraries, or a folder.
 
-use crate::archive::refusal_told;
-use crate::cost::grouped;
-use crate::hub::Design;
-use crate::messages::{shown_name, Messages};
-use crate::model::Model;
-use crate::names::LineKind;
-use crate::text::{self, Stop};
-use crate::types::Types;
-use crate::writer::{self, Texts};
-use crate::{bench, blif, liberty, native, verilog, yosys};
+use crate::ask::archive::refusal_told;
+use crate::ask::model::Model;
+use crate::read::hub::Design;
+use crate::read::names::LineKind;
+use crate::read::{bench, blif, liberty, native, verilog, yosys};
+use crate::rows::types::Types;
+use crate::rows::writer::{self, Texts};
+use crate::show::cost::grouped;
+use crate::show::messages::{shown_name, Messages};
+use crate::show::text::{self, Stop};
 use std::path::Path;
 
 /// What the command line says of a source.

@@ -1,0 +1,14 @@
+//! Netlists, libraries and folders: a reader for each format, and the hub that every reader fills.
+
+pub mod bench;
+pub mod blif;
+pub mod csv;
+pub mod expr;
+pub mod hub;
+pub mod json;
+pub mod liberty;
+pub mod load;
+pub mod names;
+pub mod native;
+pub mod verilog;
+pub mod yosys;

@@ -1,0 +1,9 @@
+//! The command line and the page: what a person types and reads.
+
+pub mod args;
+pub mod commands;
+pub mod cost;
+pub mod help;
+pub mod messages;
+pub mod page;
+pub mod text;
