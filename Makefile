@@ -21,7 +21,7 @@ INTO = $(DESTDIR)$(PREFIX)
 help:
 	@echo 'make run       proves and builds the programs, and runs scoap on a bundled example, C17'
 	@echo 'make pads      builds target/bin/scoap_pads, from a netlist of a synthesis tool to its pads'
-	@echo '                 LINES=4000 the same over an analyser of that size'
+	@echo '                 it links what make large has built; LINES=4000 builds that one first'
 	@echo 'make large     proves and builds the analyser for more lines, under names of its own: LINES=4000'
 	@echo 'make archive   proves and builds the archive for C, target/staticlib/libscoap_c.a'
 	@echo 'make wasm      the same calls as WebAssembly, target/wasm: scoap.wasm, scoap.js, scoap.d.ts'
@@ -83,20 +83,16 @@ bench: second
 fuzz: second
 	@target/cargo/release/compare --fuzz $(SECONDS) $(SEED)
 
-# The companion, from a chip's netlist to its pads; it links the archive.
-ifneq ($(LINES),)
-pads: need-rt need-cargo
-	@large/build '$(LINES)' --pads
-else
-pads: wasm need-cargo
-	@cd pads && cargo build -q --release --offline -j1
+# The companion, from a chip's netlist to its pads; it links the archive and those for more lines that make large has built.
+pads: $(if $(LINES),large) wasm need-cargo
+	@cd pads && large=$$(ls -d ../target/large-*/lib/*.a 2>/dev/null | sed 's|/lib/.*||' | tr '\n' ' '); \
+	$${large:+env "SCOAP_LARGE=$$large"} cargo build -q --release --offline -j1
 	@mkdir -p target/bin && cp target/pads/release/scoap_pads target/bin/scoap_pads
 	@target/bin/scoap_pads page examples/c17 -o target/c17.html
 	@target/bin/scoap_pads page examples/recorder/decim.json -l examples/recorder/recorder.lib -o target/decim.html
 	@echo
 	@echo 'Built: target/bin/scoap_pads'
 	@echo 'Next: target/bin/scoap_pads report examples/shift_register/c1.blif'
-endif
 
 # The same proofs at a larger size, in a copy of the tree under target/.
 large: need-rt

@@ -1,6 +1,6 @@
 //! The program: runs a command, prints what it answers on standard output and all messages on standard error.
 
-use scoap_pads::ask::archive::STACK;
+use scoap_pads::ask::archive;
 use scoap_pads::show::commands;
 use scoap_pads::show::messages::{printable, Messages};
 use scoap_pads::show::text::{self, Stop};
@@ -8,12 +8,13 @@ use std::process::ExitCode;
 
 /// All is done in a thread with a stack that is large enough for the calls, whatever the shell gives.
 fn main() -> ExitCode {
-    match std::thread::Builder::new().stack_size(STACK).spawn(run).map(|thread| thread.join()) {
+    let stack = archive::stack();
+    match std::thread::Builder::new().stack_size(stack).spawn(run).map(|thread| thread.join()) {
         Ok(Ok(status)) => status,
         // It has said why it panicked.
         Ok(Err(_)) => ExitCode::from(101),
         Err(e) => {
-            eprintln!("scoap_pads: no thread with {} MB of stack: {e}", STACK >> 20);
+            eprintln!("scoap_pads: no thread with {} MB of stack: {e}", stack >> 20);
             ExitCode::from(2)
         }
     }

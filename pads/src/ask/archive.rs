@@ -2,114 +2,62 @@
 //! from here.
 
 use crate::show::cost::{grouped, Cost};
+use scoap_calls::Calls;
 
-mod c {
-    extern "C" {
-        pub fn scoap_report(
-            lib: *const u8,
-            lib_len: usize,
-            net: *const u8,
-            net_len: usize,
-            report: *mut u8,
-            report_len: usize,
-        ) -> u64;
-        pub fn scoap_plan(
-            lib: *const u8,
-            lib_len: usize,
-            net: *const u8,
-            net_len: usize,
-            line: u64,
-            value: u64,
-            kind: u64,
-            text: *mut u8,
-            text_len: usize,
-        ) -> u64;
-        pub fn scoap_cell(line: *const u8, line_len: usize, entry: *mut u8, entry_len: usize) -> u64;
-        pub fn scoap_qualifies(lib: *const u8, lib_len: usize, net: *const u8, net_len: usize) -> u64;
-        pub fn scoap_stand(
-            lib: *const u8,
-            lib_len: usize,
-            net: *const u8,
-            net_len: usize,
-            standing: *mut u32,
-            standing_len: usize,
-            report: *mut u8,
-            report_len: usize,
-        ) -> u64;
-        pub fn scoap_ask(
-            lib: *const u8,
-            lib_len: usize,
-            net: *const u8,
-            net_len: usize,
-            standing: *const u32,
-            standing_len: usize,
-            line: u64,
-            answer: *mut u32,
-            answer_len: usize,
-        ) -> u64;
-        pub fn scoap_commit(
-            lib: *const u8,
-            lib_len: usize,
-            net: *const u8,
-            net_len: usize,
-            standing: *mut u32,
-            standing_len: usize,
-            line: u64,
-            count: u64,
-        ) -> u64;
-        pub fn scoap_advise(
-            lib: *const u8,
-            lib_len: usize,
-            net: *const u8,
-            net_len: usize,
-            forbidden: *const u32,
-            forbidden_len: usize,
-            answer: *mut u32,
-            answer_len: usize,
-        ) -> u64;
-    }
-}
-
-/// The longest text that is read, and the most lines, cells, pins and rows of a group (document 01).
-pub const MOST_BYTES: usize = 65_535;
-pub const MOST_LINES: usize = 1_000;
+/// The longest text that is read, and the most lines, of the largest analyser that is linked.
+pub const MOST_BYTES: usize = LARGEST.bytes;
+pub const MOST_LINES: usize = LARGEST.lines;
+/// The most cells, pins and rows of a group (document 01), at every size.
 pub const MOST_CELLS: usize = 32;
 pub const MOST_PINS: usize = 8;
 pub const MOST_ROWS: usize = 16;
 
-/// The longest two reports of a netlist with ranges.
-const REPORT_ROOM: usize = 127_899;
-/// Above this a plan's length could not be told from a refusal.
-const PLAN_ROOM: usize = REFUSED as usize - 1;
-const ENTRY_ROOM: usize = 8_192;
-/// Numbers of a standing table, and the place of line 1's six costs in it.
-const STANDING: usize = STANDING_NUMBERS + 6 * MOST_LINES;
-const STANDING_NUMBERS: usize = 5 + MOST_LINES;
-/// Numbers of an answer to an ask: CO and SO of line 1, of line 2, ..
-const OBSERVED: usize = 2 * MOST_LINES;
-const REFUSED: u64 = 1_000_000;
-/// Stack that a thread has for the calls, in bytes: what the header says of the deepest, scoap_plan, and as much as a
-/// program usually has for this program's own.
-pub const STACK: usize = PLAN_STACK + (8 << 20);
-const PLAN_STACK: usize = (1 << 20) * MOST_LINES.div_ceil(1_000);
+/// An analyser that is linked: its calls, and its sizes as its header has them.
+pub struct Analyser {
+    calls: Calls,
+    /// The most lines, and the longest text that is read.
+    pub lines: usize,
+    pub bytes: usize,
+    /// The longest two reports of a netlist with ranges, and the longest entry of a truth table.
+    report_room: usize,
+    entry_room: usize,
+    /// An answer below it is a length, a count or a line. Above it a plan's length could not be told from a refusal.
+    refused: u64,
+    /// Numbers of a standing table, and the place of line 1's six costs in it.
+    standing: usize,
+    standing_numbers: usize,
+    /// Numbers of an answer to an ask: CO and SO of line 1, of line 2, ..
+    observed: usize,
+    /// Stack of the deepest call, scoap_plan.
+    plan_stack: usize,
+    /// The same calls as WebAssembly, as they are installed too: pads/wasm writes them. Empty where nothing did.
+    pub js: &'static str,
+}
+
+// The analysers, ascending by their lines: build.rs writes the list.
+include!(concat!(env!("OUT_DIR"), "/analysers.rs"));
+const LARGEST: &Analyser = &ANALYSERS[ANALYSERS.len() - 1];
+
+/// The most lines for which an analyser can be built (large/build).
+const MOST_BUILT: usize = 32_767;
+
+/// What a call that takes a netlist answers at the smallest size: an analyser that refuses a text as too long (2), or a
+/// line's number (11), leaves it to the next larger one.
+fn smallest<'a, A, T>(analysers: &'a [A], call: impl Fn(&'a A) -> Result<T, Refusal>) -> Result<T, Refusal> {
+    let (largest, smaller) = analysers.split_last().expect("an analyser");
+    for analyser in smaller {
+        match call(analyser) {
+            Err(Refusal { number: 2 | 11, .. }) => {}
+            answer => return answer,
+        }
+    }
+    call(largest)
+}
 
 #[derive(Clone, Copy, Debug, PartialEq, Eq)]
 pub struct Refusal {
     pub number: u32,
     pub line: usize,
-}
-
-fn accepted(answer: u64) -> Result<usize, Refusal> {
-    if answer < REFUSED {
-        return Ok(answer as usize);
-    }
-    Err(Refusal { number: (answer / REFUSED) as u32, line: (answer % REFUSED) as usize })
-}
-
-/// The text that a call wrote into its buffer.
-fn written(mut buffer: Vec<u8>, answer: u64) -> Result<String, Refusal> {
-    buffer.truncate(accepted(answer)?);
-    Ok(String::from_utf8(buffer).expect("a text of ASCII"))
 }
 
 /// The six numbers of a line, in the report's order.
@@ -132,13 +80,65 @@ impl Numbers {
     }
 }
 
+impl Analyser {
+    fn accepted(&self, answer: u64) -> Result<usize, Refusal> {
+        if answer < self.refused {
+            return Ok(answer as usize);
+        }
+        Err(Refusal { number: (answer / self.refused) as u32, line: (answer % self.refused) as usize })
+    }
+
+    /// The text that a call wrote into its buffer.
+    fn written(&self, mut buffer: Vec<u8>, answer: u64) -> Result<String, Refusal> {
+        buffer.truncate(self.accepted(answer)?);
+        Ok(String::from_utf8(buffer).expect("a text of ASCII"))
+    }
+
+    fn report_text(&self, lib: &[u8], net: &[u8]) -> Result<String, Refusal> {
+        let mut buffer = vec![0; self.report_room];
+        let answer = self.calls.report(lib, net, &mut buffer);
+        self.written(buffer, answer)
+    }
+
+    fn stand(&'static self, lib: &[u8], net: &[u8]) -> Result<Standing, Refusal> {
+        let mut table = vec![0; self.standing];
+        let mut buffer = vec![0; self.report_room];
+        let answer = self.calls.stand(lib, net, &mut table, &mut buffer);
+        let report = read_report(&self.written(buffer, answer)?);
+        Ok(Standing { analyser: self, table, lines: report.lines().collect() })
+    }
+
+    fn advise(&self, lib: &[u8], net: &[u8], forbidden: &[u32]) -> Result<Option<(usize, Cost)>, Refusal> {
+        let mut largest = [0];
+        let answer = self.calls.advise(lib, net, forbidden, &mut largest);
+        Ok(match self.accepted(answer)? {
+            0 => None,
+            line => Some((line, cost(largest[0]))),
+        })
+    }
+
+    /// The plan that sets a line to a value, in combinational (kind 0) or sequential terms (kind 1).
+    pub fn plan(&self, lib: &[u8], net: &[u8], line: usize, value: u8, kind: u8) -> Result<String, Refusal> {
+        let mut buffer = vec![0; self.refused as usize - 1];
+        let answer = self.calls.plan(lib, net, line as u64, u64::from(value), u64::from(kind), &mut buffer);
+        self.written(buffer, answer)
+    }
+
+    /// What never says of the chip (K8): 0 nothing, 1 that no setting gives a value that is never, 2 exactly so.
+    pub fn qualifies(&self, lib: &[u8], net: &[u8]) -> Result<usize, Refusal> {
+        self.accepted(self.calls.qualifies(lib, net))
+    }
+}
+
+/// Stack that a thread has for the calls, in bytes, whichever analyser is taken: what the largest one's header says of the
+/// deepest call, and as much as a program usually has for this program's own.
+pub fn stack() -> usize {
+    LARGEST.plan_stack + (8 << 20)
+}
+
 /// The report's text for a library and a netlist.
 pub fn report_text(lib: &[u8], net: &[u8]) -> Result<String, Refusal> {
-    let mut buffer = vec![0; REPORT_ROOM];
-    // Each slice is valid for its length, and no two overlap.
-    let answer =
-        unsafe { c::scoap_report(lib.as_ptr(), lib.len(), net.as_ptr(), net.len(), buffer.as_mut_ptr(), buffer.len()) };
-    written(buffer, answer)
+    smallest(&ANALYSERS, |analyser| analyser.report_text(lib, net))
 }
 
 /// The numbers for a library and a netlist.
@@ -173,8 +173,10 @@ fn read_report(text: &str) -> Numbers {
 
 /// A standing analysis, on which pads are asked for and placed: the archive's own table. The texts that it is of are lent
 /// again with each call.
-#[derive(Clone, Debug, PartialEq, Eq)]
+#[derive(Clone)]
 pub struct Standing {
+    /// The smallest analyser that takes the texts.
+    pub analyser: &'static Analyser,
     table: Vec<u32>,
     /// The lines that the netlist mentions.
     lines: Vec<usize>,
@@ -189,7 +191,7 @@ impl Standing {
     /// The numbers with the pads placed so far.
     pub fn numbers(&self) -> Numbers {
         self.numbers_of(|line| {
-            let place = STANDING_NUMBERS + 6 * (line - 1);
+            let place = self.analyser.standing_numbers + 6 * (line - 1);
             std::array::from_fn(|at| cost(self.table[place + at]))
         })
     }
@@ -209,23 +211,7 @@ fn cost(number: u32) -> Cost {
 
 /// The analysis of a library and a netlist, without a pad.
 pub fn stand(lib: &[u8], net: &[u8]) -> Result<Standing, Refusal> {
-    let mut table = vec![0; STANDING];
-    let mut buffer = vec![0; REPORT_ROOM];
-    // Each slice is valid for its length, and no two overlap.
-    let answer = unsafe {
-        c::scoap_stand(
-            lib.as_ptr(),
-            lib.len(),
-            net.as_ptr(),
-            net.len(),
-            table.as_mut_ptr(),
-            table.len(),
-            buffer.as_mut_ptr(),
-            buffer.len(),
-        )
-    };
-    let report = read_report(&written(buffer, answer)?);
-    Ok(Standing { table, lines: report.lines().collect() })
+    smallest(&ANALYSERS, |analyser| analyser.stand(lib, net))
 }
 
 /// What a pad on a line would leave, and the count of pads placed so far, which with the line is the ticket. `before` are
@@ -237,22 +223,10 @@ pub fn ask(
     before: &Numbers,
     line: usize,
 ) -> Result<(u64, Numbers), Refusal> {
-    let mut seen = vec![0; OBSERVED];
-    // Each slice is valid for its length, and no two overlap.
-    let answer = unsafe {
-        c::scoap_ask(
-            lib.as_ptr(),
-            lib.len(),
-            net.as_ptr(),
-            net.len(),
-            standing.table.as_ptr(),
-            standing.table.len(),
-            line as u64,
-            seen.as_mut_ptr(),
-            seen.len(),
-        )
-    };
-    let count = accepted(answer)? as u64;
+    let analyser = standing.analyser;
+    let mut seen = vec![0; analyser.observed];
+    let answer = analyser.calls.ask(lib, net, &standing.table, line as u64, &mut seen);
+    let count = analyser.accepted(answer)? as u64;
     let numbers = standing.numbers_of(|line| {
         let [cc0, cc1, sc0, sc1, ..] = *before.of(line);
         let place = 2 * (line - 1);
@@ -263,78 +237,24 @@ pub fn ask(
 
 /// Places a pad by its ticket: what was asked for stands from now on.
 pub fn commit(lib: &[u8], net: &[u8], standing: &mut Standing, line: usize, count: u64) -> Result<(), Refusal> {
-    // Each slice is valid for its length, and no two overlap.
-    let answer = unsafe {
-        c::scoap_commit(
-            lib.as_ptr(),
-            lib.len(),
-            net.as_ptr(),
-            net.len(),
-            standing.table.as_mut_ptr(),
-            standing.table.len(),
-            line as u64,
-            count,
-        )
-    };
-    accepted(answer).map(|_| ())
+    let analyser = standing.analyser;
+    let answer = analyser.calls.commit(lib, net, &mut standing.table, line as u64, count);
+    analyser.accepted(answer).map(|_| ())
 }
 
 /// The line whose pad leaves the least largest CO, over all lines of the netlist, and that CO (K13). None where every line
 /// is forbidden or an output.
 pub fn advise(lib: &[u8], net: &[u8], forbidden: &[u32]) -> Result<Option<(usize, Cost)>, Refusal> {
-    let mut largest = [0];
-    // Each slice is valid for its length, and no two overlap.
-    let answer = unsafe {
-        c::scoap_advise(
-            lib.as_ptr(),
-            lib.len(),
-            net.as_ptr(),
-            net.len(),
-            forbidden.as_ptr(),
-            forbidden.len(),
-            largest.as_mut_ptr(),
-            largest.len(),
-        )
-    };
-    Ok(match accepted(answer)? {
-        0 => None,
-        line => Some((line, cost(largest[0]))),
-    })
-}
-
-/// The plan that sets a line to a value, in combinational (kind 0) or sequential terms (kind 1).
-pub fn plan(lib: &[u8], net: &[u8], line: usize, value: u8, kind: u8) -> Result<String, Refusal> {
-    let mut buffer = vec![0; PLAN_ROOM];
-    // Each slice is valid for its length, and no two overlap.
-    let answer = unsafe {
-        c::scoap_plan(
-            lib.as_ptr(),
-            lib.len(),
-            net.as_ptr(),
-            net.len(),
-            line as u64,
-            u64::from(value),
-            u64::from(kind),
-            buffer.as_mut_ptr(),
-            buffer.len(),
-        )
-    };
-    written(buffer, answer)
+    smallest(&ANALYSERS, |analyser| analyser.advise(lib, net, forbidden))
 }
 
 /// The library entry of a truth table of at most four pins.
 pub fn cell(name: &str, pins: usize, bits: &str) -> Result<String, Refusal> {
     let line = format!("{name},{pins},{bits}\n");
-    let mut buffer = vec![0; ENTRY_ROOM];
-    // Each slice is valid for its length, and the two do not overlap.
-    let answer = unsafe { c::scoap_cell(line.as_ptr(), line.len(), buffer.as_mut_ptr(), buffer.len()) };
-    written(buffer, answer)
-}
-
-/// What never says of the chip (K8): 0 nothing, 1 that no setting gives a value that is never, 2 exactly so.
-pub fn qualifies(lib: &[u8], net: &[u8]) -> Result<usize, Refusal> {
-    // Each slice is valid for its length.
-    accepted(unsafe { c::scoap_qualifies(lib.as_ptr(), lib.len(), net.as_ptr(), net.len()) })
+    let analyser = &ANALYSERS[0];
+    let mut buffer = vec![0; analyser.entry_room];
+    let answer = analyser.calls.cell(line.as_bytes(), &mut buffer);
+    analyser.written(buffer, answer)
 }
 
 /// What a refusal's number means, in README's words, which are of the published sizes; tests/refusals holds them.
@@ -368,7 +288,7 @@ fn words(number: u32) -> &'static str {
     }
 }
 
-/// The same with the sizes of this analyser.
+/// The same with the sizes of the largest analyser: no smaller one has the last word on a size.
 pub fn refusal_told(number: u32) -> String {
     sized(words(number), MOST_LINES, MOST_BYTES)
 }
@@ -377,9 +297,28 @@ fn sized(words: &str, lines: usize, bytes: usize) -> String {
     words.replace("1,000", &grouped(lines as u64)).replace("65,535", &grouped(bytes as u64))
 }
 
-/// `1,000 lines`, as many as this analyser takes.
+/// `1,000 lines`, as many as the largest analyser takes.
 pub fn lines_told() -> String {
     format!("{} lines", grouped(MOST_LINES as u64))
+}
+
+/// `1,000 and 4,000 lines`: the sizes that are linked.
+pub fn sizes_told() -> String {
+    let sizes: Vec<String> = ANALYSERS.iter().map(|analyser| grouped(analyser.lines as u64)).collect();
+    match sizes.split_last() {
+        Some((last, [])) => format!("{last} lines"),
+        Some((last, rest)) => format!("{} and {last} lines", rest.join(", ")),
+        None => String::new(),
+    }
+}
+
+/// What to build for a netlist that has more lines than the largest analyser, in thousands of lines.
+pub fn larger_told(lines: usize) -> String {
+    if lines > MOST_BUILT {
+        return format!("; no analyser can be built for more than {} lines", grouped(MOST_BUILT as u64));
+    }
+    let wanted = lines.next_multiple_of(1_000).min(MOST_BUILT);
+    format!("; no larger analyser is linked: make pads LINES={wanted} builds one and links it too")
 }
 
 #[cfg(test)]
@@ -404,8 +343,9 @@ mod tests {
         let net = b"input,1\ninput,2\ninput,3\ngate,C1130,4,1,2,3\noutput,4\n";
         let numbers = report(lib.as_bytes(), net).unwrap();
         assert_eq!(numbers.of(4)[1], Cost::Figure(4));
-        assert_eq!(plan(lib.as_bytes(), net, 4, 1, 0).unwrap().lines().next(), Some("0,4,1,125"));
-        assert_eq!(qualifies(lib.as_bytes(), net), Ok(2));
+        let analyser = &ANALYSERS[0];
+        assert_eq!(analyser.plan(lib.as_bytes(), net, 4, 1, 0).unwrap().lines().next(), Some("0,4,1,125"));
+        assert_eq!(analyser.qualifies(lib.as_bytes(), net), Ok(2));
         let refused = Refusal { number: 10, line: 1 };
         assert_eq!(report(lib.as_bytes(), b"?\n").unwrap_err(), refused);
     }
@@ -420,7 +360,7 @@ mod tests {
         let fresh = standing.clone();
         let before = standing.numbers();
         let (count, asked) = ask(&lib, net, &standing, &before, 4).unwrap();
-        assert_eq!((count, &standing), (0, &fresh));
+        assert_eq!((count, &standing.table), (0, &fresh.table));
         let co: Vec<Cost> = [1, 2, 3, 4].map(|line| asked.of(line)[4]).to_vec();
         assert_eq!(co, [3, 3, 0, 0].map(Cost::Figure));
         let refused = |number| Err(Refusal { number, line: 0 });
@@ -432,14 +372,63 @@ mod tests {
         let placed = standing.clone();
         assert_eq!(commit(&lib, net, &mut standing, 1, count), refused(24));
         assert_eq!(commit(&lib, net, &mut standing, 4, 1), refused(23));
-        assert_eq!(standing, placed);
-        assert_eq!(stand(&lib, b"?\n").unwrap_err(), Refusal { number: 10, line: 1 });
+        assert_eq!(standing.table, placed.table);
+        assert_eq!(stand(&lib, b"?\n").err(), Some(Refusal { number: 10, line: 1 }));
+    }
+
+    /// Two of a kind, of which the first refuses by a number: which one answers.
+    fn taken(number: u32) -> (usize, Vec<usize>) {
+        let asked = std::cell::RefCell::new(Vec::new());
+        let answer = smallest(&[1_000, 4_000], |&lines| {
+            asked.borrow_mut().push(lines);
+            if lines == 1_000 && number > 0 {
+                return Err(Refusal { number, line: 7 });
+            }
+            Ok(lines)
+        });
+        (answer.unwrap_or(0), asked.into_inner())
     }
 
     #[test]
-    fn the_stack_is_the_header_s() {
+    fn the_smallest_that_fits_is_taken() {
+        assert_eq!(taken(0), (1_000, vec![1_000]));
+        // A text that is too long, and a line's number.
+        for number in [2, 11] {
+            assert_eq!(taken(number), (4_000, vec![1_000, 4_000]), "refusal {number}");
+        }
+        // What no size changes: it is the refusal.
+        for number in (1..=24).filter(|number| ![2, 11].contains(number)) {
+            assert_eq!(taken(number), (0, vec![1_000]), "refusal {number}");
+        }
+        // The last word is the largest's.
+        let last = |&lines: &usize| -> Result<(), Refusal> { Err(Refusal { number: 11, line: lines }) };
+        assert_eq!(smallest(&[1_000, 2_000, 4_000], last), Err(Refusal { number: 11, line: 4_000 }));
+        assert_eq!(smallest(&[1_000], last), Err(Refusal { number: 11, line: 1_000 }));
+    }
+
+    #[test]
+    fn the_sizes_are_the_header_s() {
+        assert!(ANALYSERS.windows(2).all(|two| two[0].lines < two[1].lines));
         let header = include_str!("../../../include/scoap.h");
-        assert!(header.contains(&format!("#define SCOAP_PLAN_STACK {PLAN_STACK}u\n")));
+        let analyser = &ANALYSERS[0];
+        for (name, size) in [
+            ("LINES", analyser.lines),
+            ("MOST_TEXT", analyser.bytes),
+            ("MOST_REPORTS", analyser.report_room),
+            ("REFUSED", analyser.refused as usize),
+            ("STANDING_NUMBERS", analyser.standing_numbers),
+            ("PLAN_STACK", analyser.plan_stack),
+        ] {
+            assert!(header.contains(&format!("#define SCOAP_{name} {size}u\n")), "{name}");
+        }
+    }
+
+    #[test]
+    fn what_to_build_is_told() {
+        assert!(larger_told(1_003).contains("make pads LINES=2000 "));
+        assert!(larger_told(32_001).contains("make pads LINES=32767 "));
+        assert!(larger_told(32_768).ends_with("more than 32,767 lines"));
+        assert!(sizes_told().starts_with("1,000"));
     }
 
     #[test]

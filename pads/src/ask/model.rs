@@ -1,7 +1,7 @@
 //! The texts that the analyser accepted, read once more for their structure: cells with their rows, gates, readers, and
 //! the user's names. Numbers are asked of the archive.
 
-use crate::ask::archive::{self, Numbers, Refusal, Standing, MOST_LINES};
+use crate::ask::archive::{self, Analyser, Numbers, Refusal, Standing, MOST_LINES};
 use crate::read::names::{LineKind, Name};
 use crate::show::cost::Cost;
 use crate::show::messages::shown_name;
@@ -326,6 +326,11 @@ impl Model {
             bare && !self.is_output[line]
         });
         archive::advise(&self.lib, &self.marked(self.placed.iter().copied().chain(unseen)), forbidden)
+    }
+
+    /// The analyser whose numbers these are: the smallest that takes the texts.
+    pub fn analyser(&self) -> &'static Analyser {
+        self.standing.analyser
     }
 
     /// The count of pads placed so far.

@@ -1,6 +1,5 @@
 //! Why lines can never be set: loops, constants and open lines on which the others rest.
 
-use crate::ask::archive;
 use crate::ask::model::{Driver, Model};
 use crate::read::names::{cut, LineKind};
 use crate::show::cost::Cost;
@@ -236,7 +235,7 @@ pub fn text(model: &Model) -> String {
         );
     }
     if !text.is_empty() {
-        text += match archive::qualifies(&model.lib, &model.net) {
+        text += match model.analyser().qualifies(&model.lib, &model.net) {
             Ok(1) => "It is proved of this netlist: no setting of the inputs gives a line a value that is never.\n",
             Ok(2) => "It is proved of this netlist: never stands exactly where no setting of the inputs gives the value.\n",
             _ => "Never says that there is no plan; of the chip itself nothing is proved here (registers, loops or open lines).\n",
@@ -248,6 +247,7 @@ pub fn text(model: &Model) -> String {
 #[cfg(test)]
 mod tests {
     use super::*;
+    use crate::ask::archive;
     use crate::rows::cells::{yosys, Kind};
 
     fn model(net: &str) -> Model {

@@ -1,7 +1,7 @@
 //! What pads would change, as the archive answers when it is asked for a pad, and the advice drawn from that. A pad is an
 //! output: it changes CO and SO alone.
 
-use crate::ask::archive::{refusal_told, Numbers, Refusal, Six, STACK};
+use crate::ask::archive::{self, refusal_told, Numbers, Refusal, Six};
 use crate::ask::model::{Driver, Model};
 use crate::ask::upstream::{self, Upstream};
 use crate::read::names::{LineKind, OWN_CLOCK};
@@ -193,7 +193,8 @@ pub fn effects(model: &Model, lines: &[usize], privacy: &Privacy) -> Result<Vec<
     let helpers = std::thread::available_parallelism().map_or(1, usize::from).min(lines.len()).saturating_sub(1);
     let mut done = std::thread::scope(|scope| {
         // A thread that cannot be had leaves its work to the others.
-        let spawn = |_| std::thread::Builder::new().stack_size(STACK).spawn_scoped(scope, || work(None)).ok();
+        let spawn =
+            |_| std::thread::Builder::new().stack_size(archive::stack()).spawn_scoped(scope, || work(None)).ok();
         let helpers: Vec<_> = (0..helpers).filter_map(spawn).collect();
         let mut done = work(Some(Progress::new("pads tried")));
         for helper in helpers {

@@ -2,7 +2,6 @@
 //! sum of. For setting, the row is the one of the proved plan; where that text is too long, and for observing, the first
 //! row in library order whose terms and depth give the number, taken so that no step goes back to a node above it.
 
-use crate::ask::archive;
 use crate::ask::model::{Driver, Model, Number, Row};
 use crate::show::cost::Cost;
 use std::collections::HashMap;
@@ -211,7 +210,7 @@ impl<'m> Reasons<'m> {
             return row.clone();
         }
         let kind = u8::from(self.sequential);
-        match archive::plan(&self.model.lib, &self.model.net, line, u8::from(value), kind) {
+        match self.model.analyser().plan(&self.model.lib, &self.model.net, line, u8::from(value), kind) {
             Ok(text) => {
                 // One plan has the rows of all its nodes.
                 for node in text.lines() {
@@ -432,6 +431,7 @@ fn no_way_back(below: &HashMap<Node, Vec<Node>>, model: &Model) -> Result<(), St
 #[cfg(test)]
 mod tests {
     use super::*;
+    use crate::ask::archive;
 
     fn model(tables: &[(&str, usize, &str)], net: &str) -> Model {
         let lib: String = tables.iter().map(|(name, n, bits)| archive::cell(name, *n, bits).unwrap()).collect();

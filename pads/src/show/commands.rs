@@ -1,6 +1,6 @@
 //! The commands: each answers what it prints and its exit status.
 
-use crate::ask::archive::{refusal_told, Numbers, MOST_BYTES, MOST_CELLS, MOST_LINES, MOST_PINS, MOST_ROWS};
+use crate::ask::archive::{self, refusal_told, Numbers, MOST_CELLS, MOST_LINES, MOST_PINS, MOST_ROWS};
 use crate::ask::model::{Model, Number};
 use crate::ask::pads::{self, Effect, Measure, Privacy, Round, Touching};
 use crate::ask::ranking::{self, Key};
@@ -106,14 +106,16 @@ fn check(args: &Args, messages: &mut Messages) -> Result<Done, Stop> {
     let most_pins = model.cells.iter().map(|cell| cell.pins).max().unwrap_or(0);
     let groups = model.cells.iter().flat_map(|cell| cell.control.iter().chain(&cell.observe).flatten());
     let most_rows = groups.map(Vec::len).max().unwrap_or(0);
+    let analyser = model.analyser();
+    let _ = writeln!(text, "analyser: of {} lines (linked: {})", grouped(analyser.lines as u64), archive::sizes_told());
     text += "limits used:\n";
     for (used, most, what) in [
-        (model.names.len(), MOST_LINES, "lines"),
+        (model.names.len(), analyser.lines, "lines"),
         (model.cells.len(), MOST_CELLS, "cells"),
         (most_pins, MOST_PINS, "pins of a cell"),
         (most_rows, MOST_ROWS, "rows of a group"),
-        (model.lib.len(), MOST_BYTES, "bytes of lib.txt"),
-        (model.net.len(), MOST_BYTES, "bytes of net.txt"),
+        (model.lib.len(), analyser.bytes, "bytes of lib.txt"),
+        (model.net.len(), analyser.bytes, "bytes of net.txt"),
     ] {
         let _ = writeln!(text, "  {:>6} of {:>6} {what}", grouped(used as u64), grouped(most as u64));
     }

@@ -13,8 +13,6 @@ use std::fmt::Write;
 
 const TEMPLATE: &str = include_str!("page/page.html");
 const STYLE: &str = include_str!("page/page.css");
-/// The calls as WebAssembly, as they are installed too: pads/wasm writes them. Empty where nothing did, and the page is still.
-const SCOAP: &str = include_str!(env!("SCOAP_JS_COPY"));
 const SCRIPT: &str = concat!(
     include_str!("page/base.js"),
     include_str!("page/why.js"),
@@ -123,7 +121,7 @@ pub fn page(path: &str, model: &Model, placed: &[usize], privacy: &Privacy, said
         ("@STYLE@", STYLE),
         ("@DATA@", data.as_str()),
         ("@TEXTS@", texts.as_str()),
-        ("@SCOAP@", SCOAP),
+        ("@SCOAP@", model.analyser().js),
         ("@SCRIPT@", SCRIPT),
     ];
     for (place, content) in contents {

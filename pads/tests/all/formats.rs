@@ -160,7 +160,7 @@ fn limits_are_told_together() {
     let (loaded, said) = load(&room.file("long.bench", &text));
     assert!(loaded.is_none());
     assert!(said.contains("1,102 lines, the analyser takes 1,000\n  1 input, 1,101 gates\n  what helps"), "{said}");
-    assert!(said.contains("make pads LINES=2000\n"), "{said}");
+    assert!(said.contains("no larger analyser is linked: make pads LINES=2000 builds one"), "{said}");
     // 33 functions of four pins.
     let mut text = "INPUT(a)\nINPUT(b)\nINPUT(c)\nINPUT(d)\nINPUT(e)\nINPUT(f)\n".to_string();
     for at in 1..=33 {
