@@ -4,7 +4,7 @@ use crate::ask::archive::refusal_told;
 use crate::ask::model::Model;
 use crate::read::hub::Design;
 use crate::read::names::LineKind;
-use crate::read::{bench, blif, liberty, native, verilog, yosys};
+use crate::read::{bench, blif, blocks, liberty, native, verilog, yosys};
 use crate::rows::types::Types;
 use crate::rows::writer::{self, Texts};
 use crate::show::cost::grouped;
@@ -82,7 +82,7 @@ fn read(source: &Source, messages: &mut Messages) -> Result<Design, Stop> {
     }
     match format {
         "json" => {
-            let text = text::read(path, yosys::MOST_BYTES, messages)?;
+            let text = text::read(path, blocks::MOST_BYTES, messages)?;
             yosys::read(path, &text, &by_json, &mut types, messages)
         }
         "blif" => {
@@ -95,7 +95,7 @@ fn read(source: &Source, messages: &mut Messages) -> Result<Design, Stop> {
         }
         "v" | "sv" => {
             // The file must be there, before Yosys is asked.
-            text::read(path, yosys::MOST_BYTES, messages)?;
+            text::read(path, blocks::MOST_BYTES, messages)?;
             let text = verilog::to_json(path, &source.libraries, source.top.as_deref(), messages)?;
             yosys::read(path, &text, &by_json, &mut types, messages)
         }

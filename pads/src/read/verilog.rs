@@ -50,7 +50,7 @@ fn run(
     let ended = wait(child);
     let said = std::fs::read(&log).map(|bytes| String::from_utf8_lossy(&bytes).into_owned()).unwrap_or_default();
     match ended {
-        Some(true) => text::read(&json.display().to_string(), crate::read::yosys::MOST_BYTES, messages),
+        Some(true) => text::read(&json.display().to_string(), crate::read::blocks::MOST_BYTES, messages),
         other => {
             let why = if other.is_none() { "takes more than 120 seconds" } else { "does not read it" };
             let lines: Vec<&str> = said.lines().filter(|line| !line.trim().is_empty()).collect();

@@ -2,6 +2,7 @@
 //! counted. `net.txt` is written here and nowhere else.
 
 use crate::ask::archive::{MOST_BYTES, MOST_CELLS, MOST_LINES, MOST_PINS, MOST_ROWS};
+use crate::read::blocks::helps;
 use crate::read::hub::{Design, Source};
 use crate::read::names::{LineKind, Name};
 use crate::rows::cells::{Kind, Op, Wide};
@@ -157,16 +158,6 @@ pub fn write(design: &mut Design, messages: &mut Messages) -> Result<Texts, Stop
         return Err(Stop::Refused);
     }
     writer.texts(messages)
-}
-
-/// The most lines for which an analyser can be built, and the way to one that has room, in thousands of lines.
-const LARGEST: usize = 8_191;
-
-fn larger(lines: usize) -> String {
-    if lines > LARGEST {
-        return String::new();
-    }
-    format!(", or build for more lines: make pads LINES={}", lines.next_multiple_of(1_000).min(LARGEST))
 }
 
 impl Writer<'_> {
@@ -499,12 +490,11 @@ impl Writer<'_> {
             messages.error(
                 &file,
                 format!(
-                    "{} lines, the analyser takes {}\n  {}\n  what helps: analyse a block by --top (of a netlist that is not \
-                     flattened), map to larger cells{}",
+                    "{} lines, the analyser takes {}\n  {}{}",
                     grouped(lines as u64),
                     grouped(MOST_LINES as u64),
                     told.join(", "),
-                    larger(lines)
+                    helps(lines, self.design)
                 ),
             );
         }
