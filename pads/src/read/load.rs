@@ -75,9 +75,9 @@ fn read(source: &Source, messages: &mut Messages) -> Result<Design, Stop> {
         return Err(Stop::Refused);
     }
     let mut types = Types::new(libraries);
-    let wanted = blif::Wanted { clock: source.clock.as_deref(), allow_open: source.open };
+    let wanted = blif::Wanted { top: source.top.as_deref(), clock: source.clock.as_deref(), allow_open: source.open };
     let by_json = yosys::Wanted { top: source.top.as_deref(), allow_open: source.open };
-    if source.top.is_some() && !["json", "v", "sv"].contains(&format) {
+    if source.top.is_some() && !["json", "blif", "v", "sv"].contains(&format) {
         messages.warn(format!("--top is not used: a .{format} file has one block"));
     }
     match format {
@@ -86,11 +86,11 @@ fn read(source: &Source, messages: &mut Messages) -> Result<Design, Stop> {
             yosys::read(path, &text, &by_json, &mut types, messages)
         }
         "blif" => {
-            let text = text::read(path, blif::MOST_BYTES, messages)?;
+            let text = text::read(path, blocks::MOST_BYTES, messages)?;
             Ok(blif::read(path, &text, &wanted, &mut types, messages))
         }
         "bench" => {
-            let text = text::read(path, bench::MOST_BYTES, messages)?;
+            let text = text::read(path, blocks::MOST_BYTES, messages)?;
             Ok(bench::read(path, &text, &wanted, messages))
         }
         "v" | "sv" => {
