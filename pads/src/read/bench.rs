@@ -2,15 +2,17 @@
 
 use crate::ask::archive::MOST_PINS;
 use crate::read::blif::put_clock;
+use crate::read::blocks::{Block, Tree};
 use crate::read::hub::{too_many, Design, Gate, Lines, Source, MOST_NETS};
 use crate::rows::cells::{self, Cell, Kind};
+use crate::rows::types::Types;
 use crate::rows::Table;
 use crate::show::cost::grouped;
 use crate::show::messages::Messages;
 use std::collections::HashMap;
 use std::rc::Rc;
 
-pub use crate::read::blif::{Wanted, MOST_BYTES};
+pub use crate::read::blif::Wanted;
 
 pub fn read(file: &str, text: &str, wanted: &Wanted, messages: &mut Messages) -> Design {
     let lines = Lines { file, text };
@@ -22,6 +24,9 @@ pub fn read(file: &str, text: &str, wanted: &Wanted, messages: &mut Messages) ->
         clockless: Vec::new(),
         input_lines: HashMap::new(),
     };
+    if !fits(&mut reader.design, text, reader.messages) {
+        return reader.design;
+    }
     for (at, line) in text.lines().enumerate() {
         let line = line.split('#').next().unwrap_or("").trim();
         if !line.is_empty() {
@@ -40,6 +45,24 @@ pub fn read(file: &str, text: &str, wanted: &Wanted, messages: &mut Messages) ->
         design.settle(&lines, wanted.allow_open, messages);
     }
     design
+}
+
+/// Counts the gates first: a file of far too many is not built.
+fn fits(design: &mut Design, text: &str, messages: &mut Messages) -> bool {
+    let mut block = Block::default();
+    for line in text.lines() {
+        let line = line.split('#').next().unwrap_or("").trim_start();
+        if line.get(..5).is_some_and(|word| word.eq_ignore_ascii_case("INPUT")) {
+            block.inputs += 1;
+        } else if line.contains('=') {
+            block.gates += 1;
+        }
+    }
+    let file = design.file.clone();
+    let mut tree = Tree::default();
+    let _ = tree.push(block);
+    tree.settle(&mut Types::default());
+    tree.parts(&file, 0, design, messages).is_some()
 }
 
 struct Reader<'a, 'm> {
@@ -227,7 +250,7 @@ mod tests {
 
     fn design(text: &str) -> (Design, String) {
         let mut messages = Messages::new();
-        let wanted = Wanted { clock: None, allow_open: false };
+        let wanted = Wanted::default();
         let design = read("c.bench", text, &wanted, &mut messages);
         (design, messages.text())
     }

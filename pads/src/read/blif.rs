@@ -1,6 +1,7 @@
-//! Flat BLIF: `.names`, `.latch`, `.subckt` and `.gate`.
+//! BLIF: `.names`, `.latch`, `.subckt` and `.gate`; models within models are flattened.
 
 use crate::ask::archive::MOST_PINS;
+use crate::read::blocks::{Block, Tree};
 use crate::read::hub::{too_many, Design, Gate, Lines, Source, MOST_NETS};
 use crate::read::names::OWN_CLOCK;
 use crate::rows::cells::{self, Cell, Kind, Op};
@@ -11,29 +12,31 @@ use crate::show::messages::Messages;
 use std::collections::HashMap;
 use std::rc::Rc;
 
-/// Largest file that is read.
-pub const MOST_BYTES: usize = 4 << 20;
-
+#[derive(Default)]
 pub struct Wanted<'a> {
+    pub top: Option<&'a str>,
     pub clock: Option<&'a str>,
     pub allow_open: bool,
 }
 
-/// Lines joined by a backslash, without comments, handed on one by one with the number of the first; the answer says
-/// whether to go on.
-fn each_joined(text: &str, mut take: impl FnMut(usize, &str) -> bool) {
+/// Lines joined by a backslash, without comments, handed on one by one with the number of the first and the byte where it
+/// begins; the answer says whether to go on.
+fn each_joined(text: &str, mut take: impl FnMut(usize, usize, &str) -> bool) {
     let mut whole = String::new();
     let mut first = None;
-    for (at, line) in text.lines().enumerate() {
+    let mut byte = 0;
+    for (at, line) in text.split_inclusive('\n').enumerate() {
+        let begins = byte;
+        byte += line.len();
         let line = line.split('#').next().unwrap_or("").trim_end();
         let (line, more) = match line.strip_suffix('\\') {
             Some(line) => (line, true),
             None => (line, false),
         };
-        let number = *first.get_or_insert(at + 1);
+        let (number, begins) = *first.get_or_insert((at + 1, begins));
         if !more && whole.is_empty() {
             first = None;
-            if !take(number, line) {
+            if !take(number, begins, line) {
                 return;
             }
             continue;
@@ -42,39 +45,112 @@ fn each_joined(text: &str, mut take: impl FnMut(usize, &str) -> bool) {
         whole.push(' ');
         if !more {
             first = None;
-            if !take(number, &whole) {
+            if !take(number, begins, &whole) {
                 return;
             }
             whole.clear();
         }
     }
-    take(first.unwrap_or(1), &whole);
+    let (number, begins) = first.unwrap_or((1, byte));
+    take(number, begins, &whole);
+}
+
+/// The models and what is in them; None where there are too many.
+fn survey(text: &str) -> Option<Tree> {
+    let mut tree = Tree::default();
+    let mut blocks: Vec<Block> = Vec::new();
+    let mut enough = true;
+    let mut first_model = true;
+    let (mut black, mut ended) = (false, false);
+    // Inputs of a .names, and its rows if they may make it a wire.
+    let mut cover: Option<(usize, usize, bool)> = None;
+    let mut put = |blocks: &mut Vec<Block>, black: bool, end: usize| {
+        let Some(mut block) = blocks.pop() else { return true };
+        block.bytes.end = end;
+        black || tree.push(block)
+    };
+    each_joined(text, |number, byte, line| {
+        let mut words = line.split_whitespace();
+        let Some(first) = words.next() else { return true };
+        if !first.starts_with('.') {
+            if let Some((inputs, rows, wire)) = &mut cover {
+                *rows += 1;
+                *wire = *inputs == 1 && *rows == 1 && (line.split_whitespace().eq(["1", "1"]) || first == "11");
+            }
+            return true;
+        }
+        if let (Some((inputs, _, wire)), Some(block)) = (cover.take(), blocks.last_mut()) {
+            let count = if inputs == 0 || wire { &mut block.others } else { &mut block.gates };
+            *count += 1;
+        }
+        if first == ".model" {
+            if !put(&mut blocks, black, byte) {
+                enough = false;
+                return false;
+            }
+            (black, ended) = (false, false);
+            // What stands before the first model is read with it, and told.
+            let (byte, number) = if std::mem::replace(&mut first_model, false) { (0, 1) } else { (byte, number) };
+            let name = words.next().unwrap_or("").to_string();
+            blocks.push(Block { name, bytes: byte..byte, line: number, ..Block::default() });
+            return true;
+        }
+        let Some(block) = blocks.last_mut().filter(|_| !ended) else { return true };
+        match first {
+            ".inputs" | ".clock" => block.inputs += words.count() as u64,
+            ".names" => cover = Some((words.count().saturating_sub(1), 0, false)),
+            ".latch" => block.gates += 1,
+            ".subckt" | ".gate" => {
+                if let Some(title) = words.next() {
+                    block.add(title, 1);
+                }
+            }
+            ".conn" => block.others += 1,
+            ".blackbox" => black = true,
+            ".end" => ended = true,
+            _ => {}
+        }
+        true
+    });
+    if let (Some((inputs, _, wire)), Some(block)) = (cover.take(), blocks.last_mut()) {
+        let count = if inputs == 0 || wire { &mut block.others } else { &mut block.gates };
+        *count += 1;
+    }
+    enough &= put(&mut blocks, black, text.len());
+    enough.then_some(tree)
 }
 
 pub fn read(file: &str, text: &str, wanted: &Wanted, types: &mut Types, messages: &mut Messages) -> Design {
     let lines = Lines { file, text };
+    let mut design = Design { file: file.to_string(), ..Design::default() };
+    let Some(mut tree) = survey(text) else {
+        messages.error(file, Tree::too_many());
+        return design;
+    };
+    if tree.blocks.is_empty() {
+        messages.error(file, "no .model: is it BLIF?");
+        return design;
+    }
+    tree.settle(types);
+    let Some(top) = tree.choose(file, wanted.top, types, messages) else { return design };
+    design.name = tree.blocks[top].name.clone();
+    design.block = wanted.top.is_some() && tree.blocks.len() > 1;
+    if tree.parts(file, top, &mut design, messages).is_none() {
+        return design;
+    }
     let mut reader = Reader {
         lines: &lines,
+        tree: &tree,
         messages,
-        design: Design { file: file.to_string(), ..Design::default() },
-        nets: HashMap::new(),
+        design,
+        frame: Frame::default(),
         outputs: Vec::new(),
-        cover: None,
-        models: 0,
-        ended: false,
         open_pins: 0,
         clockless: Vec::new(),
     };
-    each_joined(text, |number, line| {
-        reader.line(number, line, types);
-        !reader.messages.full() && !reader.design.full()
-    });
-    reader.finish_cover();
+    reader.model(top, types);
     if reader.design.full() {
         reader.messages.error(file, too_many());
-    }
-    if reader.models == 0 && reader.messages.errors() == 0 {
-        reader.messages.error(file, "no .model: is it BLIF?");
     }
     reader.finish(wanted)
 }
@@ -87,15 +163,37 @@ struct Cover {
     wrong: bool,
 }
 
-struct Reader<'a, 'm> {
-    lines: &'a Lines<'a>,
-    messages: &'m mut Messages,
-    design: Design,
+/// A model inside another one: its line, its place, the nets at its ports, its name.
+struct Inner {
+    line: usize,
+    place: usize,
+    ports: HashMap<String, usize>,
+    name: Option<String>,
+}
+
+/// A model that is read: what stands before its names, its nets, and the models in it.
+#[derive(Default)]
+struct Frame {
+    prefix: String,
     nets: HashMap<String, usize>,
-    outputs: Vec<(String, usize)>,
+    /// What its ports are outside, and the line that says so; None in the chip itself.
+    ports: Option<HashMap<String, usize>>,
+    line: usize,
+    inner: Vec<Inner>,
     cover: Option<Cover>,
     models: usize,
     ended: bool,
+    /// The last cell was a model.
+    inner_last: bool,
+}
+
+struct Reader<'a, 'm> {
+    lines: &'a Lines<'a>,
+    tree: &'a Tree,
+    messages: &'m mut Messages,
+    design: Design,
+    frame: Frame,
+    outputs: Vec<(String, usize)>,
     open_pins: usize,
     /// Registers whose clock is not said.
     clockless: Vec<usize>,
@@ -109,17 +207,75 @@ impl Reader<'_, '_> {
     }
 
     fn net(&mut self, name: &str) -> usize {
-        if let Some(&net) = self.nets.get(name) {
+        if let Some(&net) = self.frame.nets.get(name) {
             return net;
         }
         let net = self.design.add_net();
-        if name.starts_with('$') {
-            self.design.nets[net].hidden = Some(name.to_string());
-        } else {
-            self.design.nets[net].names.push(name.to_string());
-        }
-        self.nets.insert(name.to_string(), net);
+        self.name(net, name);
+        self.frame.nets.insert(name.to_string(), net);
         net
+    }
+
+    fn name(&mut self, net: usize, name: &str) {
+        let whole = format!("{}{name}", self.frame.prefix);
+        self.design.name_bytes += whole.len();
+        let net = &mut self.design.nets[net];
+        if name.starts_with('$') {
+            net.hidden.get_or_insert(whole);
+        } else {
+            net.names.push(whole);
+        }
+    }
+
+    /// A model and all in it.
+    fn model(&mut self, at: usize, types: &mut Types) {
+        let block = &self.tree.blocks[at];
+        let (first, text) = (block.line, &self.lines.text[block.bytes.clone()]);
+        each_joined(text, |number, _, line| {
+            self.line(first + number - 1, line, types);
+            !self.messages.full() && !self.design.full()
+        });
+        self.finish_cover();
+        if let Some((port, _)) = self.frame.ports.take().and_then(|ports| ports.into_iter().min()) {
+            self.error(self.frame.line, format!("the model {} has no port {port}", block.name));
+        }
+        let mut counts: HashMap<usize, usize> = HashMap::new();
+        for inner in std::mem::take(&mut self.frame.inner) {
+            if self.messages.full() || self.design.full() {
+                return;
+            }
+            let count = counts.entry(inner.place).or_default();
+            *count += 1;
+            let name = inner.name.unwrap_or_else(|| format!("{}_{count}", self.tree.blocks[inner.place].name));
+            let frame = Frame {
+                prefix: format!("{}{name}.", self.frame.prefix),
+                ports: Some(inner.ports),
+                line: inner.line,
+                ..Frame::default()
+            };
+            let outer = std::mem::replace(&mut self.frame, frame);
+            self.model(inner.place, types);
+            self.frame = outer;
+        }
+    }
+
+    /// A port of a model inside another one is the net outside.
+    fn port(&mut self, number: usize, name: &str, input: bool) {
+        let outside = self.frame.ports.as_mut().and_then(|ports| ports.remove(name));
+        match (outside, self.frame.nets.get(name).copied()) {
+            (Some(outside), None) => {
+                self.name(outside, name);
+                self.frame.nets.insert(name.to_string(), outside);
+            }
+            (Some(outside), Some(inside)) if !input => self.design.wires.push((outside, Source::Net(inside), number)),
+            (Some(_), Some(_)) => self.error(number, format!("the port {name} stands behind its use")),
+            (None, None) if input => {
+                let net = self.net(name);
+                self.open_pins += 1;
+                self.design.wires.push((net, Source::Open, number));
+            }
+            (None, _) => {}
+        }
     }
 
     fn line(&mut self, number: usize, line: &str, types: &mut Types) {
@@ -130,30 +286,28 @@ impl Reader<'_, '_> {
             return self.error(number, format!("a statement of more than {} words", grouped(MOST_NETS as u64)));
         }
         if !first.starts_with('.') {
-            if self.ended {
+            if self.frame.ended {
                 return;
             }
             return self.row(number, &words);
         }
         self.finish_cover();
         let rest = &words[1..];
-        if self.ended && first != ".model" {
+        if self.frame.ended {
             return;
         }
         match first {
-            ".model" => {
-                self.models += 1;
-                if self.models > 1 {
-                    self.error(number, "a second .model: flatten the netlist first (yosys: flatten)");
-                    self.ended = true;
-                } else {
-                    self.design.name = rest.first().unwrap_or(&"").to_string();
+            ".model" => self.frame.models += 1,
+            _ if self.frame.models == 0 => self.error(number, format!("{first} stands before the .model")),
+            ".inputs" | ".clock" | ".outputs" if !self.frame.prefix.is_empty() => {
+                for name in rest {
+                    self.port(number, name, first != ".outputs");
                 }
             }
             ".inputs" | ".clock" => {
                 for name in rest {
                     let net = self.net(name);
-                    if first == ".inputs" || !self.design.inputs.contains(&net) {
+                    if first == ".inputs" || self.design.nets[net].port.is_none() {
                         self.design.nets[net].port = Some(name.to_string());
                         self.design.inputs.push(net);
                     }
@@ -170,7 +324,7 @@ impl Reader<'_, '_> {
                     return self.error(number, "a .names without a net");
                 }
                 let nets = rest.iter().map(|name| self.net(name)).collect();
-                self.cover = Some(Cover { line: number, nets, rows: Vec::new(), wrong: false });
+                self.frame.cover = Some(Cover { line: number, nets, rows: Vec::new(), wrong: false });
             }
             ".latch" => self.latch(number, rest),
             ".subckt" | ".gate" => self.cell(number, rest, types),
@@ -181,15 +335,18 @@ impl Reader<'_, '_> {
                 }
                 _ => self.error(number, "a .conn has two nets"),
             },
-            ".end" => self.ended = true,
+            ".end" => self.frame.ended = true,
             ".exdc" | ".mlatch" | ".search" | ".start_kiss" => {
                 self.error(number, format!("{first} is not read here"));
             }
-            ".cname" => {
-                if let (Some(name), Some(gate)) = (rest.first(), self.design.gates.last_mut()) {
-                    gate.instance = name.to_string();
+            ".cname" => match (rest.first(), self.frame.inner.last_mut(), self.design.gates.last_mut()) {
+                (Some(name), Some(inner), _) if self.frame.inner_last => inner.name = Some(name.to_string()),
+                (Some(name), _, Some(gate)) => {
+                    gate.instance = format!("{}{name}", self.frame.prefix);
+                    self.design.name_bytes += gate.instance.len();
                 }
-            }
+                _ => {}
+            },
             ".attr"
             | ".param"
             | ".area"
@@ -212,7 +369,7 @@ impl Reader<'_, '_> {
     }
 
     fn row(&mut self, number: usize, words: &[&str]) {
-        let Some(cover) = &mut self.cover else {
+        let Some(cover) = &mut self.frame.cover else {
             return self.error(number, "a row without a .names above it");
         };
         let inputs = cover.nets.len() - 1;
@@ -247,7 +404,7 @@ impl Reader<'_, '_> {
     }
 
     fn finish_cover(&mut self) {
-        let Some(cover) = self.cover.take() else { return };
+        let Some(cover) = self.frame.cover.take() else { return };
         if cover.wrong {
             return;
         }
@@ -255,6 +412,10 @@ impl Reader<'_, '_> {
         let n = inputs.len();
         match kind_of(n, &cover.rows) {
             Err(words) => self.error(cover.line, words),
+            // Yosys writes x as a constant of this name.
+            Ok(Kind::Table(_)) if n == 0 && cover.rows.is_empty() && self.frame.nets.get("$undef") == Some(&output) => {
+                self.design.wires.push((output, Source::Open, cover.line));
+            }
             Ok(Kind::Table(table)) if n == 0 => {
                 self.design.wires.push((output, Source::Constant(table.bits[0]), cover.line));
             }
@@ -275,6 +436,7 @@ impl Reader<'_, '_> {
     }
 
     fn gate(&mut self, line: usize, cell: Cell, pins: Vec<Source>, output: usize) {
+        self.frame.inner_last = false;
         self.design.gates.push(Gate {
             cell: Rc::new(cell),
             instance: String::new(),
@@ -335,8 +497,12 @@ impl Reader<'_, '_> {
         let kind = match types.find(title) {
             Some(Ok(kind)) => kind,
             Some(Err(words)) => return self.error(number, format!("the type {title}: {words}")),
-            None => return self.error(number, format!("this cell {}", types.unknown(title))),
+            None => match self.tree.place(title) {
+                Some(place) => return self.inner(number, place, pairs),
+                None => return self.error(number, format!("this cell {}", types.unknown(title))),
+            },
         };
+        self.frame.inner_last = false;
         let mut pins = HashMap::new();
         let mut outputs = HashMap::new();
         for pair in pairs {
@@ -359,14 +525,36 @@ impl Reader<'_, '_> {
         self.open_pins += add_gates(&mut self.design, &kind, &place, &pins, &outputs);
     }
 
+    /// A model inside this one, which is read when this one is.
+    fn inner(&mut self, number: usize, place: usize, pairs: &[&str]) {
+        let mut ports = HashMap::new();
+        for pair in pairs {
+            let Some((port, name)) = pair.split_once('=') else {
+                return self.error(number, format!("{pair} is no PORT=NET"));
+            };
+            if name.is_empty() {
+                continue;
+            }
+            let net = self.net(name);
+            if ports.insert(port.to_string(), net).is_some() {
+                return self.error(number, format!("the port {port} stands twice"));
+            }
+        }
+        self.frame.inner.push(Inner { line: number, place, ports, name: None });
+        self.frame.inner_last = true;
+    }
+
     fn finish(mut self, wanted: &Wanted) -> Design {
-        put_clock(&mut self.design, &self.clockless, wanted.clock, |name| self.nets.get(name).copied(), self.messages);
+        let nets = &self.frame.nets;
+        put_clock(&mut self.design, &self.clockless, wanted.clock, |name| nets.get(name).copied(), self.messages);
+        let mut three_state = vec![false; self.design.nets.len()];
+        for gate in &self.design.gates {
+            three_state[gate.output] |= matches!(gate.cell.kind, Kind::Driver(_));
+        }
         for (name, net) in std::mem::take(&mut self.outputs) {
-            let driven_by_three_state =
-                self.design.gates.iter().any(|gate| gate.output == net && matches!(gate.cell.kind, Kind::Driver(_)));
-            let place = self.design.inputs.iter().position(|&input| input == net);
+            let place = three_state[net].then(|| self.design.inputs.iter().position(|&input| input == net)).flatten();
             match place {
-                Some(place) if driven_by_three_state => {
+                Some(place) => {
                     self.design.inputs.remove(place);
                     self.design.inouts.push(net);
                 }
@@ -389,7 +577,7 @@ impl Reader<'_, '_> {
 
     /// Yosys writes x as a net `$undef` that nothing drives, and constants as `$false` and `$true`.
     fn name_undriven(&mut self) {
-        if let Some(&net) = self.nets.get("$undef") {
+        if let Some(&net) = self.frame.nets.get("$undef") {
             let driven = self.design.wires.iter().any(|&(wire, _, _)| wire == net)
                 || self.design.gates.iter().any(|gate| gate.output == net);
             if !driven {
@@ -526,7 +714,7 @@ mod tests {
 
     fn design(text: &str) -> (Design, String) {
         let mut messages = Messages::new();
-        let wanted = Wanted { clock: None, allow_open: false };
+        let wanted = Wanted::default();
         let design = read("c.blif", text, &wanted, &mut Types::default(), &mut messages);
         (design, messages.text())
     }

@@ -32,7 +32,8 @@ impl Net {
         if let Some(port) = &self.port {
             return port;
         }
-        let shortest = self.names.iter().min_by_key(|name| name.len());
+        // The same in every format, whatever the order of its names.
+        let shortest = self.names.iter().min_by_key(|name| (name.len(), *name));
         shortest.or(self.hidden.as_ref()).map_or("?", |name| name)
     }
 
@@ -95,6 +96,9 @@ pub struct Design {
     pub block: bool,
     /// Bytes of the names that a reader made.
     pub name_bytes: usize,
+    /// The tree of blocks, and those that the analyser takes, for a chip of too many lines.
+    pub tree: String,
+    pub smaller: String,
 }
 
 /// Gates and nets that a reader takes at all; far above what the analyser does.
@@ -164,17 +168,21 @@ impl Design {
             }
             driven
         };
+        let mut is_input = vec![false; self.nets.len()];
+        self.inputs.iter().for_each(|&net| is_input[net] = true);
         for &(net, source, line) in &self.wires {
-            let name = self.nets[net].name().to_string();
-            if let Some((_, other)) = stands_for[net] {
-                lines.error(messages, line, format!("{name} is driven already, by line {other}"));
-            } else if let Some(other) = driven[net] {
-                lines.error(messages, line, format!("{name} is driven already, by line {other}"));
-            } else if self.inputs.contains(&net) {
-                lines.error(messages, line, format!("{name} is driven already: it is an input"));
-            } else {
-                stands_for[net] = Some((source, line));
-            }
+            let other = stands_for[net].map(|(_, other)| other).or(driven[net]);
+            let by = match other {
+                Some(0) => ", by another part".to_string(),
+                Some(other) => format!(", by line {other}"),
+                None if is_input[net] => ": it is an input".to_string(),
+                None => {
+                    stands_for[net] = Some((source, line));
+                    continue;
+                }
+            };
+            let name = self.nets[net].name();
+            lines.error(messages, line, format!("{name} is driven already{by}"));
         }
         let (ends, loops) = ends_of(&stands_for);
         for net in loops {
@@ -188,6 +196,7 @@ impl Design {
                     let taken = std::mem::take(&mut self.nets[net]);
                     let whole = &mut self.nets[other];
                     whole.names.extend(taken.names);
+                    whole.hidden = whole.hidden.take().or(taken.hidden);
                     if let Some(port) = taken.port {
                         match &whole.port {
                             None => whole.port = Some(port),
@@ -210,14 +219,21 @@ impl Design {
 
     /// A port in both directions with a three-state driver is an input and, apart, the driver's output.
     fn part_inouts(&mut self) {
+        if self.inouts.is_empty() {
+            return;
+        }
+        let mut drivers: Vec<(usize, usize)> = vec![(0, 0); self.nets.len()];
+        for (at, gate) in self.gates.iter().enumerate() {
+            drivers[gate.output] = (at, drivers[gate.output].1 + 1);
+        }
         for at in 0..self.inouts.len() {
             let port = self.inouts[at];
-            let mut drivers = (0..self.gates.len()).filter(|&gate| self.gates[gate].output == port);
-            let Some(gate) = drivers.next() else {
+            let (gate, count) = drivers[port];
+            if count == 0 {
                 self.inputs.push(port);
                 continue;
-            };
-            if drivers.next().is_some() {
+            }
+            if count > 1 {
                 // Told as a net with two drivers.
                 continue;
             }

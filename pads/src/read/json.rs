@@ -69,19 +69,71 @@ impl<'a> Value<'a> {
 }
 
 pub fn parse(text: &str) -> Result<Value<'_>, Wrong> {
-    let mut reader = Reader { text, at: 0, values: 0 };
+    parse_more(text, &mut 0)
+}
+
+/// The same, where so many values were kept before.
+pub fn parse_more<'a>(text: &'a str, values: &mut usize) -> Result<Value<'a>, Wrong> {
+    let mut reader = Reader { text, at: 0, values: *values, keep: true };
     let value = reader.value(0)?;
-    reader.blanks();
-    if reader.at < text.len() {
-        return Err(reader.wrong("something stands behind the end"));
-    }
+    reader.end()?;
+    *values = reader.values;
     Ok(value)
 }
 
-struct Reader<'a> {
+pub struct Reader<'a> {
     text: &'a str,
     at: usize,
     values: usize,
+    /// Lists and objects are kept, not only gone over.
+    keep: bool,
+}
+
+/// A text that is gone over, whatever its length.
+impl<'a> Reader<'a> {
+    pub fn over(text: &'a str) -> Reader<'a> {
+        Reader { text, at: 0, values: 0, keep: false }
+    }
+
+    pub fn at(&self) -> usize {
+        self.at
+    }
+
+    pub fn end(&mut self) -> Result<(), Wrong> {
+        self.blanks();
+        if self.at < self.text.len() {
+            return Err(self.wrong("something stands behind the end"));
+        }
+        Ok(())
+    }
+
+    /// Hands on the name of each member of an object, whose value must be gone over; another value is passed over, and
+    /// the answer is false.
+    pub fn each(
+        &mut self,
+        depth: usize,
+        take: &mut dyn FnMut(&mut Self, Cow<'a, str>) -> Result<(), Wrong>,
+    ) -> Result<bool, Wrong> {
+        self.blanks();
+        if self.peek() != Some(b'{') {
+            return self.value(depth).map(|_| false);
+        }
+        self.members(depth, take).map(|()| true)
+    }
+
+    /// How many values a list has.
+    pub fn count(&mut self, depth: usize) -> Result<u64, Wrong> {
+        self.blanks();
+        if self.peek() != Some(b'[') {
+            return self.value(depth).map(|_| 0);
+        }
+        let mut count = 0;
+        self.items(&mut |reader| {
+            count += 1;
+            reader.value(depth + 1).map(drop)
+        })?;
+        Ok(count)
+    }
 }
 
 impl<'a> Reader<'a> {
@@ -107,8 +159,9 @@ impl<'a> Reader<'a> {
         here
     }
 
-    fn value(&mut self, depth: usize) -> Result<Value<'a>, Wrong> {
-        self.values += 1;
+    /// The value that stands here; a list or an object is empty where it is only gone over.
+    pub fn value(&mut self, depth: usize) -> Result<Value<'a>, Wrong> {
+        self.values += usize::from(self.keep);
         if self.values > MOST_VALUES {
             let most = grouped(MOST_VALUES as u64);
             return Err(self.wrong(&format!("more than {most} values, which is far above what {} take", lines_told())));
@@ -143,10 +196,29 @@ impl<'a> Reader<'a> {
     }
 
     fn object(&mut self, depth: usize) -> Result<Value<'a>, Wrong> {
-        self.at += 1;
         let mut members = Vec::new();
+        self.members(depth, &mut |reader, name| {
+            let value = reader.value(depth + 1)?;
+            if reader.keep {
+                members.push((name, value));
+            }
+            Ok(())
+        })?;
+        members.shrink_to_fit();
+        Ok(Value::Object(members))
+    }
+
+    fn members(
+        &mut self,
+        depth: usize,
+        take: &mut dyn FnMut(&mut Self, Cow<'a, str>) -> Result<(), Wrong>,
+    ) -> Result<(), Wrong> {
+        if depth > MOST_DEPTH {
+            return Err(self.wrong("more than 64 brackets within each other"));
+        }
+        self.at += 1;
         if self.takes(b'}') {
-            return Ok(Value::Object(members));
+            return Ok(());
         }
         loop {
             self.blanks();
@@ -157,10 +229,9 @@ impl<'a> Reader<'a> {
             if !self.takes(b':') {
                 return Err(self.wrong("a ':' is missing"));
             }
-            members.push((name, self.value(depth + 1)?));
+            take(self, name)?;
             if self.takes(b'}') {
-                members.shrink_to_fit();
-                return Ok(Value::Object(members));
+                return Ok(());
             }
             if !self.takes(b',') {
                 return Err(self.wrong("a ',' or '}' is missing"));
@@ -169,16 +240,27 @@ impl<'a> Reader<'a> {
     }
 
     fn list(&mut self, depth: usize) -> Result<Value<'a>, Wrong> {
-        self.at += 1;
         let mut items = Vec::new();
+        self.items(&mut |reader| {
+            let value = reader.value(depth + 1)?;
+            if reader.keep {
+                items.push(value);
+            }
+            Ok(())
+        })?;
+        items.shrink_to_fit();
+        Ok(Value::List(items))
+    }
+
+    fn items(&mut self, take: &mut dyn FnMut(&mut Self) -> Result<(), Wrong>) -> Result<(), Wrong> {
+        self.at += 1;
         if self.takes(b']') {
-            return Ok(Value::List(items));
+            return Ok(());
         }
         loop {
-            items.push(self.value(depth + 1)?);
+            take(self)?;
             if self.takes(b']') {
-                items.shrink_to_fit();
-                return Ok(Value::List(items));
+                return Ok(());
             }
             if !self.takes(b',') {
                 return Err(self.wrong("a ',' or ']' is missing"));

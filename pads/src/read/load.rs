@@ -2,9 +2,9 @@
 
 use crate::ask::archive::refusal_told;
 use crate::ask::model::Model;
-use crate::read::hub::Design;
+use crate::read::hub::{Design, Lines};
 use crate::read::names::LineKind;
-use crate::read::{bench, blif, liberty, native, verilog, yosys};
+use crate::read::{bench, blif, blocks, liberty, native, structural, verilog, yosys};
 use crate::rows::types::Types;
 use crate::rows::writer::{self, Texts};
 use crate::show::cost::grouped;
@@ -75,34 +75,56 @@ fn read(source: &Source, messages: &mut Messages) -> Result<Design, Stop> {
         return Err(Stop::Refused);
     }
     let mut types = Types::new(libraries);
-    let wanted = blif::Wanted { clock: source.clock.as_deref(), allow_open: source.open };
+    let wanted = blif::Wanted { top: source.top.as_deref(), clock: source.clock.as_deref(), allow_open: source.open };
     let by_json = yosys::Wanted { top: source.top.as_deref(), allow_open: source.open };
-    if source.top.is_some() && !["json", "v", "sv"].contains(&format) {
+    if source.top.is_some() && !["json", "blif", "v", "sv"].contains(&format) {
         messages.warn(format!("--top is not used: a .{format} file has one block"));
     }
     match format {
         "json" => {
-            let text = text::read(path, yosys::MOST_BYTES, messages)?;
+            let text = text::read(path, blocks::MOST_BYTES, messages)?;
             yosys::read(path, &text, &by_json, &mut types, messages)
         }
         "blif" => {
-            let text = text::read(path, blif::MOST_BYTES, messages)?;
+            let text = text::read(path, blocks::MOST_BYTES, messages)?;
             Ok(blif::read(path, &text, &wanted, &mut types, messages))
         }
         "bench" => {
-            let text = text::read(path, bench::MOST_BYTES, messages)?;
+            let text = text::read(path, blocks::MOST_BYTES, messages)?;
             Ok(bench::read(path, &text, &wanted, messages))
         }
-        "v" | "sv" => {
-            // The file must be there, before Yosys is asked.
-            text::read(path, yosys::MOST_BYTES, messages)?;
-            let text = verilog::to_json(path, &source.libraries, source.top.as_deref(), messages)?;
-            yosys::read(path, &text, &by_json, &mut types, messages)
-        }
+        "v" | "sv" => by_verilog(source, &mut types, messages),
         _ => Err(Stop::Usage(format!(
             "{path}: is neither a folder nor a netlist by its ending (.json, .blif, .bench, .v); --format says which it is"
         ))),
     }
+}
+
+/// Structural Verilog is read here, the rest by Yosys where it is installed.
+fn by_verilog(source: &Source, types: &mut Types, messages: &mut Messages) -> Result<Design, Stop> {
+    let path = source.path.as_str();
+    let text = text::read(path, blocks::MOST_BYTES, messages)?;
+    let wanted = structural::Wanted { top: source.top.as_deref(), allow_open: source.open };
+    let faults = match structural::read(path, &text, &wanted, types, messages) {
+        structural::Answer::Read(design) => return Ok(*design),
+        structural::Answer::Refused => return Err(Stop::Refused),
+        structural::Answer::Beyond(faults) => faults,
+    };
+    let first = faults.iter().find(|fault| fault.beyond).map(|fault| (fault.line, fault.words.clone()));
+    let (line, words) = first.unwrap_or_default();
+    if verilog::is_there() && text.len() <= verilog::MOST_BYTES {
+        messages.note(format!("Yosys reads {path}, since line {line} is more than a netlist: {words}"));
+        drop(text);
+        let text = verilog::to_json(path, &source.libraries, source.top.as_deref(), messages)?;
+        let wanted = yosys::Wanted { top: source.top.as_deref(), allow_open: source.open };
+        return yosys::read(path, &text, &wanted, types, messages);
+    }
+    let lines = Lines { file: path, text: &text };
+    for fault in faults {
+        let more = if fault.beyond { format!("{}; {}", fault.words, verilog::NEEDED) } else { fault.words };
+        lines.error(messages, fault.line, more);
+    }
+    Err(Stop::Refused)
 }
 
 /// What the user should know of lines.

@@ -2,13 +2,16 @@
 
 pub mod bench;
 pub mod blif;
+pub mod blocks;
 pub mod csv;
 pub mod expr;
 pub mod hub;
 pub mod json;
 pub mod liberty;
 pub mod load;
+pub mod modules;
 pub mod names;
 pub mod native;
+pub mod structural;
 pub mod verilog;
 pub mod yosys;

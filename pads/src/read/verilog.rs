@@ -1,4 +1,4 @@
-//! Gate-level Verilog, read and flattened by Yosys where it is installed. Nothing is synthesised.
+//! Verilog that is more than a netlist, read and flattened by Yosys where it is installed. Nothing is synthesised.
 
 use crate::show::messages::Messages;
 use crate::show::text::{self, Stop};
@@ -8,6 +8,17 @@ use std::time::{Duration, Instant};
 
 /// Yosys is given this long.
 const MOST_TIME: Duration = Duration::from_secs(120);
+
+/// Largest file that is handed to it.
+pub const MOST_BYTES: usize = 16 << 20;
+pub const NEEDED: &str = "Yosys would read this and is not installed (apt-get install --no-install-recommends yosys), or the \
+                          file is above 16 MB: write a netlist of gates, or JSON where Yosys is, see 'scoap_pads --recipes'";
+
+/// Whether Yosys is installed.
+pub fn is_there() -> bool {
+    let paths = std::env::var_os("PATH").unwrap_or_default();
+    std::env::split_paths(&paths).any(|path| path.join("yosys").is_file())
+}
 
 pub fn to_json(path: &str, libraries: &[String], top: Option<&str>, messages: &mut Messages) -> Result<String, Stop> {
     let room = std::env::temp_dir().join(format!("scoap_pads.{}", std::process::id()));
@@ -38,11 +49,7 @@ fn run(
     let child = match made {
         Ok(child) => child,
         Err(e) if e.kind() == std::io::ErrorKind::NotFound => {
-            messages.error(
-                path,
-                "Verilog is read by Yosys, which is not installed (apt-get install --no-install-recommends yosys); or write \
-                 JSON where Yosys is, see 'scoap_pads --recipes'",
-            );
+            messages.error(path, NEEDED);
             return Err(Stop::Refused);
         }
         Err(e) => return Err(Stop::Usage(format!("yosys: {e}"))),
@@ -50,7 +57,7 @@ fn run(
     let ended = wait(child);
     let said = std::fs::read(&log).map(|bytes| String::from_utf8_lossy(&bytes).into_owned()).unwrap_or_default();
     match ended {
-        Some(true) => text::read(&json.display().to_string(), crate::read::yosys::MOST_BYTES, messages),
+        Some(true) => text::read(&json.display().to_string(), crate::read::blocks::MOST_BYTES, messages),
         other => {
             let why = if other.is_none() { "takes more than 120 seconds" } else { "does not read it" };
             let lines: Vec<&str> = said.lines().filter(|line| !line.trim().is_empty()).collect();

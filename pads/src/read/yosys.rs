@@ -1,20 +1,16 @@
-//! Netlists as Yosys writes them in JSON.
+//! Netlists as Yosys writes them in JSON, flattened below the chip.
 
-use crate::ask::archive::MOST_LINES;
-use crate::read::hub::{too_many, Design, Lines, Source, MOST_GATES};
-use crate::read::json::{self, Value};
+use crate::read::blocks::{Block, Tree};
+use crate::read::hub::{too_many, Design, Lines, Source};
+use crate::read::json::{self, Value, Wrong};
 use crate::rows::cells::{Cell, Kind};
 use crate::rows::types::{add_gates, Place, Type, Types};
 use crate::rows::Table;
-use crate::show::cost::grouped;
 use crate::show::messages::Messages;
 use crate::show::text::Stop;
 use std::borrow::Cow;
 use std::collections::HashMap;
 use std::rc::Rc;
-
-/// Largest file that is read.
-pub const MOST_BYTES: usize = 16 << 20;
 
 #[derive(Clone, Default)]
 pub struct Wanted<'a> {
@@ -29,33 +25,34 @@ pub fn read(
     types: &mut Types,
     messages: &mut Messages,
 ) -> Result<Design, Stop> {
-    let root = match json::parse(text) {
-        Ok(root) => root,
-        Err((at, words)) => {
-            let line = 1 + text.as_bytes()[..at.min(text.len())].iter().filter(|&&b| b == b'\n').count();
-            let shown = text.lines().nth(line - 1).unwrap_or("");
-            messages.error_at(file, line, shown, words);
-            return Err(Stop::Refused);
-        }
+    let wrong = |(at, words): Wrong, messages: &mut Messages| {
+        let line = 1 + text.as_bytes()[..at.min(text.len())].iter().filter(|&&b| b == b'\n').count();
+        let shown = text.lines().nth(line - 1).unwrap_or("");
+        messages.error_at(file, line, shown, words);
+        Stop::Refused
     };
-    let Some(modules) = root.get("modules").filter(|modules| matches!(modules, Value::Object(_))) else {
+    let Some(mut tree) = survey(text).map_err(|e| wrong(e, messages))? else {
         messages.error(file, "no modules: is it JSON that Yosys wrote (write_json)?");
         return Err(Stop::Refused);
     };
-    let Some((name, module)) = choose(file, modules, wanted.top, messages) else {
-        return Err(Stop::Refused);
-    };
-    let mut reader = Reader {
-        file,
-        modules,
-        design: Design { file: file.to_string(), name: name.to_string(), ..Design::default() },
-        nets: HashMap::new(),
-        messages,
-        open_pins: 0,
-        unknown: Vec::new(),
-    };
-    reader.design.block = wanted.top.is_some() && modules.members().iter().filter(|(_, m)| !is_blackbox(m)).count() > 1;
-    reader.module(module, types);
+    tree.settle(types);
+    let top = tree.choose(file, wanted.top, types, messages).ok_or(Stop::Refused)?;
+    let mut design = Design { file: file.to_string(), name: tree.blocks[top].name.clone(), ..Design::default() };
+    design.block = wanted.top.is_some() && tree.blocks.len() > 1;
+    let parts = tree.parts(file, top, &mut design, messages).ok_or(Stop::Refused)?;
+    // The blocks that are used are kept, the others were only gone over.
+    let mut modules: Vec<Option<Value>> = vec![None; tree.blocks.len()];
+    let mut values = 0;
+    for at in parts {
+        let bytes = tree.blocks[at].bytes.clone();
+        let from = bytes.start;
+        let module =
+            json::parse_more(&text[bytes], &mut values).map_err(|(at, words)| wrong((from + at, words), messages))?;
+        modules[at] = Some(module);
+    }
+    let mut reader =
+        Reader { file, tree: &tree, modules: &modules, design, messages, open_pins: 0, unknown: Vec::new() };
+    reader.chip(top, types);
     let (mut design, open) = (reader.design, reader.open_pins);
     if open > 0 {
         messages
@@ -67,71 +64,99 @@ pub fn read(
     Ok(design)
 }
 
-fn attribute(of: &Value, name: &str) -> bool {
-    of.get("attributes").and_then(|all| all.get(name)).is_some_and(Value::is_true)
-}
-
-fn is_blackbox(module: &Value) -> bool {
-    attribute(module, "blackbox") || attribute(module, "whitebox")
-}
-
-fn cells_of(module: &Value) -> usize {
-    module.get("cells").map_or(0, |cells| cells.members().len())
-}
-
-/// The module: by name, the one marked top, or the only one that is no blackbox.
-fn choose<'a, 'b>(
-    file: &str,
-    modules: &'b Value<'a>,
-    top: Option<&str>,
-    messages: &mut Messages,
-) -> Option<(&'b str, &'b Value<'a>)> {
-    let own: Vec<(&str, &Value)> = modules
-        .members()
-        .iter()
-        .filter(|(_, module)| !is_blackbox(module))
-        .map(|(name, module)| (name.as_ref(), module))
-        .collect();
-    let told = || {
-        let blocks: Vec<String> =
-            own.iter().take(20).map(|(name, module)| format!("{name} ({} cells)", cells_of(module))).collect();
-        if blocks.is_empty() {
-            "blocks here: none".to_string()
-        } else {
-            format!("blocks here: {}", blocks.join(", "))
+/// The blocks and what is in them; None where there are no modules.
+fn survey(text: &str) -> Result<Option<Tree>, Wrong> {
+    let mut tree = Tree::default();
+    let mut found = false;
+    let mut reader = json::Reader::over(text);
+    reader.each(0, &mut |reader, name| {
+        if name != "modules" {
+            return reader.value(1).map(drop);
         }
-    };
-    let marked: Vec<&(&str, &Value)> = own.iter().filter(|(_, module)| attribute(module, "top")).collect();
-    let found = match (top, marked.as_slice(), own.as_slice()) {
-        (Some(top), _, _) => own.iter().find(|(name, _)| *name == top),
-        (None, [one], _) => Some(*one),
-        (None, _, [one]) => Some(one),
-        _ => None,
-    };
-    if found.is_none() {
-        let words = match top {
-            Some(top) => format!("no block is called {top}\n  {}", told()),
-            None => format!("which block is the chip? Say --top NAME\n  {}", told()),
-        };
-        messages.error(file, words);
+        found |= reader.each(1, &mut |reader, name| {
+            let from = reader.at();
+            let mut block = Block { name: name.into_owned(), ..Block::default() };
+            let mut is_black = false;
+            reader.each(2, &mut |reader, part| survey_part(reader, &part, &mut block, &mut is_black))?;
+            block.bytes = from..reader.at();
+            if !is_black && !tree.push(block) {
+                return Err((from, Tree::too_many()));
+            }
+            Ok(())
+        })?;
+        Ok(())
+    })?;
+    reader.end()?;
+    Ok(found.then_some(tree))
+}
+
+fn survey_part(reader: &mut json::Reader, part: &str, block: &mut Block, is_black: &mut bool) -> Result<(), Wrong> {
+    match part {
+        "attributes" => {
+            reader.each(3, &mut |reader, name| {
+                let value = reader.value(4)?;
+                block.marked |= name == "top" && value.is_true();
+                *is_black |= (name == "blackbox" || name == "whitebox") && value.is_true();
+                Ok(())
+            })?;
+        }
+        "ports" => {
+            reader.each(3, &mut |reader, _| {
+                let (mut input, mut bits) = (false, 0);
+                reader.each(4, &mut |reader, name| {
+                    match name.as_ref() {
+                        "direction" => input = reader.value(5)?.text() == Some("input"),
+                        "bits" => bits = reader.count(5)?,
+                        _ => drop(reader.value(5)?),
+                    }
+                    Ok(())
+                })?;
+                block.inputs += if input { bits } else { 0 };
+                Ok(())
+            })?;
+        }
+        "cells" => {
+            reader.each(3, &mut |reader, _| {
+                let mut title = None;
+                reader.each(4, &mut |reader, name| {
+                    let value = reader.value(5)?;
+                    if name == "type" {
+                        title = value.text().map(str::to_string);
+                    }
+                    Ok(())
+                })?;
+                if let Some(title) = title.filter(|title| title != "$scopeinfo") {
+                    block.add(&title, 1);
+                }
+                Ok(())
+            })?;
+        }
+        _ => drop(reader.value(3)?),
     }
-    found.copied()
+    Ok(())
 }
 
 struct Reader<'a, 'b, 'm> {
     file: &'b str,
-    modules: &'b Value<'a>,
+    tree: &'b Tree,
+    /// Those that are used, by block.
+    modules: &'b [Option<Value<'a>>],
     design: Design,
-    /// The hub's net of each bit.
-    nets: HashMap<i64, usize>,
     messages: &'m mut Messages,
     open_pins: usize,
     /// Types that are not known: the first cell of each, the words, and how many cells more.
     unknown: Vec<(String, String, String, usize)>,
 }
 
-impl Reader<'_, '_, '_> {
-    fn source(&mut self, bit: &Value) -> Source {
+/// An instance of a block: what stands before its names, and what each bit is in the chip.
+#[derive(Default)]
+struct Frame {
+    prefix: String,
+    nets: HashMap<i64, Source>,
+}
+
+impl<'a, 'b> Reader<'a, 'b, '_> {
+    fn source(&mut self, bit: &Value, frame: &mut Frame) -> Source {
         match bit.text() {
             Some("0") => return Source::Constant(false),
             Some("1") => return Source::Constant(true),
@@ -139,45 +164,32 @@ impl Reader<'_, '_, '_> {
             None => {}
         }
         match bit.whole() {
-            Some(number) => Source::Net(self.net(number)),
+            Some(number) => self.net(number, frame),
             None => Source::Open,
         }
     }
 
-    fn net(&mut self, bit: i64) -> usize {
-        if let Some(&net) = self.nets.get(&bit) {
-            return net;
+    fn net(&mut self, bit: i64, frame: &mut Frame) -> Source {
+        if let Some(&source) = frame.nets.get(&bit) {
+            return source;
         }
         if self.design.full() {
             // Told once all is read: which net it is does not matter any more.
-            return 0;
+            return Source::Net(0);
         }
-        let net = self.design.add_net();
-        self.nets.insert(bit, net);
+        let net = Source::Net(self.design.add_net());
+        frame.nets.insert(bit, net);
         net
     }
 
-    fn module(&mut self, module: &Value, types: &mut Types) {
-        for (name, port) in self.members(module, "ports", "the block") {
-            self.port(name, port);
-        }
-        for (name, net) in self.members(module, "netnames", "the block") {
-            self.names(name, net);
-        }
-        let cells = self.members(module, "cells", "the block");
-        if cells.len() > MOST_GATES {
-            self.messages.error(
-                self.file,
-                format!("{} cells, the analyser takes {} lines", cells.len(), grouped(MOST_LINES as u64)),
-            );
-            return;
-        }
-        for (name, cell) in cells {
-            self.cell(name, cell, types);
-            if self.messages.full() || self.design.full() {
-                break;
+    fn chip(&mut self, top: usize, types: &mut Types) {
+        let mut frame = Frame::default();
+        if let Some(module) = &self.modules[top] {
+            for (name, port) in self.members(module, "ports", "the block") {
+                self.port(name, port, &mut frame);
             }
         }
+        self.module(top, &mut frame, types);
         if self.design.full() {
             self.messages.error(self.file, too_many());
         }
@@ -185,11 +197,31 @@ impl Reader<'_, '_, '_> {
             let more = if more > 0 { format!(" and {more} more") } else { String::new() };
             self.messages.error(self.file, format!("{who}{more} {words}"));
         }
+    }
+
+    /// The nets and cells of a block, whose ports are bound.
+    fn module(&mut self, at: usize, frame: &mut Frame, types: &mut Types) {
+        let Some(module) = &self.modules[at] else { return };
+        let who = if frame.prefix.is_empty() {
+            "the block".to_string()
+        } else {
+            format!("the block {}", self.tree.blocks[at].name)
+        };
+        for (name, net) in self.members(module, "netnames", &who) {
+            self.names(name, net, frame);
+        }
+        for (name, cell) in self.members(module, "cells", &who) {
+            self.cell(name, cell, frame, types);
+            if self.messages.full() || self.design.full() {
+                break;
+            }
+        }
         // A net without any name, of a hand-made file.
-        for (&bit, &net) in &self.nets {
+        for (&bit, &source) in &frame.nets {
+            let Source::Net(net) = source else { continue };
             let net = &mut self.design.nets[net];
             if net.is_hidden() && net.hidden.is_none() {
-                net.hidden = Some(format!("bit {bit}"));
+                net.hidden = Some(format!("{}bit {bit}", frame.prefix));
             }
         }
     }
@@ -216,7 +248,7 @@ impl Reader<'_, '_, '_> {
         self.messages.error(self.file, words);
     }
 
-    fn port(&mut self, name: &str, port: &Value) {
+    fn port(&mut self, name: &str, port: &Value, frame: &mut Frame) {
         let direction = port.get("direction").and_then(Value::text).unwrap_or("");
         let bits = self.bits(port.get("bits"), &format!("port {name}"));
         for (at, bit) in bits.iter().enumerate() {
@@ -225,19 +257,20 @@ impl Reader<'_, '_, '_> {
             }
             let name = bit_name(name, port, at, bits.len());
             self.design.name_bytes += name.len();
-            let source = self.source(bit);
+            let source = self.source(bit, frame);
             match (direction, source) {
                 ("input", Source::Net(net)) => {
-                    self.design.nets[net].port.get_or_insert(name);
-                    if !self.design.inputs.contains(&net) {
+                    // A bit of two ports is one input.
+                    if self.design.nets[net].port.is_none() {
                         self.design.inputs.push(net);
                     }
+                    self.design.nets[net].port.get_or_insert(name);
                 }
                 ("inout", Source::Net(net)) => {
-                    self.design.nets[net].port.get_or_insert(name);
-                    if !self.design.inouts.contains(&net) {
+                    if self.design.nets[net].port.is_none() {
                         self.design.inouts.push(net);
                     }
+                    self.design.nets[net].port.get_or_insert(name);
                 }
                 ("output", source) => {
                     if let Source::Net(net) = source {
@@ -256,7 +289,7 @@ impl Reader<'_, '_, '_> {
         }
     }
 
-    fn names(&mut self, name: &str, net: &Value) {
+    fn names(&mut self, name: &str, net: &Value, frame: &mut Frame) {
         let hidden = net.get("hide_name").is_some_and(Value::is_true);
         let attributes = net.get("attributes");
         let source = attributes.and_then(|all| all.get("src")).and_then(Value::text).unwrap_or("");
@@ -266,9 +299,9 @@ impl Reader<'_, '_, '_> {
             if self.design.full() {
                 return;
             }
-            let Source::Net(id) = self.source(bit) else { continue };
+            let Source::Net(id) = self.source(bit, frame) else { continue };
             self.design.initial_values += usize::from(has_init);
-            let name = bit_name(name, net, at, bits.len());
+            let name = frame.prefix.clone() + &bit_name(name, net, at, bits.len());
             self.design.name_bytes += name.len();
             let net = &mut self.design.nets[id];
             if net.source.is_empty() {
@@ -282,13 +315,13 @@ impl Reader<'_, '_, '_> {
         }
     }
 
-    fn cell(&mut self, name: &str, cell: &Value, types: &mut Types) {
+    fn cell(&mut self, name: &str, cell: &Value, frame: &mut Frame, types: &mut Types) {
         let title = cell.get("type").and_then(Value::text).unwrap_or("");
         if title == "$scopeinfo" {
             return;
         }
         let source = cell.get("attributes").and_then(|all| all.get("src")).and_then(Value::text).unwrap_or("");
-        let place = Place { instance: name.to_string(), source: source.to_string(), line: 0 };
+        let name = format!("{}{name}", frame.prefix);
         let who = if source.is_empty() { format!("cell {name}") } else { format!("cell {name} ({source})") };
         let kind = if title == "$lut" { Some(lut(cell)) } else { types.find(title) };
         let kind = match kind {
@@ -298,17 +331,21 @@ impl Reader<'_, '_, '_> {
                 return;
             }
             None => {
-                self.unknown(&who, name, title, cell, types);
+                match self.tree.place(title) {
+                    Some(block) => self.instance(&name, &who, cell, block, frame, types),
+                    None => self.unknown(&who, title, cell, types),
+                }
                 return;
             }
         };
+        let place = Place { instance: name, source: source.to_string(), line: 0 };
         let mut pins = HashMap::new();
         let mut outputs = HashMap::new();
         for (pin, bits) in self.members(cell, "connections", &who) {
             let bits = self.bits(Some(bits), &who);
             for (at, bit) in bits.iter().enumerate() {
                 let pin = if bits.len() == 1 && title != "$lut" { pin.to_string() } else { format!("{pin}[{at}]") };
-                let source = self.source(bit);
+                let source = self.source(bit, frame);
                 if kind.inputs.contains(&pin) {
                     pins.insert(pin, source);
                 } else if kind.outputs.iter().any(|cell| cell.output == pin) {
@@ -331,28 +368,77 @@ impl Reader<'_, '_, '_> {
         self.open_pins += add_gates(&mut self.design, &kind, &place, &pins, &outputs);
     }
 
-    /// A block, a cell without outputs (passed over), or a type that no library has.
-    fn unknown(&mut self, who: &str, name: &str, title: &str, cell: &Value, types: &Types) {
-        if self.modules.get(title).is_some_and(|module| !is_blackbox(module)) {
-            let blocks: Vec<String> = self
-                .modules
-                .members()
-                .iter()
-                .filter(|(other, module)| !is_blackbox(module) && *other != self.design.name)
-                .take(20)
-                .map(|(name, module)| format!("{name} ({} cells)", cells_of(module)))
-                .collect();
-            self.messages.error(
-                self.file,
-                format!(
-                    "{name} is an instance of the block {title}, not a gate\n  blocks here: {}. Take one by --top, or \
-                     flatten: yosys -p \"read_json {}; flatten; write_json flat.json\"",
-                    blocks.join(", "),
-                    self.file
-                ),
-            );
-            return;
+    /// The block inside the chip: its ports are the nets outside, and all else is copied.
+    fn instance(&mut self, name: &str, who: &str, cell: &Value, at: usize, frame: &mut Frame, types: &mut Types) {
+        let Some(module) = &self.modules[at] else { return };
+        let title = &self.tree.blocks[at].name;
+        let mut inner = Frame { prefix: format!("{name}."), nets: HashMap::new() };
+        let mut given: HashMap<&str, &[Value]> = HashMap::new();
+        for (port, bits) in self.members(cell, "connections", who) {
+            given.insert(port, self.bits(Some(bits), who));
         }
+        let ports = self.members(module, "ports", &format!("the block {title}"));
+        // Inputs first: what an output hands on is then bound already.
+        for wanted in ["input", "inout", "output"] {
+            for (port, of) in ports {
+                let way = of.get("direction").and_then(Value::text).unwrap_or("");
+                if way != wanted {
+                    continue;
+                }
+                let bits = self.bits(of.get("bits"), &format!("port {port} of {title}"));
+                let outer = given.remove(port.as_ref()).unwrap_or(&[]);
+                if outer.len() > bits.len() {
+                    let words =
+                        format!("{who}: {} bits at port {port} of {title}, which has {}", outer.len(), bits.len());
+                    self.messages.error(self.file, words);
+                    continue;
+                }
+                for (at, bit) in bits.iter().enumerate() {
+                    let outside = outer.get(at).map_or(Source::Open, |bit| self.source(bit, frame));
+                    let words = self.bind(bit, outside, wanted == "input", &mut inner);
+                    if let Err(words) = words {
+                        self.messages.error(self.file, format!("{who}: port {port} of {title} {words}"));
+                        break;
+                    }
+                    if self.design.full() {
+                        return;
+                    }
+                }
+            }
+        }
+        if let Some(port) = given.keys().min() {
+            self.messages.error(self.file, format!("{who}: {title} has no port {port}"));
+        }
+        self.module(at, &mut inner, types);
+    }
+
+    /// One bit of a port, inside and outside.
+    fn bind(&mut self, bit: &Value, outside: Source, input: bool, inner: &mut Frame) -> Result<(), &'static str> {
+        let number = if bit.text().is_some() { None } else { bit.whole() };
+        let inside = match number {
+            Some(number) => match inner.nets.get(&number) {
+                Some(&inside) if !input => inside,
+                Some(_) => return Err("has a bit of another input"),
+                None if input || matches!(outside, Source::Net(_)) => {
+                    inner.nets.insert(number, outside);
+                    return Ok(());
+                }
+                None if outside == Source::Open => return Ok(()),
+                None => return Err("drives a constant"),
+            },
+            None if input => return Err("is an input and a constant"),
+            None => self.source(bit, inner),
+        };
+        match outside {
+            Source::Net(net) if inside != outside => self.design.wires.push((net, inside, 0)),
+            Source::Constant(_) => return Err("drives a constant"),
+            _ => {}
+        }
+        Ok(())
+    }
+
+    /// A cell without outputs (passed over), or a type that no library has.
+    fn unknown(&mut self, who: &str, title: &str, cell: &Value, types: &Types) {
         let directions = cell.get("port_directions").map_or(&[][..], Value::members);
         if !directions.is_empty() && directions.iter().all(|(_, way)| way.text() == Some("input")) {
             return;
@@ -440,7 +526,7 @@ mod tests {
         for (from, to, words) in [
             ("$_AND_", "FOO", "no library is given"),
             ("$_AND_", "$add", "synthesise first"),
-            ("$_AND_", "chip", "instance of the block chip"),
+            ("$_AND_", "chip", "a block contains itself: chip > chip"),
             ("\"Y\": [5]", "\"Y\": [4]", "driven by"),
             ("\"B\": [4]", "\"B\": [9]", "nothing drives bit 9"),
             ("\"B\": [4]", "\"N\": [4]", "no pin N"),

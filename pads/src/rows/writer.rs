@@ -1,7 +1,8 @@
 //! From the hub to the analyser's texts: gates that are too wide are split, lines are numbered, cells named, limits
 //! counted. `net.txt` is written here and nowhere else.
 
-use crate::ask::archive::{larger_told, MOST_BYTES, MOST_CELLS, MOST_LINES, MOST_PINS, MOST_ROWS};
+use crate::ask::archive::{MOST_BYTES, MOST_CELLS, MOST_LINES, MOST_PINS, MOST_ROWS};
+use crate::read::blocks::helps;
 use crate::read::hub::{Design, Source};
 use crate::read::names::{LineKind, Name};
 use crate::rows::cells::{Kind, Op, Wide};
@@ -489,12 +490,11 @@ impl Writer<'_> {
             messages.error(
                 &file,
                 format!(
-                    "{} lines, the analyser takes {}\n  {}\n  what helps: analyse a block by --top (of a netlist that is not \
-                     flattened), map to larger cells{}",
+                    "{} lines, the analyser takes {}\n  {}{}",
                     grouped(lines as u64),
                     grouped(MOST_LINES as u64),
                     told.join(", "),
-                    larger_told(lines)
+                    helps(lines, self.design)
                 ),
             );
         }
