@@ -266,8 +266,14 @@ fn steps(model: &Model, carried: &[Option<Carried>]) -> Vec<Option<usize>> {
             continue;
         }
         steps[line] = Some(own);
-        let free = model.name(line).kind == LineKind::Part
-            || gate_of(model, line).is_some_and(|gate| !is_register(model, line) && handed_on(model, gate).is_some());
+        let hands = |line: usize| {
+            gate_of(model, line).is_some_and(|gate| !is_register(model, line) && handed_on(model, gate).is_some())
+        };
+        let handed = model.readers[line]
+            .iter()
+            .any(|&(gate, _)| !is_register(model, model.gates[gate].line) && handed_on(model, gate) == Some(line));
+        // A part belongs to its gate; one that an inverter only hands on is that gate.
+        let free = hands(line) || model.name(line).kind == LineKind::Part && !handed;
         for from in read_by(model, line) {
             if free {
                 front.push_front((from, own));

@@ -395,7 +395,7 @@ mod tests {
             said.contains("what helps: --top b2 (100 lines)") || said.contains("what helps: --top b3 (1,000 lines)"),
             "{said}"
         );
-        assert!(said.contains("no analyser is built for more than 32,767 lines"), "{said}");
+        assert!(said.contains("no analyser can be built for more than 32,767 lines"), "{said}");
         // Nothing in them: the instances alone are too many.
         let empty: Vec<String> = blocks.iter().map(|text| text.replace("b0 1", "b0 0")).collect();
         let empty: Vec<&str> = empty.iter().map(String::as_str).collect();

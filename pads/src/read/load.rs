@@ -62,7 +62,8 @@ pub fn load(source: &Source, messages: &mut Messages) -> Result<Loaded, Stop> {
     }
 }
 
-fn read(source: &Source, messages: &mut Messages) -> Result<Design, Stop> {
+/// The netlist of a source, before it is written.
+pub fn read(source: &Source, messages: &mut Messages) -> Result<Design, Stop> {
     let path = source.path.as_str();
     let ending = path.rsplit_once('.').map_or("", |(_, ending)| ending).to_ascii_lowercase();
     let format = source.format.as_deref().unwrap_or(&ending);

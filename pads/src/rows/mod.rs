@@ -1,6 +1,7 @@
 //! Library entries: rows as document 01 packs them, groups of rows, and the entry's text.
 
 pub mod cells;
+pub mod fewer;
 pub mod primes;
 pub mod registers;
 pub mod types;

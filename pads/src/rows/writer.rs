@@ -4,8 +4,10 @@
 use crate::ask::archive::{MOST_BYTES, MOST_CELLS, MOST_LINES, MOST_PINS, MOST_ROWS};
 use crate::read::blocks::helps;
 use crate::read::hub::{Design, Source};
+use crate::read::load::many;
 use crate::read::names::{LineKind, Name};
 use crate::rows::cells::{Kind, Op, Wide};
+use crate::rows::fewer::{self, Function as Written, Turn};
 use crate::rows::registers::{Function, Register, Trouble};
 use crate::rows::{Entry, Table, COMBINATIONAL, PART};
 use crate::show::cost::grouped;
@@ -25,6 +27,53 @@ pub struct Texts {
     pub net: String,
     pub names: Vec<Name>,
     pub cells: Vec<Used>,
+    pub fewer: Fewer,
+}
+
+/// Functions that are written by others because entries ran out.
+#[derive(Clone, Copy, Debug, Default, PartialEq, Eq)]
+pub struct Fewer {
+    /// Entries without that.
+    pub wanted: usize,
+    pub written: usize,
+    /// Inverters of depth 0 for it, a line each.
+    pub inverters: usize,
+    /// Entries that are left at the least where they are still too many.
+    pub left: usize,
+}
+
+impl Fewer {
+    /// `38 functions, of which 6 are written by others with 11 inverters of depth 0: every number is as before`.
+    pub fn told(&self) -> Option<String> {
+        let inverters = match self.inverters {
+            0 => "their pins in another order".to_string(),
+            count => format!("{} of depth 0", many(count, "inverter")),
+        };
+        (self.written > 0).then(|| {
+            format!(
+                "{} cells of different function, of which {} written by others with {inverters}; numbers are the same",
+                self.wanted,
+                if self.written == 1 { "1 is".to_string() } else { format!("{} are", self.written) }
+            )
+        })
+    }
+
+    fn left_told(&self) -> String {
+        if self.left == 0 {
+            return String::new();
+        }
+        format!("; {} are left where they are written by others and inverters", self.left)
+    }
+
+    fn lines_told(&self) -> String {
+        if self.inverters == 0 {
+            return String::new();
+        }
+        format!(
+            "\n  {} of the parts are inverters, because {} cells of different function are too many",
+            self.inverters, self.wanted
+        )
+    }
 }
 
 /// A gate of more pins has more parts than the analyser has lines.
@@ -70,6 +119,24 @@ impl Entries {
         at
     }
 
+    /// Entries that no gate has any more are left out.
+    fn drop_unused(&mut self, placed: &mut [Placed]) {
+        let mut used = vec![false; self.all.len()];
+        placed.iter().for_each(|placed| used[placed.entry] = true);
+        let mut places = vec![0; self.all.len()];
+        let mut kept = Entries { tables: std::mem::take(&mut self.tables), ..Entries::default() };
+        for at in (0..self.all.len()).filter(|&at| used[at]) {
+            places[at] = kept.all.len();
+            kept.places.insert(self.all[at].clone(), kept.all.len());
+            kept.all.push(self.all[at].clone());
+            kept.usual.push(self.usual[at].take());
+            kept.types.push(std::mem::take(&mut self.types[at]));
+            kept.gates.push(self.gates[at]);
+        }
+        placed.iter_mut().for_each(|placed| placed.entry = places[placed.entry]);
+        *self = kept;
+    }
+
     /// Names of 1 to 8 of A–Z, 0–9: by function, else the type's own name where it fits and is free, else C001, C002, ..
     fn names(&self) -> Vec<String> {
         let mut taken: BTreeSet<String> = BTreeSet::new();
@@ -106,6 +173,16 @@ impl Entries {
             })
             .collect()
     }
+}
+
+fn inverter() -> Table {
+    Table::of(1, |s| s == 0)
+}
+
+/// Whether inverters before the pins leave a gate's numbers and what it hands on as they are: each pin reads a net of its
+/// own.
+fn pins_turn(pins: &[Source]) -> bool {
+    pins.iter().enumerate().all(|(at, pin)| matches!(pin, Source::Net(_)) && !pins[..at].contains(pin))
 }
 
 fn own_name(title: &str) -> String {
@@ -145,18 +222,26 @@ struct Writer<'d> {
     placed: Vec<Placed>,
     /// The name of a part's net, by net.
     parts: usize,
+    fewer: Fewer,
 }
 
 /// Writes the texts of a settled design.
 pub fn write(design: &mut Design, messages: &mut Messages) -> Result<Texts, Stop> {
+    write_within(design, MOST_CELLS, messages)
+}
+
+/// The same with at most so many entries.
+pub fn write_within(design: &mut Design, most_cells: usize, messages: &mut Messages) -> Result<Texts, Stop> {
     let before = messages.errors();
-    let mut writer = Writer { design, entries: Entries::default(), placed: Vec::new(), parts: 0 };
+    let fewer = Fewer::default();
+    let mut writer = Writer { design, entries: Entries::default(), placed: Vec::new(), parts: 0, fewer };
     for at in 0..writer.design.gates.len() {
         writer.gate(at, messages);
     }
     if messages.errors() > before {
         return Err(Stop::Refused);
     }
+    writer.write_fewer(most_cells);
     writer.texts(messages)
 }
 
@@ -305,6 +390,118 @@ impl Writer<'_> {
         true
     }
 
+    /// Where entries run out, functions are written by others. Drivers, registers and parts stay as they are.
+    fn write_fewer(&mut self, most: usize) {
+        let read = |wanted: Source| {
+            self.placed.iter().flat_map(|placed| &placed.pins).any(|&pin| pin == wanted)
+                || self.design.outputs.iter().any(|&(_, source)| source == wanted)
+        };
+        let known = |table: &Table, depths| {
+            let entry = self.entries.tables.get(&(table.clone(), depths));
+            entry.is_some_and(|entry| self.entries.places.contains_key(entry))
+        };
+        let ties = [false, true].into_iter().filter(|&value| read(Source::Constant(value)));
+        let ties = ties.filter(|&value| !known(&Table::of(0, |_| value), COMBINATIONAL)).count();
+        let all = self.entries.all.len() + ties;
+        self.fewer.wanted = all;
+        // A netlist of too many lines is refused for them.
+        if all <= most || self.placed.len() > MOST_LINES {
+            return;
+        }
+        let tables: Vec<(usize, Table)> = self.functions();
+        let mut places = vec![None; self.entries.all.len()];
+        let mut functions = Vec::new();
+        for (entry, table) in &tables {
+            places[*entry] = Some(functions.len());
+            functions.push(Written { table: table.clone(), gates: 0, pins_turn: true });
+        }
+        for placed in &self.placed {
+            if let Some(at) = places[placed.entry] {
+                functions[at].gates += 1;
+                functions[at].pins_turn &= pins_turn(&placed.pins);
+            }
+        }
+        let others = all - functions.len();
+        let turns = match fewer::plan(&functions, others, known(&inverter(), PART), most) {
+            Ok(turns) => turns,
+            Err(left) => {
+                self.fewer.left = left;
+                return;
+            }
+        };
+        self.fewer.written = turns.iter().flatten().count();
+        let mut turned: HashMap<usize, usize> = HashMap::new();
+        for at in 0..self.placed.len() {
+            if let Some(turn) = places[self.placed[at].entry].and_then(|place| turns[place].as_ref()) {
+                self.turn(at, turn, tables[turn.to].0, &mut turned);
+            }
+        }
+        self.entries.drop_unused(&mut self.placed);
+    }
+
+    /// The entries that are truth tables with the depth of a gate, of one pin or more.
+    fn functions(&self) -> Vec<(usize, Table)> {
+        let tables =
+            self.entries.tables.iter().filter(|((table, depths), _)| *depths == COMBINATIONAL && table.pins > 0);
+        let mut found: Vec<(usize, Table)> =
+            tables.map(|((table, _), entry)| (self.entries.places[entry], table.clone())).collect();
+        found.sort_by_key(|&(entry, _)| entry);
+        found
+    }
+
+    /// A gate by another function: inverters before its pins, each once for a net, and one behind it.
+    fn turn(&mut self, at: usize, turn: &Turn, entry: usize, turned: &mut HashMap<usize, usize>) {
+        let title = self.placed[at].title.clone();
+        let pin_names = std::mem::take(&mut self.placed[at].pin_names);
+        let pins = std::mem::take(&mut self.placed[at].pins);
+        let mut reads: Vec<Source> = turn.pins.iter().map(|&pin| pins[pin]).collect();
+        for (place, source) in reads.iter_mut().enumerate() {
+            if let (Source::Net(net), 1) = (*source, turn.flips >> place & 1) {
+                *source = Source::Net(*turned.entry(net).or_insert_with(|| self.inverted_pin(net)));
+            }
+        }
+        let names = turn.pins.iter().filter_map(|&pin| pin_names.get(pin).cloned()).collect();
+        self.entries.gates[entry] += 1;
+        if !title.is_empty() && self.entries.types[entry].len() < 50 {
+            let how = if turn.inverted || turn.flips != 0 { "by inverters" } else { "by its pins' order" };
+            self.entries.types[entry].insert(format!("{title} ({how})"));
+        }
+        if !turn.inverted {
+            let placed = &mut self.placed[at];
+            (placed.entry, placed.pins, placed.pin_names) = (entry, reads, names);
+            return;
+        }
+        self.parts += 1;
+        self.fewer.inverters += 1;
+        let net = self.design.add_net();
+        let of = self.design.nets[self.placed[at].output].name().to_string();
+        self.design.nets[net].port = Some(format!("(part {} of {of})", self.parts));
+        let behind = self.table(&inverter(), PART, "");
+        let placed = &mut self.placed[at];
+        placed.entry = behind;
+        placed.pins = vec![Source::Net(net)];
+        placed.pin_names = vec!["I1".to_string()];
+        self.placed.push(Placed {
+            entry,
+            kind: LineKind::Part,
+            title: String::new(),
+            instance: String::new(),
+            pin_names: names,
+            pins: reads,
+            output: net,
+            source: String::new(),
+        });
+    }
+
+    fn inverted_pin(&mut self, of: usize) -> usize {
+        self.fewer.inverters += 1;
+        let name = self.design.nets[of].name().to_string();
+        let Source::Net(net) = self.part(&inverter(), vec![Source::Net(of)], &name) else {
+            unreachable!("a part's net")
+        };
+        net
+    }
+
     /// Gates before their readers as far as loops allow: parts and gates by a walk from each gate to what it reads.
     fn order(&self) -> Vec<usize> {
         let mut driver: Vec<Option<usize>> = vec![None; self.design.nets.len()];
@@ -416,7 +613,7 @@ impl Writer<'_> {
                 gates: self.entries.gates[at],
             })
             .collect();
-        Ok(Texts { lib, net, names: numbers.names, cells })
+        Ok(Texts { lib, net, names: numbers.names, cells, fewer: self.fewer })
     }
 
     /// The tie gates that pins and outputs need: their entries and lines, by value.
@@ -490,10 +687,11 @@ impl Writer<'_> {
             messages.error(
                 &file,
                 format!(
-                    "{} lines, the analyser takes {}\n  {}{}",
+                    "{} lines, the analyser takes {}\n  {}{}{}",
                     grouped(lines as u64),
                     grouped(MOST_LINES as u64),
                     told.join(", "),
+                    self.fewer.lines_told(),
                     helps(lines, self.design)
                 ),
             );
@@ -502,8 +700,8 @@ impl Writer<'_> {
         if cells > MOST_CELLS {
             messages.error(
                 &file,
-                format!("{cells} cells of different function, the analyser takes {MOST_CELLS}\n  what helps: map to fewer cells \
-                         (abc -g AND,NAND,OR,NOR,XOR,XNOR,MUX), or analyse a block by --top"),
+                format!("{cells} cells of different function, the analyser takes {MOST_CELLS}{}\n  what helps: map to fewer cells \
+                         (abc -g AND,NAND,OR,NOR,XOR,XNOR,MUX), or analyse a block by --top", self.fewer.left_told()),
             );
         }
         for (at, entry) in self.entries.all.iter().enumerate() {

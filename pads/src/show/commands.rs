@@ -119,6 +119,9 @@ fn check(args: &Args, messages: &mut Messages) -> Result<Done, Stop> {
     ] {
         let _ = writeln!(text, "  {:>6} of {:>6} {what}", grouped(used as u64), grouped(most as u64));
     }
+    if let Some(told) = texts.as_ref().and_then(|texts| texts.fewer.told()) {
+        let _ = writeln!(text, "{told}");
+    }
     text += "cells:\n";
     for (at, cell) in model.cells.iter().enumerate() {
         let gates = model.gates.iter().filter(|gate| gate.cell == at).count();

@@ -33,16 +33,16 @@ fn importing_twice_gives_equal_bytes() {
     }
 }
 
-struct Room(PathBuf);
+pub struct Room(pub PathBuf);
 
 impl Room {
-    fn new(name: &str) -> Room {
+    pub fn new(name: &str) -> Room {
         let path = std::env::temp_dir().join(format!("scoap_pads_{name}_{}", std::process::id()));
         std::fs::create_dir_all(&path).unwrap();
         Room(path)
     }
 
-    fn file(&self, name: &str, text: &str) -> Source {
+    pub fn file(&self, name: &str, text: &str) -> Source {
         let path = self.0.join(name);
         std::fs::write(&path, text).unwrap();
         source(&path.display().to_string())
@@ -161,14 +161,15 @@ fn limits_are_told_together() {
     assert!(loaded.is_none());
     assert!(said.contains("1,102 lines, the analyser takes 1,000\n  1 input, 1,101 gates\n  what helps"), "{said}");
     assert!(said.contains("no larger analyser is linked: make pads LINES=2000 builds one"), "{said}");
-    // 33 functions of four pins.
+    // 90 functions of four pins, too many of which are none of another by inverters.
     let mut text = "INPUT(a)\nINPUT(b)\nINPUT(c)\nINPUT(d)\nINPUT(e)\nINPUT(f)\n".to_string();
-    for at in 1..=33 {
-        text += &format!("n{at} = LUT 0x{:04x} (a, b, c, d)\nOUTPUT(n{at})\n", at * 977 + 1);
+    for at in 1..=90 {
+        text += &format!("n{at} = LUT 0x{:04x} (a, b, c, d)\nOUTPUT(n{at})\n", at * 727 + 1);
     }
     text += "x = LUT 0x6996966996696996 (a, b, c, d, e, f)\nOUTPUT(x)\n";
     let (_, said) = load(&room.file("many.bench", &text));
-    assert!(said.contains("cells of different function, the analyser takes 32"), "{said}");
+    assert!(said.contains("cells of different function, the analyser takes 32; "), "{said}");
+    assert!(said.contains(" are left where they are written by others and inverters"), "{said}");
     assert!(said.contains("32 ways for one value or pin, the analyser takes 16"), "{said}");
 }
 

@@ -1,6 +1,7 @@
 //! Tests over whole designs, in one program.
 
 mod common;
+mod fewer;
 mod figures;
 mod formats;
 mod reading;

@@ -199,7 +199,8 @@ function nearness(protect) {
     const [line, own] = count[k], l = byLine.get(line);
     if (steps.has(line) && steps.get(line) <= own) continue;
     steps.set(line, own);
-    const free = l.k === "part" || l.k !== "register" && l.b.length > 0;
+    // A part belongs to its gate; one that an inverter only hands on is that gate.
+    const free = l.k !== "register" && l.b.length > 0 || l.k === "part" && !handers.has(line);
     for (const from of l.u) count.push([from, free ? own : own + 1]);
   }
   return {carries, upstream, steps};
