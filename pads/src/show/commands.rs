@@ -169,6 +169,7 @@ fn table(rows: &[Vec<String>], left: &[usize]) -> String {
 }
 
 const NAME_WIDTH: usize = 44;
+const FED_WIDTH: usize = 28;
 
 fn report(args: &Args, messages: &mut Messages) -> Result<Done, Stop> {
     let key = match args.value("--by") {
@@ -198,12 +199,7 @@ fn report(args: &Args, messages: &mut Messages) -> Result<Done, Stop> {
         enough && (!args.has("--registers") || model.name(*line).kind == LineKind::Register)
     };
     let lines: Vec<usize> = ranked.iter().copied().filter(wanted).collect();
-    let head = ["hardest", "net", "kind", "CC0", "CC1", "SC0", "SC1", "CO", "SO", "pad gain", "feeds"];
-    let mut rows = vec![head.map(str::to_string).to_vec()];
-    for &line in lines.iter().take(worst) {
-        rows.push(row_of(&model, line, effects.get(&line)));
-    }
-    text += &table(&rows, &[1, 2, 10]);
+    text += &nets_told(&model, &lines[..worst.min(lines.len())], &effects);
     if lines.len() > worst {
         let _ =
             writeln!(text, "… {} more; --worst N shows more, --csv FILE all", grouped((lines.len() - worst) as u64));
@@ -216,7 +212,7 @@ fn report(args: &Args, messages: &mut Messages) -> Result<Done, Stop> {
             let _ = writeln!(text, "no net is above {}", grouped(bound as u64));
         } else {
             status = 3;
-            let told: Vec<String> = lines.iter().take(3).map(|&line| cut(model.net_name(line), NAME_WIDTH)).collect();
+            let told = cut_names(&model, &lines[..lines.len().min(3)], NAME_WIDTH);
             let _ = writeln!(
                 text,
                 "{} above {}: {}{}",
@@ -230,19 +226,37 @@ fn report(args: &Args, messages: &mut Messages) -> Result<Done, Stop> {
     Ok(Done { status, ..Done::beside(args.value("--csv"), text)? })
 }
 
-fn row_of(model: &Model, line: usize, effect: Option<&Effect>) -> Vec<String> {
-    let six = model.numbers.of(line);
-    let name = model.name(line);
-    let mut row = vec![ranking::hardest(six).to_string(), cut(&name.net, NAME_WIDTH), kind_told(name.kind).to_string()];
-    row.extend(six.iter().map(Cost::to_string));
-    row.push(gain_told(effect));
-    row.push(match name.kind {
-        LineKind::Gate if !model.is_output[line] => {
-            model.feeds(line).map_or(String::new(), |fed| cut(model.net_name(fed), 28))
-        }
-        _ => String::new(),
-    });
-    row
+/// The table of a report. What is shown of names is parted: no two rows read alike.
+fn nets_told(model: &Model, lines: &[usize], effects: &HashMap<usize, Effect>) -> String {
+    let head =
+        ["hardest", "line", "net", "kind", "CC0", "CC1", "SC0", "SC1", "CO", "SO", "pad gain", "feeds", "source"];
+    let mut rows = vec![head.map(str::to_string).to_vec()];
+    let fed = |&line: &usize| {
+        let asked = model.name(line).kind == LineKind::Gate && !model.is_output[line];
+        asked.then(|| model.feeds(line)).flatten()
+    };
+    let fed: Vec<Option<usize>> = lines.iter().map(fed).collect();
+    let mut fed_names = cut_names(model, &fed.iter().flatten().copied().collect::<Vec<_>>(), FED_WIDTH).into_iter();
+    for ((&line, name), fed) in lines.iter().zip(cut_names(model, lines, NAME_WIDTH)).zip(fed) {
+        let six = model.numbers.of(line);
+        let mut row = vec![ranking::hardest(six).to_string(), line.to_string(), name];
+        row.push(kind_told(model.name(line).kind).to_string());
+        row.extend(six.iter().map(Cost::to_string));
+        row.push(gain_told(effects.get(&line)));
+        row.push(fed.and_then(|_| fed_names.next()).unwrap_or_default());
+        row.push(cut(names::place_told(&model.name(line).source), FED_WIDTH));
+        rows.push(row);
+    }
+    if rows[1..].iter().all(|row| row[12].is_empty()) {
+        rows.iter_mut().for_each(|row| row.truncate(12));
+    }
+    table(&rows, &[2, 3, 11, 12])
+}
+
+/// The names of lines, cut so that no two read alike.
+fn cut_names(model: &Model, lines: &[usize], most: usize) -> Vec<String> {
+    let names: Vec<(usize, &str)> = lines.iter().map(|&line| (line, model.net_name(line))).collect();
+    names::cut_all(&names, most)
 }
 
 /// A design of which no number can be above a bound is no design that passed: it is refused.
@@ -278,12 +292,18 @@ fn best_told(model: &Model, effects: &HashMap<usize, Effect>, privacy: &Privacy)
         None => "best pad: none that is allowed makes a net easier to see\n".to_string(),
         Some(best) => {
             let mut text = format!("best pad: {}  {}\n", model.net_name(best.line), change_told(before, best.after));
+            text += &long_told(model, best.line, "          ");
             for told in privacy.told(model, best.line) {
                 let _ = writeln!(text, "          {told}");
             }
             text
         }
     }
+}
+
+/// What the netlist itself calls a net whose name was made: the one that a layout knows.
+fn long_told(model: &Model, line: usize, indent: &str) -> String {
+    model.name(line).long().map_or(String::new(), |long| format!("{indent}in the netlist: {long}\n"))
 }
 
 /// `largest CO 7,631 -> 3,374, sum 270,960 -> 117,508`.
@@ -316,6 +336,7 @@ fn csv_of(model: &Model, ranked: &[usize], effects: &HashMap<usize, Effect>, pri
         "aliases",
         "protected",
         "upstream",
+        "source",
     ];
     let mut text = csv::record(&head);
     let rest = model.lines().filter(|&line| !model.is_ranked(line));
@@ -331,6 +352,7 @@ fn csv_of(model: &Model, ranked: &[usize], effects: &HashMap<usize, Effect>, pri
         fields.push(name.aliases.join(" "));
         fields.push(protected_told(privacy, line).to_string());
         fields.push(privacy.upstream_told(model, line).unwrap_or_default());
+        fields.push(name.source.clone());
         let fields: Vec<&str> = fields.iter().map(String::as_str).collect();
         text += &csv::record(&fields);
     }
@@ -395,10 +417,11 @@ fn reason(args: &Args, messages: &mut Messages) -> Result<Done, Stop> {
     let line = one_net(&model, &args.words[0])?;
     let six = model.numbers.of(line);
     let number = number.unwrap_or_else(|| ranking::dearer(six));
+    let name = model.name(line);
     let mut text = format!(
         "{} (line {line}, {}): CC0 {}, CC1 {}, SC0 {}, SC1 {}, CO {}, SO {}; {}:\n",
-        model.net_name(line),
-        model.name(line).kind.word(),
+        name.net,
+        name.kind.word(),
         six[0],
         six[1],
         six[2],
@@ -407,6 +430,12 @@ fn reason(args: &Args, messages: &mut Messages) -> Result<Done, Stop> {
         six[5],
         number.word().to_ascii_uppercase()
     );
+    if !name.aliases.is_empty() {
+        let _ = writeln!(text, "also {}", name.aliases.join(", "));
+    }
+    if !name.source.is_empty() {
+        let _ = writeln!(text, "at {}", name.source.replace('|', ", "));
+    }
     text += low_told(&model);
     text += &why::text(&model, line, number, steps).map_err(Stop::Usage)?;
     Done::well(text)
@@ -459,6 +488,9 @@ fn pad(args: &Args, messages: &mut Messages) -> Result<Done, Stop> {
     );
     text += low_told(&model);
     for &line in &lines {
+        if let Some(long) = model.name(line).long() {
+            let _ = writeln!(text, "{}: in the netlist {long}", model.net_name(line));
+        }
         for told in privacy.told(&model, line) {
             let _ = writeln!(text, "{}: {told}", model.net_name(line));
         }
@@ -471,11 +503,12 @@ fn pad(args: &Args, messages: &mut Messages) -> Result<Done, Stop> {
     let fall = |line: usize| pads::fall(model.numbers.of(line)[4], after.of(line)[4]);
     changed.sort_by_key(|&line| (std::cmp::Reverse(fall(line)), line));
     let _ = writeln!(text, "{} easier to see; CC and SC stay as they are", load::many(changed.len(), "net"));
-    let mut rows = vec![["net", "kind", "CO", "", "SO", "", ""].map(str::to_string).to_vec()];
-    for &line in &changed {
+    let mut rows = vec![["line", "net", "kind", "CO", "", "SO", "", ""].map(str::to_string).to_vec()];
+    for (&line, name) in changed.iter().zip(cut_names(&model, &changed, NAME_WIDTH)) {
         let (was, is) = (model.numbers.of(line), after.of(line));
         rows.push(vec![
-            cut(model.net_name(line), NAME_WIDTH),
+            line.to_string(),
+            name,
             kind_told(model.name(line).kind).to_string(),
             was[4].to_string(),
             format!("-> {}", is[4]),
@@ -485,7 +518,7 @@ fn pad(args: &Args, messages: &mut Messages) -> Result<Done, Stop> {
         ]);
     }
     if !changed.is_empty() {
-        text += &table(&rows, &[0, 1, 3, 5, 6]);
+        text += &table(&rows, &[1, 2, 4, 6, 7]);
     }
     text += &touched_told(&model, &privacy, &lines, &changed, &after)?;
     Done::well(text)
@@ -547,6 +580,7 @@ fn advise(args: &Args, messages: &mut Messages) -> Result<Done, Stop> {
 
 fn pad_told(model: &Model, at: usize, before: Measure, pad: &Effect, round: &Round, privacy: &Privacy) -> String {
     let mut text = format!("pad {at}: {}  {}\n", model.net_name(pad.line), change_told(before, pad.after));
+    text += &long_told(model, pad.line, "       ");
     let easier = load::many(pad.easier.len(), "net");
     let _ =
         writeln!(text, "       {easier} easier to see; chosen among {} of {} lines", round.allowed, round.candidates);
@@ -595,7 +629,7 @@ fn trouble_told(model: &Model) -> String {
 
 fn candidates_csv(model: &Model, effects: &[Effect], privacy: &Privacy) -> String {
     let mut text =
-        csv::record(&["net", "instance", "gain", "largest_co", "easier", "protected", "allowed", "upstream"]);
+        csv::record(&["net", "instance", "gain", "largest_co", "easier", "protected", "allowed", "upstream", "line"]);
     let mut effects: Vec<&Effect> = effects.iter().collect();
     effects.sort_by_key(|effect| (effect.after, effect.line));
     for effect in effects {
@@ -617,6 +651,7 @@ fn candidates_csv(model: &Model, effects: &[Effect], privacy: &Privacy) -> Strin
             &names(&effect.touched),
             if privacy.allows(effect) { "1" } else { "0" },
             &privacy.upstream_told(model, effect.line).unwrap_or_default(),
+            &effect.line.to_string(),
         ]);
     }
     text

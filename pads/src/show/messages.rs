@@ -109,7 +109,7 @@ fn shown(text: &str) -> String {
 
 /// Whether a character acts on a terminal or a page and is not seen: control characters, marks of direction, what has no
 /// width.
-fn is_hidden(c: char) -> bool {
+pub fn is_hidden(c: char) -> bool {
     let marks = matches!(c, '\u{61c}' | '\u{200b}'..='\u{200f}' | '\u{2028}'..='\u{202e}' | '\u{2060}'..='\u{206f}');
     let unseen = matches!(c, '\u{ad}' | '\u{34f}' | '\u{180e}' | '\u{feff}' | '\u{fff9}'..='\u{fffb}');
     c.is_control() || marks || unseen || ('\u{e0000}'..='\u{e007f}').contains(&c)
