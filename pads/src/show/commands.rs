@@ -1,6 +1,6 @@
 //! The commands: each answers what it prints and its exit status.
 
-use crate::ask::archive::{refusal_told, Numbers, MOST_BYTES, MOST_CELLS, MOST_LINES, MOST_PINS, MOST_ROWS};
+use crate::ask::archive::{refusal_told, MOST_LINES};
 use crate::ask::model::{Model, Number};
 use crate::ask::pads::{self, Effect, Measure, Privacy, Round, Touching};
 use crate::ask::ranking::{self, Key};
@@ -10,9 +10,10 @@ use crate::read::load::{self, Loaded};
 use crate::read::names::{self, cut, LineKind};
 use crate::show::args::{Args, Takes};
 use crate::show::cost::{grouped, Cost};
-use crate::show::messages::Messages;
+use crate::show::json::Json;
+use crate::show::messages::{printable, shown_name, Messages};
 use crate::show::text::{self, Stop};
-use crate::show::{help, page};
+use crate::show::{forms, help, page};
 use std::collections::HashMap;
 use std::fmt::Write;
 use std::path::Path;
@@ -23,21 +24,54 @@ pub struct Done {
     pub status: u8,
     /// A file of the command line is standard output, and has it for itself.
     pub aside: bool,
+    /// The members of what `--json` prints instead.
+    own: Option<Vec<(&'static str, Json)>>,
 }
 
 impl Done {
     fn well(text: String) -> Result<Done, Stop> {
-        Ok(Done { text, status: 0, aside: false })
+        Ok(Done { text, status: 0, aside: false, own: None })
+    }
+
+    /// The same as JSON, where it is asked for.
+    fn or(self, args: &Args, own: impl FnOnce() -> Result<Vec<(&'static str, Json)>, Stop>) -> Result<Done, Stop> {
+        if !args.has("--json") {
+            return Ok(self);
+        }
+        Ok(Done { own: Some(own()?), ..self })
     }
 
     /// What is said of a file that was written.
     fn beside(file: Option<&str>, text: String) -> Result<Done, Stop> {
-        Ok(Done { text, status: 0, aside: file.is_some_and(text::is_standard_output) })
+        Ok(Done { text, status: 0, aside: file.is_some_and(text::is_standard_output), own: None })
     }
+}
+
+/// Whether the command line asks for JSON.
+fn wants_json(given: &[String]) -> bool {
+    given.iter().take_while(|word| *word != "--").any(|word| word == "--json")
 }
 
 /// Runs the command line; messages are told by the caller.
 pub fn run(given: &[String], messages: &mut Messages) -> Result<Done, Stop> {
+    let mut done = answer(given, messages)?;
+    if let Some(own) = done.own.take() {
+        done.text = forms::whole(&given[0], done.status, messages, own);
+    }
+    Ok(done)
+}
+
+/// What is printed of a command that stopped, where it is asked for JSON.
+pub fn stopped(given: &[String], stop: &Stop, messages: &Messages) -> Option<String> {
+    let (status, words) = match stop {
+        Stop::Refused => (1, None),
+        Stop::Usage(words) => (2, Some(printable(words))),
+    };
+    let command = given.first().map_or("", String::as_str);
+    wants_json(given).then(|| forms::whole(command, status, messages, vec![("error", words.into())]))
+}
+
+fn answer(given: &[String], messages: &mut Messages) -> Result<Done, Stop> {
     let Some((command, rest)) = given.split_first() else {
         return Err(Stop::Usage(format!("a command is missing\n{}", help::GENERAL)));
     };
@@ -56,7 +90,15 @@ pub fn run(given: &[String], messages: &mut Messages) -> Result<Done, Stop> {
         return Done::well(help.to_string());
     }
     let many = usize::MAX;
-    let parse = |values, flags, words| Args::parse(rest, &Takes { values, flags, words });
+    let parse = |values, flags, words| -> Result<Args, Stop> {
+        let args = Args::parse(rest, &Takes { values, flags, words })?;
+        match ["--csv", "-o"].into_iter().find(|name| args.value(name).is_some_and(text::is_standard_output)) {
+            Some(name) if args.has("--json") => {
+                Err(Stop::Usage(format!("--json and {name} both want standard output")))
+            }
+            _ => Ok(args),
+        }
+    };
     match command.as_str() {
         "import" => import(&parse(&["-o"], &[], (0, 0))?, messages),
         "check" => check(&parse(&[], &[], (0, 0))?, messages),
@@ -93,28 +135,22 @@ fn import(args: &Args, messages: &mut Messages) -> Result<Done, Stop> {
     text::write(&file("lib.txt"), lib)?;
     text::write(&file("net.txt"), net)?;
     text::write(&file("names.csv"), names::write(names).as_bytes())?;
-    Done::well(format!(
+    let done = Done::well(format!(
         "{}\nwritten: lib.txt, net.txt and names.csv in {}\n",
         load::summary(&args.source.path, &model),
         folder.display()
-    ))
+    ))?;
+    done.or(args, || {
+        let written = ["lib.txt", "net.txt", "names.csv"].map(|name| shown_name(&file(name))).to_vec();
+        Ok(vec![forms::design(&args.source.path, &model), ("written", written.into())])
+    })
 }
 
 fn check(args: &Args, messages: &mut Messages) -> Result<Done, Stop> {
     let Loaded { model, texts } = load::load(&args.source, messages)?;
     let mut text = load::summary(&args.source.path, &model) + "\n";
-    let most_pins = model.cells.iter().map(|cell| cell.pins).max().unwrap_or(0);
-    let groups = model.cells.iter().flat_map(|cell| cell.control.iter().chain(&cell.observe).flatten());
-    let most_rows = groups.map(Vec::len).max().unwrap_or(0);
     text += "limits used:\n";
-    for (used, most, what) in [
-        (model.names.len(), MOST_LINES, "lines"),
-        (model.cells.len(), MOST_CELLS, "cells"),
-        (most_pins, MOST_PINS, "pins of a cell"),
-        (most_rows, MOST_ROWS, "rows of a group"),
-        (model.lib.len(), MOST_BYTES, "bytes of lib.txt"),
-        (model.net.len(), MOST_BYTES, "bytes of net.txt"),
-    ] {
+    for (used, most, what) in forms::limits(&model) {
         let _ = writeln!(text, "  {:>6} of {:>6} {what}", grouped(used as u64), grouped(most as u64));
     }
     text += "cells:\n";
@@ -125,7 +161,7 @@ fn check(args: &Args, messages: &mut Messages) -> Result<Done, Stop> {
             format!("  {:<8} {}, {}  {types}", cell.name, load::many(cell.pins, "pin"), load::many(gates, "gate"));
         let _ = writeln!(text, "{}", line.trim_end());
     }
-    Done::well(text)
+    Done::well(text)?.or(args, || Ok(forms::check(&args.source.path, &model, texts.as_ref())))
 }
 
 fn gain_told(effect: Option<&Effect>) -> String {
@@ -207,7 +243,7 @@ fn report(args: &Args, messages: &mut Messages) -> Result<Done, Stop> {
     text += &best_told(&model, &effects, &privacy);
     let broken = bound.map(|bound| above(&model, bound));
     let mut status = 0;
-    if let (Some(lines), Some(bound)) = (broken, bound) {
+    if let (Some(lines), Some(bound)) = (&broken, bound) {
         if lines.is_empty() {
             let _ = writeln!(text, "no net is above {}", grouped(bound as u64));
         } else {
@@ -223,7 +259,27 @@ fn report(args: &Args, messages: &mut Messages) -> Result<Done, Stop> {
             );
         }
     }
-    Ok(Done { status, ..Done::beside(args.value("--csv"), text)? })
+    let done = Done { status, ..Done::beside(args.value("--csv"), text)? };
+    done.or(args, || {
+        let shown = &lines[..worst.min(lines.len())];
+        let net = |&line: &usize| forms::net(&model, line, effects.get(&line), &privacy);
+        let before = pads::measure(&model, &model.numbers);
+        let all: Vec<Effect> = effects.values().cloned().collect();
+        let best = pads::best(before, &all, &privacy);
+        let above = broken
+            .zip(bound)
+            .map(|(lines, bound)| Json::Object(vec![("bound", bound.into()), ("nets", forms::names(&model, &lines))]));
+        Ok(vec![
+            forms::design(&args.source.path, &model),
+            ("by", args.value("--by").unwrap_or("fault").into()),
+            ("nets", Json::List(shown.iter().map(net).collect())),
+            ("more", (lines.len() - shown.len()).into()),
+            ("nevers", forms::nevers(&model)),
+            ("measure", forms::measure(before)),
+            ("best", best.map(|best| Json::Object(forms::pad(&model, best, &privacy))).into()),
+            ("above", above.into()),
+        ])
+    })
 }
 
 /// The table of a report. What is shown of names is parted: no two rows read alike.
@@ -438,7 +494,17 @@ fn reason(args: &Args, messages: &mut Messages) -> Result<Done, Stop> {
     }
     text += low_told(&model);
     text += &why::text(&model, line, number, steps).map_err(Stop::Usage)?;
-    Done::well(text)
+    Done::well(text)?.or(args, || {
+        let mut reasons = why::Reasons::new(&model, number.sequential());
+        let steps = why::steps(&mut reasons, why::Node::of(number, line), steps).map_err(Stop::Usage)?;
+        let steps = steps.iter().map(|step| forms::step(&model, &reasons, step)).collect();
+        Ok(vec![
+            forms::design(&args.source.path, &model),
+            ("net", forms::net(&model, line, None, &Privacy::default())),
+            ("of", number.word().into()),
+            ("steps", Json::List(steps)),
+        ])
+    })
 }
 
 /// The lines that a file of patterns means.
@@ -474,15 +540,19 @@ fn pad(args: &Args, messages: &mut Messages) -> Result<Done, Stop> {
     lines.dedup();
     let privacy = privacy_of(args, &model, messages)?;
     let (outputs, lines): (Vec<usize>, Vec<usize>) = lines.into_iter().partition(|&line| model.is_output[line]);
-    for line in outputs {
+    for &line in &outputs {
         messages.note(format!("{} is an output already", model.net_name(line)));
     }
     messages.print();
     let after = pads::placed(&model, &lines).map_err(Stop::Usage)?.numbers;
     let measures = [pads::measure(&model, &model.numbers), pads::measure(&model, &after)];
     let told: Vec<&str> = lines.iter().map(|&line| model.net_name(line)).collect();
-    let mut text = format!(
-        "pads on {}: {}\n",
+    // Of several nets also what each alone would do.
+    let alone = pads::effects(&model, &lines, &privacy).map_err(Stop::Usage)?;
+    let mut text = if alone.len() > 1 { alone_told(&model, &alone, &privacy) } else { String::new() };
+    let _ = writeln!(
+        text,
+        "pads on {}: {}",
         if told.is_empty() { "nothing".to_string() } else { told.join(", ") },
         change_told(measures[0], measures[1])
     );
@@ -520,21 +590,69 @@ fn pad(args: &Args, messages: &mut Messages) -> Result<Done, Stop> {
     if !changed.is_empty() {
         text += &table(&rows, &[1, 2, 4, 6, 7]);
     }
-    text += &touched_told(&model, &privacy, &lines, &changed, &after)?;
-    Done::well(text)
+    let touching = Touching::new(&model, &privacy).map_err(Stop::Usage)?;
+    let touched = touching.by(&model, &lines, &after).map_err(Stop::Usage)?;
+    text += &touched_told(&model, &touched, &changed);
+    Done::well(text)?.or(args, || {
+        let easier = changed.iter().map(|&line| {
+            let (was, is) = (model.numbers.of(line), after.of(line));
+            Json::Object(vec![
+                ("net", model.net_name(line).into()),
+                ("line", line.into()),
+                ("kind", model.name(line).kind.word().into()),
+                ("co", vec![was[4], is[4]].into()),
+                ("so", vec![was[5], is[5]].into()),
+                ("protected", privacy.protected.contains(&line).into()),
+                ("carries", privacy.carries(line).into()),
+            ])
+        });
+        Ok(vec![
+            forms::design(&args.source.path, &model),
+            ("pads", forms::names(&model, &lines)),
+            ("outputs_already", forms::names(&model, &outputs)),
+            ("before", forms::measure(measures[0])),
+            ("after", forms::measure(measures[1])),
+            ("easier", Json::List(easier.collect())),
+            ("touches", forms::names(&model, &touched)),
+            ("alone", Json::List(alone.iter().map(|pad| Json::Object(forms::pad(&model, pad, &privacy))).collect())),
+        ])
+    })
 }
 
-/// The protected nets that pads touch.
-fn touched_told(
-    model: &Model,
-    privacy: &Privacy,
-    pads: &[usize],
-    changed: &[usize],
-    after: &Numbers,
-) -> Result<String, Stop> {
-    let touching = Touching::new(model, privacy).map_err(Stop::Usage)?;
-    let touched = touching.by(model, pads, after).map_err(Stop::Usage)?;
-    let (shown, within): (Vec<usize>, Vec<usize>) = touched.into_iter().partition(|line| changed.contains(line));
+/// What each of these pads alone would do, the largest gain first.
+fn alone_told(model: &Model, pads: &[Effect], privacy: &Privacy) -> String {
+    let mut pads: Vec<&Effect> = pads.iter().collect();
+    pads.sort_by_key(|pad| (std::cmp::Reverse(pad.rank()), pad.line));
+    let lines: Vec<usize> = pads.iter().map(|pad| pad.line).collect();
+    let head = ["line", "net", "kind", "pad gain", "never seen", "over", "largest CO", "sum", "easier", ""];
+    let mut rows = vec![head.map(str::to_string).to_vec()];
+    for (pad, name) in pads.iter().zip(cut_names(model, &lines, NAME_WIDTH)) {
+        let mut told = Vec::new();
+        if !pad.touched.is_empty() {
+            told.push(format!("touches {}", load::many(pad.touched.len(), "protected net")));
+        }
+        if privacy.ruled_out(pad.line) {
+            told.push("ruled out".to_string());
+        }
+        rows.push(vec![
+            pad.line.to_string(),
+            name,
+            kind_told(model.name(pad.line).kind).to_string(),
+            gain_told(Some(pad)),
+            grouped(pad.after.never as u64),
+            grouped(pad.after.over as u64),
+            grouped(u64::from(pad.after.largest)),
+            grouped(pad.after.sum),
+            grouped(pad.easier.len() as u64),
+            told.join(", "),
+        ]);
+    }
+    format!("each alone:\n{}", table(&rows, &[1, 2, 9]))
+}
+
+/// The protected nets that pads touch; those that change by the numbers shown, and others.
+fn touched_told(model: &Model, touched: &[usize], changed: &[usize]) -> String {
+    let (shown, within): (Vec<usize>, Vec<usize>) = touched.iter().partition(|line| changed.contains(line));
     let mut text = String::new();
     if !shown.is_empty() {
         let _ = writeln!(text, "{} easier to see", load::many(shown.len(), "protected net"));
@@ -544,7 +662,7 @@ fn touched_told(
         let what = load::many(within.len(), "protected net");
         let _ = writeln!(text, "{what} perhaps easier to see at other prices within the ranges: {}", names.join(", "));
     }
-    Ok(text)
+    text
 }
 
 fn advise(args: &Args, messages: &mut Messages) -> Result<Done, Stop> {
@@ -575,7 +693,26 @@ fn advise(args: &Args, messages: &mut Messages) -> Result<Done, Stop> {
         };
     }
     text += &trouble_told(&model);
-    Done::beside(args.value("--csv"), text)
+    Done::beside(args.value("--csv"), text)?.or(args, || {
+        let mut before = pads::measure(&model, &model.numbers);
+        let rounds = rounds.iter().map(|round| {
+            let told = forms::round(&model, before, round, &privacy);
+            before = round.pad.as_ref().map_or(before, |pad| pad.after);
+            told
+        });
+        let rounds = Json::List(rounds.collect());
+        let trouble = trouble(&model).map(|(line, number)| {
+            let cost = number.of(model.numbers.of(line));
+            let net = model.net_name(line).into();
+            Json::Object(vec![
+                ("net", net),
+                ("line", line.into()),
+                ("number", number.word().into()),
+                ("cost", cost.into()),
+            ])
+        });
+        Ok(vec![forms::design(&args.source.path, &model), ("rounds", rounds), ("trouble", trouble.into())])
+    })
 }
 
 fn pad_told(model: &Model, at: usize, before: Measure, pad: &Effect, round: &Round, privacy: &Privacy) -> String {
@@ -606,24 +743,26 @@ fn page_of(args: &Args, messages: &mut Messages) -> Result<Done, Stop> {
     let page = page::page(&args.source.path, &model, &placed, &privacy, &said).map_err(Stop::Usage)?;
     text::write(file, page.as_bytes())?;
     let summary = load::summary(&args.source.path, &model);
-    Done::beside(Some(file), format!("{summary}\nwritten: {file}, {} KB\n", page.len() / 1000))
+    Done::beside(Some(file), format!("{summary}\nwritten: {file}, {} KB\n", page.len() / 1000))?
+        .or(args, || Ok(vec![forms::design(&args.source.path, &model), ("written", vec![shown_name(file)].into())]))
+}
+
+/// The hardest net, where setting is its trouble.
+fn trouble(model: &Model) -> Option<(usize, Number)> {
+    let line = *ranking::ranked(model, Key::Fault, &HashMap::new()).first()?;
+    let number = ranking::dearer(model.numbers.of(line));
+    (number != Number::Co).then_some((line, number))
 }
 
 /// A pad does not help where setting is the trouble.
 fn trouble_told(model: &Model) -> String {
-    let ranked = ranking::ranked(model, Key::Fault, &HashMap::new());
-    let Some(&line) = ranked.first() else { return String::new() };
-    let six = model.numbers.of(line);
-    let number = ranking::dearer(six);
-    if number == Number::Co {
-        return String::new();
-    }
+    let Some((line, number)) = trouble(model) else { return String::new() };
     format!(
         "a pad changes CO and SO alone: the hardest net, {}, is hard to set ({} {}), and no pad helps there; a way to load \
          it does\n",
         model.net_name(line),
         number.word().to_ascii_uppercase(),
-        number.of(six)
+        number.of(model.numbers.of(line))
     )
 }
 

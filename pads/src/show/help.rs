@@ -21,6 +21,7 @@ there, names.csv. Options of a netlist:
     --clock NAME    the input that clocks registers whose format has no clock
     --open          nets without a driver become open lines
     --format WORD   json, blif, bench or v, whatever the file's ending
+Every command takes --json: the same answer as JSON on standard output, refusals too (docs/JSON.md).
 NET is a name, an alias, line:N, or a pattern with * where several nets are meant. A net that the designer did not name is
 called by what it feeds: rx[2].d~3 is the third of such nets before pin D of rx[2]; its own name is an alias.
 
@@ -72,7 +73,8 @@ term, N steps in all (4 if not said).
 pub const PAD: &str = "\
 scoap_pads pad SOURCE NET.. [--protect FILE] [--protect-depth N]
 
-Numbers before and after, if these nets get pads together: which nets become easier to see, and by how much. With
+Numbers before and after, if these nets get pads together: which nets become easier to see, and by how much. Of several
+nets, as of a pattern 'rx*', a table before it says what each alone would do. With
 --protect it says which of them are protected, which pads carry a protected value, how far upstream the others are, and
 which of them 'advise' would rule out, by --protect-depth N as it has it.
 A pad is an output: it changes CO and SO alone.

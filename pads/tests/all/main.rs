@@ -3,5 +3,6 @@
 mod common;
 mod figures;
 mod formats;
+mod json;
 mod names;
 mod reading;
