@@ -25,6 +25,10 @@ fn run() -> ExitCode {
     let mut messages = Messages::new();
     let answer = commands::run(&given, &mut messages);
     messages.print();
+    if let Some(json) = answer.as_ref().err().and_then(|stop| commands::stopped(&given, stop, &messages)) {
+        // What cannot be printed is told below, as any other refusal.
+        let _ = text::print(json.as_bytes());
+    }
     let told = answer.and_then(|done| {
         let text = printable(&done.text);
         if done.aside {

@@ -1,7 +1,7 @@
 //! Why lines can never be set: loops, constants and open lines on which the others rest.
 
 use crate::ask::model::{Driver, Model};
-use crate::read::names::{cut, LineKind};
+use crate::read::names::{cut_all, LineKind};
 use crate::show::cost::Cost;
 use std::collections::HashMap;
 
@@ -178,7 +178,8 @@ fn some(model: &Model, lines: &[usize], most: usize) -> String {
     // Registers are what an engineer knows.
     let mut lines = lines.to_vec();
     lines.sort_by_key(|&line| model.name(line).kind != LineKind::Register);
-    let mut told: Vec<String> = lines.iter().take(most).map(|&line| cut(model.net_name(line), 40)).collect();
+    let names: Vec<(usize, &str)> = lines.iter().take(most).map(|&line| (line, model.net_name(line))).collect();
+    let mut told = cut_all(&names, 40);
     if lines.len() > most {
         told.push("…".to_string());
     }

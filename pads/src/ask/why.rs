@@ -340,13 +340,23 @@ impl<'m> Reasons<'m> {
     }
 }
 
-/// The text of `why`: at most `steps` steps, each following the dearest term of the one above.
-pub fn text(model: &Model, line: usize, number: Number, steps: usize) -> Result<String, String> {
+/// At most so many steps, each following the dearest term of the one above.
+pub fn steps(reasons: &mut Reasons, node: Node, most: usize) -> Result<Vec<Step>, String> {
+    let mut steps = vec![reasons.step(node)?];
+    while steps.len() < most.max(1) {
+        match steps.last().and_then(|step| step.terms.first()) {
+            Some(&(next, cost)) if cost > Cost::Figure(0) => steps.push(reasons.step(next)?),
+            _ => break,
+        }
+    }
+    Ok(steps)
+}
+
+/// The text of `why`.
+pub fn text(model: &Model, line: usize, number: Number, most: usize) -> Result<String, String> {
     let mut reasons = Reasons::new(model, number.sequential());
     let mut text = String::new();
-    let mut node = Node::of(number, line);
-    for _ in 0..steps.max(1) {
-        let step = reasons.step(node)?;
+    for step in steps(&mut reasons, Node::of(number, line), most)? {
         text += &reasons.told(&step);
         text.push('\n');
         let width = step.terms.iter().map(|(_, cost)| cost.to_string().len()).max().unwrap_or(0);
@@ -364,11 +374,6 @@ pub fn text(model: &Model, line: usize, number: Number, steps: usize) -> Result<
             if blocked.len() > 12 {
                 text += &format!("    and {} more ways\n", blocked.len() - 12);
             }
-            break;
-        }
-        match step.terms.first() {
-            Some(&(next, cost)) if cost > Cost::Figure(0) => node = next,
-            _ => break,
         }
     }
     Ok(text)

@@ -294,14 +294,27 @@ impl<'a> Reader<'a> {
                         Some(b'b' | b'f') => text.push(' '),
                         Some(b @ (b'"' | b'\\' | b'/')) => text.push(char::from(b)),
                         Some(b'u') => {
-                            let code = self.text.get(self.at..self.at + 4);
-                            let code = code.and_then(|hex| u32::from_str_radix(hex, 16).ok());
-                            let Some(code) = code else {
+                            let unit = |from: usize| {
+                                self.text.get(from..from + 4).and_then(|hex| u16::from_str_radix(hex, 16).ok())
+                            };
+                            let Some(first) = unit(self.at) else {
                                 self.at -= 2;
                                 return Err(self.wrong("a bad escape in a string"));
                             };
-                            text.push(char::from_u32(code).unwrap_or('\u{fffd}'));
-                            self.at += 4;
+                            // A character above U+FFFF is two of them.
+                            let behind = self.text.get(self.at + 4..self.at + 6) == Some("\\u");
+                            let second = if behind { unit(self.at + 6) } else { None };
+                            let pair = second.and_then(|second| char::decode_utf16([first, second]).next()?.ok());
+                            match pair.filter(|c| c.len_utf16() == 2) {
+                                Some(c) => {
+                                    text.push(c);
+                                    self.at += 10;
+                                }
+                                None => {
+                                    text.push(char::from_u32(u32::from(first)).unwrap_or('\u{fffd}'));
+                                    self.at += 4;
+                                }
+                            }
                         }
                         _ => {
                             self.at -= 2;

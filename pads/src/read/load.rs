@@ -3,7 +3,7 @@
 use crate::ask::archive::refusal_told;
 use crate::ask::model::Model;
 use crate::read::hub::{Design, Lines};
-use crate::read::names::LineKind;
+use crate::read::names::{self, LineKind};
 use crate::read::{bench, blif, blocks, liberty, native, structural, verilog, yosys};
 use crate::rows::types::Types;
 use crate::rows::writer::{self, Texts};
@@ -39,7 +39,8 @@ pub fn load(source: &Source, messages: &mut Messages) -> Result<Loaded, Stop> {
     if messages.errors() > 0 {
         return Err(Stop::Refused);
     }
-    let texts = writer::write(&mut design, messages)?;
+    let mut texts = writer::write(&mut design, messages)?;
+    names::shorten(&mut texts.names, &texts.net);
     let file = source.path.rsplit('/').next().unwrap_or("");
     let stem = file.rsplit_once('.').map_or(file, |(stem, _)| stem);
     let title = if design.name.is_empty() { stem.to_string() } else { design.name.clone() };

@@ -14,7 +14,7 @@ pub struct Takes {
 
 /// Options of every source.
 const SOURCE_VALUES: [&str; 4] = ["-l", "--top", "--clock", "--format"];
-const SOURCE_FLAGS: [&str; 1] = ["--open"];
+const SOURCE_FLAGS: [&str; 2] = ["--open", "--json"];
 
 #[derive(Debug, Default)]
 pub struct Args {

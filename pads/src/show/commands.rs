@@ -1,6 +1,6 @@
 //! The commands: each answers what it prints and its exit status.
 
-use crate::ask::archive::{self, refusal_told, Numbers, MOST_CELLS, MOST_LINES, MOST_PINS, MOST_ROWS};
+use crate::ask::archive::{self, refusal_told, MOST_LINES};
 use crate::ask::model::{Model, Number};
 use crate::ask::pads::{self, Effect, Measure, Privacy, Round, Touching};
 use crate::ask::ranking::{self, Key};
@@ -10,9 +10,10 @@ use crate::read::load::{self, Loaded};
 use crate::read::names::{self, cut, LineKind};
 use crate::show::args::{Args, Takes};
 use crate::show::cost::{grouped, Cost};
-use crate::show::messages::Messages;
+use crate::show::json::Json;
+use crate::show::messages::{printable, shown_name, Messages};
 use crate::show::text::{self, Stop};
-use crate::show::{help, page};
+use crate::show::{forms, help, page};
 use std::collections::HashMap;
 use std::fmt::Write;
 use std::path::Path;
@@ -23,21 +24,54 @@ pub struct Done {
     pub status: u8,
     /// A file of the command line is standard output, and has it for itself.
     pub aside: bool,
+    /// The members of what `--json` prints instead.
+    own: Option<Vec<(&'static str, Json)>>,
 }
 
 impl Done {
     fn well(text: String) -> Result<Done, Stop> {
-        Ok(Done { text, status: 0, aside: false })
+        Ok(Done { text, status: 0, aside: false, own: None })
+    }
+
+    /// The same as JSON, where it is asked for.
+    fn or(self, args: &Args, own: impl FnOnce() -> Result<Vec<(&'static str, Json)>, Stop>) -> Result<Done, Stop> {
+        if !args.has("--json") {
+            return Ok(self);
+        }
+        Ok(Done { own: Some(own()?), ..self })
     }
 
     /// What is said of a file that was written.
     fn beside(file: Option<&str>, text: String) -> Result<Done, Stop> {
-        Ok(Done { text, status: 0, aside: file.is_some_and(text::is_standard_output) })
+        Ok(Done { text, status: 0, aside: file.is_some_and(text::is_standard_output), own: None })
     }
+}
+
+/// Whether the command line asks for JSON.
+fn wants_json(given: &[String]) -> bool {
+    given.iter().take_while(|word| *word != "--").any(|word| word == "--json")
 }
 
 /// Runs the command line; messages are told by the caller.
 pub fn run(given: &[String], messages: &mut Messages) -> Result<Done, Stop> {
+    let mut done = answer(given, messages)?;
+    if let Some(own) = done.own.take() {
+        done.text = forms::whole(&given[0], done.status, messages, own);
+    }
+    Ok(done)
+}
+
+/// What is printed of a command that stopped, where it is asked for JSON.
+pub fn stopped(given: &[String], stop: &Stop, messages: &Messages) -> Option<String> {
+    let (status, words) = match stop {
+        Stop::Refused => (1, None),
+        Stop::Usage(words) => (2, Some(printable(words))),
+    };
+    let command = given.first().map_or("", String::as_str);
+    wants_json(given).then(|| forms::whole(command, status, messages, vec![("error", words.into())]))
+}
+
+fn answer(given: &[String], messages: &mut Messages) -> Result<Done, Stop> {
     let Some((command, rest)) = given.split_first() else {
         return Err(Stop::Usage(format!("a command is missing\n{}", help::GENERAL)));
     };
@@ -56,7 +90,15 @@ pub fn run(given: &[String], messages: &mut Messages) -> Result<Done, Stop> {
         return Done::well(help.to_string());
     }
     let many = usize::MAX;
-    let parse = |values, flags, words| Args::parse(rest, &Takes { values, flags, words });
+    let parse = |values, flags, words| -> Result<Args, Stop> {
+        let args = Args::parse(rest, &Takes { values, flags, words })?;
+        match ["--csv", "-o"].into_iter().find(|name| args.value(name).is_some_and(text::is_standard_output)) {
+            Some(name) if args.has("--json") => {
+                Err(Stop::Usage(format!("--json and {name} both want standard output")))
+            }
+            _ => Ok(args),
+        }
+    };
     match command.as_str() {
         "import" => import(&parse(&["-o"], &[], (0, 0))?, messages),
         "check" => check(&parse(&[], &[], (0, 0))?, messages),
@@ -93,30 +135,28 @@ fn import(args: &Args, messages: &mut Messages) -> Result<Done, Stop> {
     text::write(&file("lib.txt"), lib)?;
     text::write(&file("net.txt"), net)?;
     text::write(&file("names.csv"), names::write(names).as_bytes())?;
-    Done::well(format!(
+    let done = Done::well(format!(
         "{}\nwritten: lib.txt, net.txt and names.csv in {}\n",
         load::summary(&args.source.path, &model),
         folder.display()
-    ))
+    ))?;
+    done.or(args, || {
+        let written = ["lib.txt", "net.txt", "names.csv"].map(|name| shown_name(&file(name))).to_vec();
+        Ok(vec![forms::design(&args.source.path, &model), ("written", written.into())])
+    })
 }
 
 fn check(args: &Args, messages: &mut Messages) -> Result<Done, Stop> {
     let Loaded { model, texts } = load::load(&args.source, messages)?;
     let mut text = load::summary(&args.source.path, &model) + "\n";
-    let most_pins = model.cells.iter().map(|cell| cell.pins).max().unwrap_or(0);
-    let groups = model.cells.iter().flat_map(|cell| cell.control.iter().chain(&cell.observe).flatten());
-    let most_rows = groups.map(Vec::len).max().unwrap_or(0);
-    let analyser = model.analyser();
-    let _ = writeln!(text, "analyser: of {} lines (linked: {})", grouped(analyser.lines as u64), archive::sizes_told());
+    let _ = writeln!(
+        text,
+        "analyser: of {} lines (linked: {})",
+        grouped(model.analyser().lines as u64),
+        archive::sizes_told()
+    );
     text += "limits used:\n";
-    for (used, most, what) in [
-        (model.names.len(), analyser.lines, "lines"),
-        (model.cells.len(), MOST_CELLS, "cells"),
-        (most_pins, MOST_PINS, "pins of a cell"),
-        (most_rows, MOST_ROWS, "rows of a group"),
-        (model.lib.len(), analyser.bytes, "bytes of lib.txt"),
-        (model.net.len(), analyser.bytes, "bytes of net.txt"),
-    ] {
+    for (used, most, what) in forms::limits(&model) {
         let _ = writeln!(text, "  {:>6} of {:>6} {what}", grouped(used as u64), grouped(most as u64));
     }
     if let Some(told) = texts.as_ref().and_then(|texts| texts.fewer.told()) {
@@ -130,7 +170,7 @@ fn check(args: &Args, messages: &mut Messages) -> Result<Done, Stop> {
             format!("  {:<8} {}, {}  {types}", cell.name, load::many(cell.pins, "pin"), load::many(gates, "gate"));
         let _ = writeln!(text, "{}", line.trim_end());
     }
-    Done::well(text)
+    Done::well(text)?.or(args, || Ok(forms::check(&args.source.path, &model, texts.as_ref())))
 }
 
 fn gain_told(effect: Option<&Effect>) -> String {
@@ -174,6 +214,7 @@ fn table(rows: &[Vec<String>], left: &[usize]) -> String {
 }
 
 const NAME_WIDTH: usize = 44;
+const FED_WIDTH: usize = 28;
 
 fn report(args: &Args, messages: &mut Messages) -> Result<Done, Stop> {
     let key = match args.value("--by") {
@@ -203,12 +244,7 @@ fn report(args: &Args, messages: &mut Messages) -> Result<Done, Stop> {
         enough && (!args.has("--registers") || model.name(*line).kind == LineKind::Register)
     };
     let lines: Vec<usize> = ranked.iter().copied().filter(wanted).collect();
-    let head = ["hardest", "net", "kind", "CC0", "CC1", "SC0", "SC1", "CO", "SO", "pad gain", "feeds"];
-    let mut rows = vec![head.map(str::to_string).to_vec()];
-    for &line in lines.iter().take(worst) {
-        rows.push(row_of(&model, line, effects.get(&line)));
-    }
-    text += &table(&rows, &[1, 2, 10]);
+    text += &nets_told(&model, &lines[..worst.min(lines.len())], &effects);
     if lines.len() > worst {
         let _ =
             writeln!(text, "… {} more; --worst N shows more, --csv FILE all", grouped((lines.len() - worst) as u64));
@@ -216,12 +252,12 @@ fn report(args: &Args, messages: &mut Messages) -> Result<Done, Stop> {
     text += &best_told(&model, &effects, &privacy);
     let broken = bound.map(|bound| above(&model, bound));
     let mut status = 0;
-    if let (Some(lines), Some(bound)) = (broken, bound) {
+    if let (Some(lines), Some(bound)) = (&broken, bound) {
         if lines.is_empty() {
             let _ = writeln!(text, "no net is above {}", grouped(bound as u64));
         } else {
             status = 3;
-            let told: Vec<String> = lines.iter().take(3).map(|&line| cut(model.net_name(line), NAME_WIDTH)).collect();
+            let told = cut_names(&model, &lines[..lines.len().min(3)], NAME_WIDTH);
             let _ = writeln!(
                 text,
                 "{} above {}: {}{}",
@@ -232,22 +268,60 @@ fn report(args: &Args, messages: &mut Messages) -> Result<Done, Stop> {
             );
         }
     }
-    Ok(Done { status, ..Done::beside(args.value("--csv"), text)? })
+    let done = Done { status, ..Done::beside(args.value("--csv"), text)? };
+    done.or(args, || {
+        let shown = &lines[..worst.min(lines.len())];
+        let net = |&line: &usize| forms::net(&model, line, effects.get(&line), &privacy);
+        let before = pads::measure(&model, &model.numbers);
+        let all: Vec<Effect> = effects.values().cloned().collect();
+        let best = pads::best(before, &all, &privacy);
+        let above = broken
+            .zip(bound)
+            .map(|(lines, bound)| Json::Object(vec![("bound", bound.into()), ("nets", forms::names(&model, &lines))]));
+        Ok(vec![
+            forms::design(&args.source.path, &model),
+            ("by", args.value("--by").unwrap_or("fault").into()),
+            ("nets", Json::List(shown.iter().map(net).collect())),
+            ("more", (lines.len() - shown.len()).into()),
+            ("nevers", forms::nevers(&model)),
+            ("measure", forms::measure(before)),
+            ("best", best.map(|best| Json::Object(forms::pad(&model, best, &privacy))).into()),
+            ("above", above.into()),
+        ])
+    })
 }
 
-fn row_of(model: &Model, line: usize, effect: Option<&Effect>) -> Vec<String> {
-    let six = model.numbers.of(line);
-    let name = model.name(line);
-    let mut row = vec![ranking::hardest(six).to_string(), cut(&name.net, NAME_WIDTH), kind_told(name.kind).to_string()];
-    row.extend(six.iter().map(Cost::to_string));
-    row.push(gain_told(effect));
-    row.push(match name.kind {
-        LineKind::Gate if !model.is_output[line] => {
-            model.feeds(line).map_or(String::new(), |fed| cut(model.net_name(fed), 28))
-        }
-        _ => String::new(),
-    });
-    row
+/// The table of a report. What is shown of names is parted: no two rows read alike.
+fn nets_told(model: &Model, lines: &[usize], effects: &HashMap<usize, Effect>) -> String {
+    let head =
+        ["hardest", "line", "net", "kind", "CC0", "CC1", "SC0", "SC1", "CO", "SO", "pad gain", "feeds", "source"];
+    let mut rows = vec![head.map(str::to_string).to_vec()];
+    let fed = |&line: &usize| {
+        let asked = model.name(line).kind == LineKind::Gate && !model.is_output[line];
+        asked.then(|| model.feeds(line)).flatten()
+    };
+    let fed: Vec<Option<usize>> = lines.iter().map(fed).collect();
+    let mut fed_names = cut_names(model, &fed.iter().flatten().copied().collect::<Vec<_>>(), FED_WIDTH).into_iter();
+    for ((&line, name), fed) in lines.iter().zip(cut_names(model, lines, NAME_WIDTH)).zip(fed) {
+        let six = model.numbers.of(line);
+        let mut row = vec![ranking::hardest(six).to_string(), line.to_string(), name];
+        row.push(kind_told(model.name(line).kind).to_string());
+        row.extend(six.iter().map(Cost::to_string));
+        row.push(gain_told(effects.get(&line)));
+        row.push(fed.and_then(|_| fed_names.next()).unwrap_or_default());
+        row.push(cut(names::place_told(&model.name(line).source), FED_WIDTH));
+        rows.push(row);
+    }
+    if rows[1..].iter().all(|row| row[12].is_empty()) {
+        rows.iter_mut().for_each(|row| row.truncate(12));
+    }
+    table(&rows, &[2, 3, 11, 12])
+}
+
+/// The names of lines, cut so that no two read alike.
+fn cut_names(model: &Model, lines: &[usize], most: usize) -> Vec<String> {
+    let names: Vec<(usize, &str)> = lines.iter().map(|&line| (line, model.net_name(line))).collect();
+    names::cut_all(&names, most)
 }
 
 /// A design of which no number can be above a bound is no design that passed: it is refused.
@@ -283,12 +357,18 @@ fn best_told(model: &Model, effects: &HashMap<usize, Effect>, privacy: &Privacy)
         None => "best pad: none that is allowed makes a net easier to see\n".to_string(),
         Some(best) => {
             let mut text = format!("best pad: {}  {}\n", model.net_name(best.line), change_told(before, best.after));
+            text += &long_told(model, best.line, "          ");
             for told in privacy.told(model, best.line) {
                 let _ = writeln!(text, "          {told}");
             }
             text
         }
     }
+}
+
+/// What the netlist itself calls a net whose name was made: the one that a layout knows.
+fn long_told(model: &Model, line: usize, indent: &str) -> String {
+    model.name(line).long().map_or(String::new(), |long| format!("{indent}in the netlist: {long}\n"))
 }
 
 /// `largest CO 7,631 -> 3,374, sum 270,960 -> 117,508`.
@@ -321,6 +401,7 @@ fn csv_of(model: &Model, ranked: &[usize], effects: &HashMap<usize, Effect>, pri
         "aliases",
         "protected",
         "upstream",
+        "source",
     ];
     let mut text = csv::record(&head);
     let rest = model.lines().filter(|&line| !model.is_ranked(line));
@@ -336,6 +417,7 @@ fn csv_of(model: &Model, ranked: &[usize], effects: &HashMap<usize, Effect>, pri
         fields.push(name.aliases.join(" "));
         fields.push(protected_told(privacy, line).to_string());
         fields.push(privacy.upstream_told(model, line).unwrap_or_default());
+        fields.push(name.source.clone());
         let fields: Vec<&str> = fields.iter().map(String::as_str).collect();
         text += &csv::record(&fields);
     }
@@ -400,10 +482,11 @@ fn reason(args: &Args, messages: &mut Messages) -> Result<Done, Stop> {
     let line = one_net(&model, &args.words[0])?;
     let six = model.numbers.of(line);
     let number = number.unwrap_or_else(|| ranking::dearer(six));
+    let name = model.name(line);
     let mut text = format!(
         "{} (line {line}, {}): CC0 {}, CC1 {}, SC0 {}, SC1 {}, CO {}, SO {}; {}:\n",
-        model.net_name(line),
-        model.name(line).kind.word(),
+        name.net,
+        name.kind.word(),
         six[0],
         six[1],
         six[2],
@@ -412,9 +495,25 @@ fn reason(args: &Args, messages: &mut Messages) -> Result<Done, Stop> {
         six[5],
         number.word().to_ascii_uppercase()
     );
+    if !name.aliases.is_empty() {
+        let _ = writeln!(text, "also {}", name.aliases.join(", "));
+    }
+    if !name.source.is_empty() {
+        let _ = writeln!(text, "at {}", name.source.replace('|', ", "));
+    }
     text += low_told(&model);
     text += &why::text(&model, line, number, steps).map_err(Stop::Usage)?;
-    Done::well(text)
+    Done::well(text)?.or(args, || {
+        let mut reasons = why::Reasons::new(&model, number.sequential());
+        let steps = why::steps(&mut reasons, why::Node::of(number, line), steps).map_err(Stop::Usage)?;
+        let steps = steps.iter().map(|step| forms::step(&model, &reasons, step)).collect();
+        Ok(vec![
+            forms::design(&args.source.path, &model),
+            ("net", forms::net(&model, line, None, &Privacy::default())),
+            ("of", number.word().into()),
+            ("steps", Json::List(steps)),
+        ])
+    })
 }
 
 /// The lines that a file of patterns means.
@@ -450,20 +549,27 @@ fn pad(args: &Args, messages: &mut Messages) -> Result<Done, Stop> {
     lines.dedup();
     let privacy = privacy_of(args, &model, messages)?;
     let (outputs, lines): (Vec<usize>, Vec<usize>) = lines.into_iter().partition(|&line| model.is_output[line]);
-    for line in outputs {
+    for &line in &outputs {
         messages.note(format!("{} is an output already", model.net_name(line)));
     }
     messages.print();
     let after = pads::placed(&model, &lines).map_err(Stop::Usage)?.numbers;
     let measures = [pads::measure(&model, &model.numbers), pads::measure(&model, &after)];
     let told: Vec<&str> = lines.iter().map(|&line| model.net_name(line)).collect();
-    let mut text = format!(
-        "pads on {}: {}\n",
+    // Of several nets also what each alone would do.
+    let alone = pads::effects(&model, &lines, &privacy).map_err(Stop::Usage)?;
+    let mut text = if alone.len() > 1 { alone_told(&model, &alone, &privacy) } else { String::new() };
+    let _ = writeln!(
+        text,
+        "pads on {}: {}",
         if told.is_empty() { "nothing".to_string() } else { told.join(", ") },
         change_told(measures[0], measures[1])
     );
     text += low_told(&model);
     for &line in &lines {
+        if let Some(long) = model.name(line).long() {
+            let _ = writeln!(text, "{}: in the netlist {long}", model.net_name(line));
+        }
         for told in privacy.told(&model, line) {
             let _ = writeln!(text, "{}: {told}", model.net_name(line));
         }
@@ -476,11 +582,12 @@ fn pad(args: &Args, messages: &mut Messages) -> Result<Done, Stop> {
     let fall = |line: usize| pads::fall(model.numbers.of(line)[4], after.of(line)[4]);
     changed.sort_by_key(|&line| (std::cmp::Reverse(fall(line)), line));
     let _ = writeln!(text, "{} easier to see; CC and SC stay as they are", load::many(changed.len(), "net"));
-    let mut rows = vec![["net", "kind", "CO", "", "SO", "", ""].map(str::to_string).to_vec()];
-    for &line in &changed {
+    let mut rows = vec![["line", "net", "kind", "CO", "", "SO", "", ""].map(str::to_string).to_vec()];
+    for (&line, name) in changed.iter().zip(cut_names(&model, &changed, NAME_WIDTH)) {
         let (was, is) = (model.numbers.of(line), after.of(line));
         rows.push(vec![
-            cut(model.net_name(line), NAME_WIDTH),
+            line.to_string(),
+            name,
             kind_told(model.name(line).kind).to_string(),
             was[4].to_string(),
             format!("-> {}", is[4]),
@@ -490,23 +597,71 @@ fn pad(args: &Args, messages: &mut Messages) -> Result<Done, Stop> {
         ]);
     }
     if !changed.is_empty() {
-        text += &table(&rows, &[0, 1, 3, 5, 6]);
+        text += &table(&rows, &[1, 2, 4, 6, 7]);
     }
-    text += &touched_told(&model, &privacy, &lines, &changed, &after)?;
-    Done::well(text)
+    let touching = Touching::new(&model, &privacy).map_err(Stop::Usage)?;
+    let touched = touching.by(&model, &lines, &after).map_err(Stop::Usage)?;
+    text += &touched_told(&model, &touched, &changed);
+    Done::well(text)?.or(args, || {
+        let easier = changed.iter().map(|&line| {
+            let (was, is) = (model.numbers.of(line), after.of(line));
+            Json::Object(vec![
+                ("net", model.net_name(line).into()),
+                ("line", line.into()),
+                ("kind", model.name(line).kind.word().into()),
+                ("co", vec![was[4], is[4]].into()),
+                ("so", vec![was[5], is[5]].into()),
+                ("protected", privacy.protected.contains(&line).into()),
+                ("carries", privacy.carries(line).into()),
+            ])
+        });
+        Ok(vec![
+            forms::design(&args.source.path, &model),
+            ("pads", forms::names(&model, &lines)),
+            ("outputs_already", forms::names(&model, &outputs)),
+            ("before", forms::measure(measures[0])),
+            ("after", forms::measure(measures[1])),
+            ("easier", Json::List(easier.collect())),
+            ("touches", forms::names(&model, &touched)),
+            ("alone", Json::List(alone.iter().map(|pad| Json::Object(forms::pad(&model, pad, &privacy))).collect())),
+        ])
+    })
 }
 
-/// The protected nets that pads touch.
-fn touched_told(
-    model: &Model,
-    privacy: &Privacy,
-    pads: &[usize],
-    changed: &[usize],
-    after: &Numbers,
-) -> Result<String, Stop> {
-    let touching = Touching::new(model, privacy).map_err(Stop::Usage)?;
-    let touched = touching.by(model, pads, after).map_err(Stop::Usage)?;
-    let (shown, within): (Vec<usize>, Vec<usize>) = touched.into_iter().partition(|line| changed.contains(line));
+/// What each of these pads alone would do, the largest gain first.
+fn alone_told(model: &Model, pads: &[Effect], privacy: &Privacy) -> String {
+    let mut pads: Vec<&Effect> = pads.iter().collect();
+    pads.sort_by_key(|pad| (std::cmp::Reverse(pad.rank()), pad.line));
+    let lines: Vec<usize> = pads.iter().map(|pad| pad.line).collect();
+    let head = ["line", "net", "kind", "pad gain", "never seen", "over", "largest CO", "sum", "easier", ""];
+    let mut rows = vec![head.map(str::to_string).to_vec()];
+    for (pad, name) in pads.iter().zip(cut_names(model, &lines, NAME_WIDTH)) {
+        let mut told = Vec::new();
+        if !pad.touched.is_empty() {
+            told.push(format!("touches {}", load::many(pad.touched.len(), "protected net")));
+        }
+        if privacy.ruled_out(pad.line) {
+            told.push("ruled out".to_string());
+        }
+        rows.push(vec![
+            pad.line.to_string(),
+            name,
+            kind_told(model.name(pad.line).kind).to_string(),
+            gain_told(Some(pad)),
+            grouped(pad.after.never as u64),
+            grouped(pad.after.over as u64),
+            grouped(u64::from(pad.after.largest)),
+            grouped(pad.after.sum),
+            grouped(pad.easier.len() as u64),
+            told.join(", "),
+        ]);
+    }
+    format!("each alone:\n{}", table(&rows, &[1, 2, 9]))
+}
+
+/// The protected nets that pads touch; those that change by the numbers shown, and others.
+fn touched_told(model: &Model, touched: &[usize], changed: &[usize]) -> String {
+    let (shown, within): (Vec<usize>, Vec<usize>) = touched.iter().partition(|line| changed.contains(line));
     let mut text = String::new();
     if !shown.is_empty() {
         let _ = writeln!(text, "{} easier to see", load::many(shown.len(), "protected net"));
@@ -516,7 +671,7 @@ fn touched_told(
         let what = load::many(within.len(), "protected net");
         let _ = writeln!(text, "{what} perhaps easier to see at other prices within the ranges: {}", names.join(", "));
     }
-    Ok(text)
+    text
 }
 
 fn advise(args: &Args, messages: &mut Messages) -> Result<Done, Stop> {
@@ -547,11 +702,31 @@ fn advise(args: &Args, messages: &mut Messages) -> Result<Done, Stop> {
         };
     }
     text += &trouble_told(&model);
-    Done::beside(args.value("--csv"), text)
+    Done::beside(args.value("--csv"), text)?.or(args, || {
+        let mut before = pads::measure(&model, &model.numbers);
+        let rounds = rounds.iter().map(|round| {
+            let told = forms::round(&model, before, round, &privacy);
+            before = round.pad.as_ref().map_or(before, |pad| pad.after);
+            told
+        });
+        let rounds = Json::List(rounds.collect());
+        let trouble = trouble(&model).map(|(line, number)| {
+            let cost = number.of(model.numbers.of(line));
+            let net = model.net_name(line).into();
+            Json::Object(vec![
+                ("net", net),
+                ("line", line.into()),
+                ("number", number.word().into()),
+                ("cost", cost.into()),
+            ])
+        });
+        Ok(vec![forms::design(&args.source.path, &model), ("rounds", rounds), ("trouble", trouble.into())])
+    })
 }
 
 fn pad_told(model: &Model, at: usize, before: Measure, pad: &Effect, round: &Round, privacy: &Privacy) -> String {
     let mut text = format!("pad {at}: {}  {}\n", model.net_name(pad.line), change_told(before, pad.after));
+    text += &long_told(model, pad.line, "       ");
     let easier = load::many(pad.easier.len(), "net");
     let _ =
         writeln!(text, "       {easier} easier to see; chosen among {} of {} lines", round.allowed, round.candidates);
@@ -577,30 +752,32 @@ fn page_of(args: &Args, messages: &mut Messages) -> Result<Done, Stop> {
     let page = page::page(&args.source.path, &model, &placed, &privacy, &said).map_err(Stop::Usage)?;
     text::write(file, page.as_bytes())?;
     let summary = load::summary(&args.source.path, &model);
-    Done::beside(Some(file), format!("{summary}\nwritten: {file}, {} KB\n", page.len() / 1000))
+    Done::beside(Some(file), format!("{summary}\nwritten: {file}, {} KB\n", page.len() / 1000))?
+        .or(args, || Ok(vec![forms::design(&args.source.path, &model), ("written", vec![shown_name(file)].into())]))
+}
+
+/// The hardest net, where setting is its trouble.
+fn trouble(model: &Model) -> Option<(usize, Number)> {
+    let line = *ranking::ranked(model, Key::Fault, &HashMap::new()).first()?;
+    let number = ranking::dearer(model.numbers.of(line));
+    (number != Number::Co).then_some((line, number))
 }
 
 /// A pad does not help where setting is the trouble.
 fn trouble_told(model: &Model) -> String {
-    let ranked = ranking::ranked(model, Key::Fault, &HashMap::new());
-    let Some(&line) = ranked.first() else { return String::new() };
-    let six = model.numbers.of(line);
-    let number = ranking::dearer(six);
-    if number == Number::Co {
-        return String::new();
-    }
+    let Some((line, number)) = trouble(model) else { return String::new() };
     format!(
         "a pad changes CO and SO alone: the hardest net, {}, is hard to set ({} {}), and no pad helps there; a way to load \
          it does\n",
         model.net_name(line),
         number.word().to_ascii_uppercase(),
-        number.of(six)
+        number.of(model.numbers.of(line))
     )
 }
 
 fn candidates_csv(model: &Model, effects: &[Effect], privacy: &Privacy) -> String {
     let mut text =
-        csv::record(&["net", "instance", "gain", "largest_co", "easier", "protected", "allowed", "upstream"]);
+        csv::record(&["net", "instance", "gain", "largest_co", "easier", "protected", "allowed", "upstream", "line"]);
     let mut effects: Vec<&Effect> = effects.iter().collect();
     effects.sort_by_key(|effect| (effect.after, effect.line));
     for effect in effects {
@@ -622,6 +799,7 @@ fn candidates_csv(model: &Model, effects: &[Effect], privacy: &Privacy) -> Strin
             &names(&effect.touched),
             if privacy.allows(effect) { "1" } else { "0" },
             &privacy.upstream_told(model, effect.line).unwrap_or_default(),
+            &effect.line.to_string(),
         ]);
     }
     text

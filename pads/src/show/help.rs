@@ -21,7 +21,9 @@ there, names.csv. Options of a netlist:
     --clock NAME    the input that clocks registers whose format has no clock
     --open          nets without a driver become open lines
     --format WORD   json, blif, bench or v, whatever the file's ending
-NET is a name, an alias, line:N, or a pattern with * where several nets are meant.
+Every command takes --json: the same answer as JSON on standard output, refusals too (docs/JSON.md).
+NET is a name, an alias, line:N, or a pattern with * where several nets are meant. A net that the designer did not name is
+called by what it feeds: rx[2].d~3 is the third of such nets before pin D of rx[2]; its own name is an alias.
 
 Every number comes from the proved analyser; sums, orders and counts are this program's own.
 Exit status: 0 done; 1 the input is refused; 2 usage, or a file can't be read or written; 3 --fail-above is broken.
@@ -51,7 +53,7 @@ The nets in order: never, over, then the hardest fault, the larger of CC1 + CO a
     --min N           only nets whose hardest fault is at least N
     --registers       only registers
     --csv FILE        every line of the netlist:
-                      net,line,kind,cc0,cc1,sc0,sc1,co,so,hardest,gain,aliases,protected,upstream
+                      net,line,kind,cc0,cc1,sc0,sc1,co,so,hardest,gain,aliases,protected,upstream,source
     --fail-above N    exit status 3 where a net that is read has CO or hardest fault above N, over or never
     --protect FILE    mark these nets, what carries their values, and how far upstream of them the others are; with
                       --protect-depth N and --inputs-too as 'advise' has them
@@ -71,7 +73,8 @@ term, N steps in all (4 if not said).
 pub const PAD: &str = "\
 scoap_pads pad SOURCE NET.. [--protect FILE] [--protect-depth N]
 
-Numbers before and after, if these nets get pads together: which nets become easier to see, and by how much. With
+Numbers before and after, if these nets get pads together: which nets become easier to see, and by how much. Of several
+nets, as of a pattern 'rx*', a table before it says what each alone would do. With
 --protect it says which of them are protected, which pads carry a protected value, how far upstream the others are, and
 which of them 'advise' would rule out, by --protect-depth N as it has it.
 A pad is an output: it changes CO and SO alone.
@@ -89,7 +92,7 @@ smallest largest CO, then the smallest sum of CO; the lowest line among equals.
                       not said), 2 and more so many less one real gates or registers further
     --inputs-too      inputs may get a pad; else nets that a gate drives and something reads, and registers
     --csv FILE        every candidate for the first pad: net, instance, gain, largest CO after, nets that become
-                      easier to see, protected ones that it touches, whether it is allowed, how far upstream it is
+                      easier to see, protected ones that it touches, whether it is allowed, how far upstream it is, line
 A FILE of nets has one net or pattern a line; # starts a comment. With ranges a pad touches a protected net where the
 net's CO at HIGH without it is above that at LOW with this pad alone. Below each pad stands the answer of the proved
 adviser, scoap_advise, beside the pads before it and among the lines that are left: by the largest CO alone.

@@ -7,9 +7,41 @@ const MOST_TOLD: usize = 50;
 /// Bytes shown of a bad line.
 const MOST_SHOWN: usize = 120;
 
+/// One thing that was said.
+#[derive(Clone, Debug, PartialEq, Eq)]
+pub struct Said {
+    /// `error`, `warning` or `note`.
+    pub kind: &'static str,
+    /// The file of an error.
+    pub file: String,
+    /// Its line in that file, 0 where it is of the whole.
+    pub line: usize,
+    pub words: String,
+    /// The text of that line, cut.
+    pub shown: String,
+}
+
+impl Said {
+    fn text(&self) -> String {
+        let Said { kind, file, line, words, shown } = self;
+        let mut text = match (file.as_str(), line) {
+            ("", _) => format!("{kind}: {words}"),
+            (_, 0) => format!("{file}: {kind}: {words}"),
+            _ => format!("{file}:{line}: {kind}: {words}"),
+        };
+        if !shown.is_empty() {
+            text.push_str("\n    ");
+            text.push_str(shown);
+        }
+        printable(&text)
+    }
+}
+
 #[derive(Default)]
 pub struct Messages {
-    told: Vec<String>,
+    told: Vec<Said>,
+    /// How many of them are printed.
+    printed: usize,
     errors: usize,
     others: usize,
 }
@@ -35,46 +67,44 @@ impl Messages {
 
     /// `FILE: error: words`.
     pub fn error(&mut self, file: &str, words: impl AsRef<str>) {
-        self.errors += 1;
-        if self.errors <= MOST_TOLD {
-            self.told.push(format!("{file}: error: {}", words.as_ref()));
-        }
+        self.error_at(file, 0, "", words);
     }
 
     /// `FILE:LINE: error: words`, then the text of that line.
     pub fn error_at(&mut self, file: &str, line: usize, text: &str, words: impl AsRef<str>) {
         self.errors += 1;
         if self.errors <= MOST_TOLD {
-            let shown = shown(text);
-            let mut told = format!("{file}:{line}: error: {}", words.as_ref());
-            if !shown.is_empty() {
-                told.push_str("\n    ");
-                told.push_str(&shown);
-            }
-            self.told.push(told);
+            let words = words.as_ref().to_string();
+            self.told.push(Said { kind: "error", file: file.to_string(), line, words, shown: shown(text) });
         }
     }
 
     pub fn warn(&mut self, words: impl AsRef<str>) {
-        self.other(format!("warning: {}", words.as_ref()));
+        self.other("warning", words.as_ref());
     }
 
     pub fn note(&mut self, words: impl AsRef<str>) {
-        self.other(format!("note: {}", words.as_ref()));
+        self.other("note", words.as_ref());
     }
 
-    fn other(&mut self, words: String) {
+    fn other(&mut self, kind: &'static str, words: &str) {
         self.others += 1;
         if self.others <= MOST_TOLD {
-            self.told.push(words);
+            let (file, shown) = (String::new(), String::new());
+            self.told.push(Said { kind, file, line: 0, words: words.to_string(), shown });
         }
     }
 
-    /// All that was said, as it is printed.
+    /// What was said, printed or not.
+    pub fn said(&self) -> &[Said] {
+        &self.told
+    }
+
+    /// What was said and is not printed yet, as it is printed.
     pub fn text(&self) -> String {
         let mut text = String::new();
-        for told in &self.told {
-            text.push_str(&printable(told));
+        for said in &self.told[self.printed..] {
+            text.push_str(&said.text());
             text.push('\n');
         }
         if self.errors > MOST_TOLD {
@@ -86,10 +116,10 @@ impl Messages {
         text
     }
 
-    /// Prints what was said and forgets it, but for the count of errors.
+    /// Prints what was said, each once.
     pub fn print(&mut self) {
         let _ = std::io::stderr().write_all(self.text().as_bytes());
-        self.told.clear();
+        self.printed = self.told.len();
         self.others = 0;
     }
 }
@@ -109,7 +139,7 @@ fn shown(text: &str) -> String {
 
 /// Whether a character acts on a terminal or a page and is not seen: control characters, marks of direction, what has no
 /// width.
-fn is_hidden(c: char) -> bool {
+pub fn is_hidden(c: char) -> bool {
     let marks = matches!(c, '\u{61c}' | '\u{200b}'..='\u{200f}' | '\u{2028}'..='\u{202e}' | '\u{2060}'..='\u{206f}');
     let unseen = matches!(c, '\u{ad}' | '\u{34f}' | '\u{180e}' | '\u{feff}' | '\u{fff9}'..='\u{fffb}');
     c.is_control() || marks || unseen || ('\u{e0000}'..='\u{e007f}').contains(&c)

@@ -3,7 +3,9 @@
 pub mod args;
 pub mod commands;
 pub mod cost;
+pub mod forms;
 pub mod help;
+pub mod json;
 pub mod messages;
 pub mod page;
 pub mod text;

@@ -4,4 +4,6 @@ mod common;
 mod fewer;
 mod figures;
 mod formats;
+mod json;
+mod names;
 mod reading;

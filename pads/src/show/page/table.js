@@ -38,10 +38,15 @@ function chosen() {
     return first ? turn * (first < 0 ? -1 : 1) : rank(b.h) - rank(a.h) || a.l - b.l;
   });
 }
-// A bus is what stands before a bit's number, a block what stands before the last dot. Each stands where its first net would.
+// A bus is what stands before a bit's number, a block what stands before the last dot; a name that was made, rx[2].d~3, is in
+// the block of what it feeds. Each stands where its first net would.
 const opened = new Set();
 const busOf = l => { const m = /^(.+)\[(\d+)\]$/.exec(l.n); return m ? m[1] + "[" : null; };
-const blockOf = l => { const at = l.n.lastIndexOf("."); return at > 0 ? l.n.slice(0, at + 1) : null; };
+const ends = new Set(data.lines.map(l => l.n));
+function blockOf(l) {
+  const base = l.n.replace(/~\d+$/, ""), own = base === l.n || ends.has(base) ? base : base.replace(/\.[^.]*$/, ""), at = own.lastIndexOf(".");
+  return at > 0 ? own.slice(0, at + 1) : null;
+}
 function folded(lines) {
   if (!state.fold) return lines.map(l => ({l}));
   const keyOf = state.fold === "buses" ? busOf : blockOf, groups = new Map(), items = [];
