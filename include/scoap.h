@@ -48,7 +48,7 @@ extern "C" {
  *   scoap_plan         504552   918680  1746920  3403432 14380936
  *   scoap_cell           5008     5008     5008     5008     5008
  *   scoap_built_in       6464     6464     6464     6464     6464
- *   scoap_qualifies    150876   210876   330876   570876  2056892
+ *   scoap_qualifies    158892   226892   362892   634892  2319044
  *   scoap_stand        217616   343744   596000  1100496  4945104
  *   scoap_ask          193536   295664   499920   908416  4158624
  *   scoap_commit       193456   295584   499840   908336  4158544
@@ -56,6 +56,8 @@ extern "C" {
  *   scoap_best         256944   422944   754944  1418944  5989008
  *   scoap_advise       240448   389792   688288  1285296  6423504
  *   scoap_rank         240416   389792   688288  1285280  6423504
+ * Of scoap_qualifies the figures above 1000 lines are not measured but computed: what was measured before the call had
+ * lists of 8 bytes a line, and these.
  */
 #define SCOAP_STACK 524288u
 

@@ -29,7 +29,7 @@ use Rattle.chip_loops.proofs.Steps.{level-same, level-size, passes-size
 -- ---- what is levelled stays so
 
 module _ (k : ℕ) where
-  level-keeps : (marks : List ℕ) (g : Gate) → marked marks k ≡ true → marked (level marks g) k ≡ true
+  pub level-keeps : (marks : List ℕ) (g : Gate) → marked marks k ≡ true → marked (level marks g) k ≡ true
   unfolding level pick
   level-keeps marks g t = by-test (ready marks g) (λ r. rw r (set-keeps marks (g .line) k t)) (λ r. rw r t)
 
@@ -53,7 +53,7 @@ level-levels marks g t h =
     (λ m. rw m m)
     (λ m. rw (m, t) (set-marked marks (g .line) h))
 
-pass-levels : (gs : List Gate) (marks : List ℕ) (g : Gate) → List·Memᴰ g gs → allMarked marks (g .pins) ≡ true
+pub pass-levels : (gs : List Gate) (marks : List ℕ) (g : Gate) → List·Memᴰ g gs → allMarked marks (g .pins) ≡ true
     → g .line < length marks → marked (pass gs marks) (g .line) ≡ true
 unfolding pass
 pass-levels (h ∷ gs) marks g (List·Memᴰ·head e) t room =

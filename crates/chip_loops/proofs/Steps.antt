@@ -5,16 +5,15 @@ use mathlib.Core.List.{List, [], _∷_, _++_, flatMap}
 use mathlib.Core.Path.{_≡_, refl, sym, ap, _∙_}
 use Prim.Native.Nat.{ℕ, zero, suc, _+_, _-_, _≤_, _<_}
 use native.Mathlib.Omega.{arith}
-use lib.Dec.{eqb}
+use lib.Dec.{eqb, ltb, leb}
 use lib.ListN.{length, set, length-set}
-use borrow.Author.Tests.{ne-eqb}
+use borrow.Author.Tests.{ne-eqb, ltb-true, leb-true}
+use Rattle.sizes.specs.Sizes as Size
 use Rattle.reading.specs.Choice.{pick}
-use Rattle.reading.proofs.Laws.{by-test, clash, or-left, or-right}
+use Rattle.reading.proofs.Laws.{by-test, clash, and-left, and-right, or-left, or-right}
 use Rattle.netlist_table.specs.Netlist.{Gate, linesWhere}
-use Rattle.netlist_table.specs.Gates.{gateLine, eachOf, present, pinLines, gateAt, gatesHeld}
-use Rattle.netlist_table.specs.Lines.{inputsHeld, mentionsHeld}
+use Rattle.netlist_table.specs.Gates.{gateLine, eachOf, present, pinLines, gateAt}
 use Rattle.netlist_table.proofs.HeldGates.{each-next}
-use Rattle.chip_loops.specs.Marks.{noMarks, mostPasses, levelledLines, withoutLoops}
 use Rattle.chip_loops.specs.Marks.{marked, allMarked, markEach, ready, level, pass, passes, Passed, onceEach, pinsOf, Noted}
 
 -- ---- what is left
@@ -76,6 +75,10 @@ module _ (marks : List ℕ) where
   unfolding allMarked present pick
   pins-next f n i h {line} {r} a e =
       steps (eqb line 0 || r) _ (rw (each-next f n i h, e, a) (by-test (eqb (f i) 0) (λ t. rw t) (λ t. rw t)))
+
+-- A pin that is not marked reads a line.
+pub pin-found : (none r : Bool) {whole : Bool} → not (none || r) ≡ true → whole ≡ false → none ≡ whole
+pin-found none r n e = by-test none (λ t. clash (not (none || r)) n (rw t)) (λ t. t ∙ sym e)
 
 -- ---- gates
 
@@ -152,11 +155,6 @@ module _ {gs : List Gate} {before after : List ℕ} {changed : Bool} (passed : P
   passes-next zero h = absurd (omega arith)
   passes-next (suc n) h = let e : suc n - 1 ≡ n = omega arith in rw (e, passed .leaves)
 
-pub all-levelled : (table : List ℕ) {first last : List ℕ} {r : Bool} → first ≡ markEach noMarks (inputsHeld table)
-    → last ≡ passes mostPasses (gatesHeld table) first → r ≡ allMarked last (mentionsHeld table) → r ≡ withoutLoops table
-unfolding withoutLoops levelledLines
-all-levelled table e f g = g ∙ rw (f, e)
-
 -- ---- lines that stand once
 
 module _ {before after : List ℕ} (line : ℕ) where
@@ -229,3 +227,15 @@ module _ (table : List ℕ) (n i : ℕ) (h : i < n) {before after : List ℕ} {o
 
   pub gates-stop : not once ≡ true → onceEach before (pinsOf (eachOf (gateAt table) (n - i) i)) ≡ false
   gates-stop t = rw split-gates (once-stops noted _ t)
+
+-- ---- gates that wait
+
+-- What the test of the walk from gate to gate says.
+pub one-more : (top left : ℕ) → ((ltb 0 top && leb top Size.gates) && ltb 0 left) ≡ true
+    → (0 < top) × (top ≤ Size.gates) × (0 < left)
+one-more top left t =
+    let both = and-left (ltb 0 top && leb top Size.gates) (ltb 0 left) t in (
+      ltb-true 0 top (and-left (ltb 0 top) (leb top Size.gates) both),
+      leb-true top Size.gates (and-right (ltb 0 top) (leb top Size.gates) both),
+      ltb-true 0 left (and-right (ltb 0 top && leb top Size.gates) (ltb 0 left) t),
+    )

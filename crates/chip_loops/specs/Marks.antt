@@ -2,7 +2,7 @@
 -- mark other than 0 is set.
 -- Assumes nothing.
 use mathlib.Core.Bool.{Bool, true, false, not, _&&_}
-use mathlib.Core.List.{List, [], _∷_, flatMap}
+use mathlib.Core.List.{List, [], _∷_, flatMap, List·Memᴰ}
 use mathlib.Core.Path.{_≡_}
 use Prim.Native.Nat.{ℕ, zero, suc, _+_}
 use lib.Dec.{eqb}
@@ -61,6 +61,11 @@ withoutLoops table = allMarked (levelledLines (inputsHeld table) (gatesHeld tabl
 pub record Passed (gs : List Gate) (before after : List ℕ) (changed : Bool) : Type 0 where
   pub leaves : after ≡ pass gs before
   pub same : changed ≡ false → after ≡ before
+
+-- What the marks come to where gates of the list are levelled, in any order and each as often as one likes.
+pub data Ahead (gs : List Gate) (before : List ℕ) : List ℕ → Type 0 where
+  none : Ahead gs before before
+  next : {marks : List ℕ} (g : Gate) → List·Memᴰ g gs → Ahead gs before marks → Ahead gs before (level marks g)
 
 -- ---- lines read twice
 

@@ -10,13 +10,14 @@ use netlist_table::lines::mentioned;
 ghost use mathlib.Core.List.{[], _∷_};
 ghost use mathlib.Core.Path.{_≡_};
 ghost use Prim.Native.Nat.{_≤_, _<_};
+ghost use lib.Dec.{eqb};
 ghost use lib.ListN.{set};
 ghost use Rattle.sizes.specs.Sizes as Size;
 ghost use Rattle.reading.specs.Choice.{pick};
 ghost use Rattle.netlist_table.specs.Gates.{present, pinLines, gateAt, gatesHeld};
 ghost use Rattle.netlist_table.specs.Lines.{inputAt, inputsHeld, mentionsHeld};
 ghost use Rattle.chip_loops.specs.Marks.{marked, allMarked, markEach, ready, level, passes, mostPasses};
-ghost use Rattle.chip_loops.specs.Marks.{withoutLoops, readOnce, Passed, Noted};
+ghost use Rattle.chip_loops.specs.Marks.{withoutLoops, readOnce, Ahead, Passed, Noted};
 
 fn is_marked(marks: &[u32], line: usize) -> bool
     ensures { λ r. ⌜ r ≡ marked (now (marks .entry)) line ⌝ }
@@ -48,21 +49,30 @@ fn mark_inputs(netlist: &[u32], marks: &mut [u32])
     }
 }
 
-fn pins_marked(netlist: &[u32], gate: usize, marks: &[u32]) -> bool
+// The line of a gate's first pin that is not levelled; 0 where each is.
+fn unlevelled_pin(netlist: &[u32], gate: usize, marks: &[u32]) -> usize
     requires { ⌜ gate < Size.gates ⌝ }
     ensures { λ r.
-        ⌜ r ≡ allMarked (now (marks .entry)) (pinLines (now (netlist .entry)) gate) ⌝ }
+        ⌜ eqb r 0 ≡ allMarked (now (marks .entry)) (pinLines (now (netlist .entry)) gate) ⌝ }
 {
     let mut pin = 1;
     while pin < sizes::GATE_LINES {
         let line = line_of(netlist, gate, pin);
         let levelled = (line == 0) | is_marked(marks, line);
         if !levelled {
-            return false;
+            return line;
         }
         pin += 1;
     }
-    true
+    0
+}
+
+fn pins_marked(netlist: &[u32], gate: usize, marks: &[u32]) -> bool
+    requires { ⌜ gate < Size.gates ⌝ }
+    ensures { λ r.
+        ⌜ r ≡ allMarked (now (marks .entry)) (pinLines (now (netlist .entry)) gate) ⌝ }
+{
+    unlevelled_pin(netlist, gate, marks) == 0
 }
 
 // Levels the line of a gate whose pins are levelled, and says whether it was not levelled before.
@@ -82,6 +92,103 @@ fn level_gate(netlist: &[u32], gate: usize, marks: &mut [u32]) -> bool
     table::put(marks, line, 1);
     true
 }
+
+// ---- gates that wait
+
+// So that the order of the gates costs nothing, a gate that is not ready waits for the line of one of its pins. `waiting` has
+// for each line the last gate that waits for it, `behind` for each gate the one before it; gates count from 1 in both, and 0 is
+// none. No proof rests on either: they say which gate to look at next, `level_gate` alone levels a line, and the passes behind
+// it level what is left out.
+
+// Levels the line of a gate, or has the gate wait for a line.
+fn level_or_wait(
+    netlist: &[u32],
+    gate: usize,
+    marks: &mut [u32],
+    waiting: &mut [u32],
+    behind: &mut [u32],
+) -> bool
+    ensures { λ _.
+        ⌜ Ahead (gatesHeld (now (netlist .entry))) (now (marks .entry)) (now (marks .exit)) ⌝ }
+{
+    if count(netlist) <= gate {
+        return false;
+    }
+    if level_gate(netlist, gate, marks) {
+        return true;
+    }
+    let line = unlevelled_pin(netlist, gate, marks);
+    table::put(behind, gate + 1, table::word(waiting, line));
+    table::put(waiting, line, (gate + 1) as u32);
+    false
+}
+
+// Looks at a gate that waits for the line of gate `top`, which was levelled. Answers whose line is next: that gate's where it
+// is levelled, and where none waits that of the gate behind `top`.
+fn wake_one(
+    netlist: &[u32],
+    top: usize,
+    marks: &mut [u32],
+    waiting: &mut [u32],
+    behind: &mut [u32],
+) -> usize
+    requires { ⌜ (0 < top) × (top ≤ Size.gates) ⌝ }
+    ensures { λ _.
+        ⌜ Ahead (gatesHeld (now (netlist .entry))) (now (marks .entry)) (now (marks .exit)) ⌝ }
+{
+    let line = line_of(netlist, top - 1, 0);
+    let next = table::word(waiting, line) as usize;
+    if next == 0 {
+        return table::word(behind, top) as usize;
+    }
+    table::put(waiting, line, table::word(behind, next));
+    if !level_or_wait(netlist, next - 1, marks, waiting, behind) {
+        return top;
+    }
+    table::put(behind, next, top as u32);
+    next
+}
+
+// Looks at a gate, and where it is levelled at those that wait for its line, and so on. A gate waits once for a pin at most, so
+// that in an accepted netlist none is left when the count ends.
+fn level_from(
+    netlist: &[u32],
+    gate: usize,
+    marks: &mut [u32],
+    waiting: &mut [u32],
+    behind: &mut [u32],
+)
+    requires { ⌜ gate < Size.gates ⌝ }
+    ensures { λ _.
+        ⌜ Ahead (gatesHeld (now (netlist .entry))) (now (marks .entry)) (now (marks .exit)) ⌝ }
+{
+    if !level_or_wait(netlist, gate, marks, waiting, behind) {
+        return;
+    }
+    let mut top = gate + 1;
+    let mut left = sizes::PIN_PLACES + sizes::GATES;
+    while (0 < top) & (top <= sizes::GATES) & (0 < left) {
+        top = wake_one(netlist, top, marks, waiting, behind);
+        left -= 1;
+    }
+}
+
+// One pass over the gates, in which each that is levelled wakes those that wait for it.
+fn level_ahead(netlist: &[u32], marks: &mut [u32])
+    ensures { λ _.
+        ⌜ Ahead (gatesHeld (now (netlist .entry))) (now (marks .entry)) (now (marks .exit)) ⌝ }
+{
+    let gates = count(netlist);
+    let mut waiting = [0u32; sizes::LINE_PLACES];
+    let mut behind = [0u32; sizes::LINE_PLACES];
+    let mut gate = 0;
+    while gate < gates {
+        level_from(netlist, gate, marks, &mut waiting, &mut behind);
+        gate += 1;
+    }
+}
+
+// ---- passes
 
 // Says whether some line is levelled that was not.
 fn pass_over(netlist: &[u32], marks: &mut [u32]) -> bool
@@ -134,6 +241,7 @@ pub fn without_loops(netlist: &[u32]) -> bool
 {
     let mut marks = [0u32; sizes::LINE_PLACES];
     mark_inputs(netlist, &mut marks);
+    level_ahead(netlist, &mut marks);
     level_lines(netlist, &mut marks);
     mentions_marked(netlist, &marks)
 }
