@@ -1,27 +1,23 @@
 -- From the parts of the two calls to their promises.
 -- Assumes nothing.
-use mathlib.Core.Bool.{Bool, true, false, true≢false}
+use mathlib.Core.Bool.{true, false}
 use mathlib.Core.List.{List, [], _∷_, _++_}
 use mathlib.Core.Path.{_≡_, refl, sym, _∙_, ap, subst}
 use Prim.Native.Nat.{ℕ, _+_, _*_, _-_, _≤_, _<_}
 use native.Mathlib.Omega.{arith}
-use borrow.Author.Tests.{lt-ltb, le-ltb, ltb-true, ltb-false}
-use lib.Dec.{ltb}
-use lib.ListN.{length, getD, set, drop, replicate}
+use lib.ListN.{length, getD, set, drop}
 use lib.Seq.{getD-set-same, getD-set-other}
 use Rattle.sizes.specs.Sizes as Size
 use Rattle.reading.specs.Choice.{pick}
 use Rattle.reading.specs.Numbers as No
 use Rattle.reading.specs.Refusal.{Read, refused, read, _>>=_, _>>_, weigh}
-use Rattle.reading.specs.Verdict.{verdictRead, doneRead}
+use Rattle.reading.specs.Verdict.{verdictRead}
 use Rattle.reading.specs.declared.Refusal.{Refusal}
 use Rattle.reading.specs.declared.Verdict.{Verdict}
 use Rattle.reading.specs.declared.Verdict.the-variants.{Accepted, Refused}
-use Rattle.reading.proofs.Bounds.{text-not-entry}
-use Rattle.reading.proofs.Laws.{by-test, clash, refused-read, same-refusal}
+use Rattle.reading.proofs.Laws.{clash, bind-read, then-read}
 use Rattle.cost.specs.Cost.{never}
 use Rattle.library_table.specs.Cells.{Cell}
-use Rattle.library_table.proofs.Laws.{library-sound}
 use Rattle.netlist_table.specs.Netlist.{Statement}
 use Rattle.netlist_table.specs.Sound.{InRange}
 use Rattle.netlist_table.proofs.Laws.{mentioned-in-range}
@@ -31,14 +27,15 @@ use Rattle.calculation.specs.Acceptance.{BothSound}
 use Rattle.calculation.specs.Stored.{Holds}
 use Rattle.calculation.specs.Advice.{allowed, allowedLines, leaves, advice, Rank, rankOf, rankWords, noRank, lineRank, ranks, Says, Best}
 use Rattle.calculation.proofs.AdvisedLine.{allowed-said, leaves-exact, advice-says, same-advice, same-ranks, none-pad}
-use Rattle.demands.specs.Outcome.{Given, Pair, entry, tableShort, readPair, conclude, reading, outcome}
+use Rattle.demands.specs.Call.{Call, comes, answered, left, Kept, answerEntry, answerCall}
+use Rattle.demands.specs.Outcome.{Given, Pair, entry, readPair, reading, outcome}
 use Rattle.demands.specs.Own.{ownTables}
-use Rattle.demands.proofs.Acceptance.{read-as}
+use Rattle.demands.proofs.Call.{at-entry, at-end, come-to, refused-where, was-read, entry-short, entry-texts, promises, promises-on, pair-read}
+use Rattle.demands.proofs.EntryChecks.{own-fit}
 use Rattle.demands.proofs.Given.{Checked}
-use Rattle.demands.proofs.Room.{pair-number}
-use Rattle.advice_calls.specs.Calls.{entered, comes, leftLater, leftFrom, adviceSize, advising, adviceInto, adviceLeft, ranking, ranksLeft}
+use Rattle.advice_calls.specs.Calls.{adviceSize, adviceInto, adviceCall, rankCall}
 use Rattle.advice_lines.specs.Parts.{Holding, AllRanked}
-use Rattle.advice_calls.specs.Texts.{TextsRead}
+use Rattle.advice_calls.specs.Texts.{textsCall, TextsRead}
 use Rattle.advice_calls.specs.Promise.{HandedOn, AdviceMeans, AdvicePromised, rankAt, RanksMean, RankPromised}
 use Rattle.advice_lines.proofs.Lines.{allowed-few}
 use Rattle.advice_lines.proofs.Ranks.{four, rank-at, rank-past}
@@ -46,170 +43,56 @@ use Rattle.advice_lines.proofs.Ranks.{four, rank-at, rank-past}
 pad-same : (k y l x : ℕ) → _≡_ {A = Read Advice} (read (Pad k y)) (read (Pad l x)) → (k ≡ l) × (y ≡ x)
 pad-same k y l x e = (cc, cc)
 
--- ---- where a call stands behind its entry
-
-module _ (size : ℕ) (g : Given) (before : List ℕ) where
-  entered-short : length before < size → entered size g before ≡ refused No.tableShort 0
-  unfolding entered weigh pick
-  entered-short h = rw (lt-ltb (length before) size h)
-
-  entered-long : size ≤ length before → g .long ≡ true → entered size g before ≡ refused No.textLong 0
-  unfolding entered weigh pick
-  entered-long h t = rw (le-ltb (length before) size h, t)
-
-  entered-fits : size ≤ length before → g .long ≡ false → entered size g before ≡ read tt
-  unfolding entered weigh pick
-  entered-fits h t = rw (le-ltb (length before) size h, t)
-
-  -- One of the four it is.
-  cases : {B : Type 0} → (length before < size → entered size g before ≡ refused No.tableShort 0 → B)
-      → (size ≤ length before → g .long ≡ true → entered size g before ≡ refused No.textLong 0 → B)
-      → (size ≤ length before → g .long ≡ false → entered size g before ≡ read tt → (n k : ℕ) → readPair g ≡ refused n k → B)
-      → (size ≤ length before → g .long ≡ false → entered size g before ≡ read tt → (p : Pair) → readPair g ≡ read p → B)
-      → B
-  cases {B} short long bad good =
-      by-test (ltb (length before) size) (λ t. let h = ltb-true (length before) size t in short h (entered-short h))
-      (λ t.
-      let h = ltb-false (length before) size t in
-      by-test (g .long) (λ u. long h u (entered-long h u)) (λ u. from h u (readPair g) refl))
-    where
-      from : size ≤ length before → g .long ≡ false → (o : Read Pair) → readPair g ≡ o → B
-      from h u (refused n k) e = bad h u (entered-fits h u) n k e
-      from h u (read p) e = good h u (entered-fits h u) p e
-
-  -- What was read, behind an entry that refuses nothing.
-  pub come-read : (p : Pair) → comes size g before ≡ read p → (size ≤ length before) × (entered size g before ≡ read tt) × (readPair g ≡ read p)
-  unfolding comes _>>_
-  come-read p e =
-      cases
-      (λ h t. refused-read (rw t at e))
-      (λ h u t. refused-read (rw t at e))
-      (λ h u t n k q. refused-read (sym q ∙ (rw t at e)))
-      (λ h u t x q. (h, t, rw t at e))
-
--- ---- the first library, on tables of its own
-
-own-entry : (g : Given) (report : List ℕ) → entry g (ownTables report) ≡ weigh 0 ((No.textLong, g .long) ∷ [])
-unfolding entry tableShort ownTables weigh pick
-own-entry g report = refl
-
-text-fits : (b : Bool) → b ≡ false → weigh 0 ((No.textLong, b) ∷ []) ≡ read tt
-unfolding weigh pick
-text-fits b t = rw t
-
-module _ (g : Given) (report : List ℕ) where
-  own-long : g .long ≡ true → outcome g (ownTables report) ≡ refused No.textLong 0
-  unfolding outcome weigh pick _>>_
-  own-long t = rw (own-entry g report, t)
-
-  own-bad : g .long ≡ false → (n k : ℕ) → readPair g ≡ refused n k → outcome g (ownTables report) ≡ refused n k
-  unfolding outcome reading ownTables _>>_ _>>=_
-  own-bad t n k e =
-      ap (λ (o : Read (Unit {0})). o >> reading g (length report)) (own-entry g report ∙ text-fits (g .long) t)
-      ∙ ap (λ (o : Read Pair). o >>= λ p. conclude (p .cells) (p .statements) (length report)) e
-
 -- ---- refusals, of both calls
 
-module _ {A : Type 0} (size : ℕ) (g : Given) (checked : Checked g) (before after : List ℕ) (said : Read A) (made : Pair → A) (write : Pair → List ℕ)
-    (answers : said ≡ (comes size g before >>= λ p. read (made p))) (leaves : after ≡ leftFrom (entered size g before) (readPair g) write before) where
-  said-entry : (n k : ℕ) → entered size g before ≡ refused n k → (said ≡ refused n k) × (after ≡ before)
-  unfolding comes leftFrom _>>_ _>>=_
-  said-entry n k e = (rw e at answers, rw e at leaves)
+module _ {B : Type 0} (size : ℕ) (g : Given) (checked : Checked g) (before : List ℕ) (answer : Pair → B) (writes : Pair → List ℕ) (said : Read B)
+    (answers : said ≡ answered (answerCall size g before answer writes)) where
+  abbrev call : Call Pair B (List ℕ)
+  call = answerCall size g before answer writes
 
-  said-bad : entered size g before ≡ read tt → (n k : ℕ) → readPair g ≡ refused n k → (said ≡ refused n k) × (after ≡ replicate (length before) 0)
-  unfolding comes leftFrom leftLater _>>_ _>>=_
-  said-bad t n k e = (rw (t, e) at answers, rw (t, e) at leaves)
+  -- The first library, on tables of its own, weighs the texts alone; and so does an answer of its size.
+  own-entry : (report : List ℕ) → size ≤ length before → entry g (ownTables report) ≡ answerEntry size g before
+  own-entry report h = first ∙ sym (entry-texts size g before h)
+    where
+      first : entry g (ownTables report) ≡ weigh 0 ((No.textLong, g .long) ∷ [])
+      first = unfold entry weigh pick in rw (own-fit report) refl
 
-  pub said-read : entered size g before ≡ read tt → (p : Pair) → readPair g ≡ read p → (said ≡ read (made p)) × (after ≡ write p)
-  unfolding comes leftFrom leftLater _>>_ _>>=_
-  said-read t p e = (rw (t, e) at answers, rw (t, e) at leaves)
-
-  -- A refusal is one of four kinds.
-  module _ (number line : ℕ) (e : said ≡ refused number line) where
-    at-entry : (n k : ℕ) → said ≡ refused n k → (n ≡ number) × (k ≡ line)
-    at-entry n k q = same-refusal n k number line (sym q ∙ e)
-
-    refused-cases : {B : Type 0} → (length before < size → number ≡ No.tableShort → after ≡ before → B)
-        → (size ≤ length before → g .long ≡ true → number ≡ No.textLong → line ≡ 0 → after ≡ before → B)
-        → (size ≤ length before → g .long ≡ false → readPair g ≡ refused number line → after ≡ replicate (length before) 0 → B)
-        → B
-    refused-cases short long bad =
-        cases size g before
-        (λ h t. let q = said-entry No.tableShort 0 t in let s = at-entry No.tableShort 0 (q .0) in short h (sym (s .0)) (q .1))
-        (λ h u t. let q = said-entry No.textLong 0 t in let s = at-entry No.textLong 0 (q .0) in long h u (sym (s .0)) (sym (s .1)) (q .1))
-        (λ h u t n k r.
-        let q = said-bad t n k r in
-        let s = at-entry n k (q .0) in
-        bad h u (r ∙ (λ i. refused (s .0 i) (s .1 i))) (q .1))
-        (λ h u t p r. refused-read (sym e ∙ said-read t p r .0))
-
-  pub handed-on : HandedOn size g before after said
+  pub handed-on : HandedOn size g call said
+  unfolding answerCall outcome reading ownTables _>>_ _>>=_
   handed-on =
       record {
-        short = λ h. said-entry No.tableShort 0 (entered-short size g before h) .0;
+        short = λ h. answers ∙ at-entry call No.tableShort 0 (entry-short size g before h) .0;
         refusals = λ h number line e report.
-            refused-cases number line e
-            (λ s n l. absurd (omega arith))
-            (λ s t n k l. rw (n, k) (own-long g report t))
-            (λ s t r l. own-bad g report t number line r);
-        wasRead = λ x e.
-            cases size g before
-            (λ s t. refused-read (sym (said-entry No.tableShort 0 t .0) ∙ e))
-            (λ s u t. refused-read (sym (said-entry No.textLong 0 t .0) ∙ e))
-            (λ s u t n k r. refused-read (sym (said-bad t n k r .0) ∙ e))
-            (λ s u t p r. (p, unfold comes _>>_ in (rw t r)));
+            refused-where call number line (sym answers ∙ e)
+            (λ p. rw (own-entry report h ∙ p) refl)
+            (λ p r. rw (own-entry report h ∙ p, r) refl);
+        wasRead = λ x e. was-read call x (sym answers ∙ e);
         accepts = λ h report a e.
-            cases size g before
-            (λ s t. absurd (omega arith))
-            (λ s u t. refused-read (sym (own-long g report u) ∙ e))
-            (λ s u t n k r. refused-read (sym (own-bad g report u n k r) ∙ e))
-            (λ s u t p r. (made p, said-read t p r .0));
-        noReport = λ line e.
-            refused-cases No.reportLong line e
-            (λ s n l. absurd (omega arith))
-            (λ s t n k l. absurd (omega arith))
-            (λ s t r l. true≢false (sym (pair-number g checked No.reportLong line r)));
-        untouched = λ number line e t.
-            refused-cases number line e
-            (λ s n l. l)
-            (λ s u n k l. l)
-            (λ s u r l. clash (No.ofEntry number) t (text-not-entry number (pair-number g checked number line r)));
-        cleared = λ number line e t.
-            refused-cases number line e
-            (λ s n l. true≢false' (rw n at t))
-            (λ s u n k l. true≢false' (rw n at t))
-            (λ s u r l. l);
+            then-read (entry g (ownTables report)) (reading g (length report)) a
+            (λ u p q.
+            bind-read (readPair g) _ a (λ x r t. (answer x, answers ∙ at-end call x (come-to call x (sym (own-entry report h) ∙ p) r) .0)) q) e;
       }
-    where
-      true≢false' : {B : Type 0} → true ≡ false → B
-      true≢false' q = absurd (true≢false q)
 
 -- ---- an accepted library and netlist
 
-pair-sound : (g : Given) → Checked g → (p : Pair) → readPair g ≡ read p → BothSound (p .cells) (p .statements)
-pair-sound g checked p e =
-    let r = read-as g p e in
-    record {
-      library = library-sound (g .library) (p .cells) (r .cells);
-      netlist = checked .sound (p .cells) (p .statements) (r .statements);
-    }
-
 module _ (g : Given) (checked : Checked g) (forbidden before after : List ℕ) (said : Read Advice)
-    (answers : said ≡ advising g forbidden before) (left : after ≡ adviceLeft g forbidden before) where
+    (answers : said ≡ answered (adviceCall g forbidden before)) (leaving : after ≡ left (adviceCall g forbidden before)) where
   abbrev found : Pair → Advice
   found p = advice (p .cells) (p .statements) forbidden
 
-  module _ (p : Pair) (here : comes adviceSize g before ≡ read p) where
-    came : (said ≡ read (found p)) × (after ≡ adviceInto (found p) before)
-    came =
-        let c = come-read adviceSize g before p here in
-        said-read adviceSize g checked before after said found (λ q. adviceInto (found q) before) (unfold advising in answers) (unfold adviceLeft in left) (c .1) p (c .2)
+  abbrev laid : Pair → List ℕ
+  laid p = adviceInto (found p) before
+
+  module _ (p : Pair) (here : comes (adviceCall g forbidden before) ≡ read p) where
+    came : (said ≡ read (found p)) × (after ≡ laid p)
+    unfolding answerCall
+    came = let e = at-end (adviceCall g forbidden before) p here in (answers ∙ e .0, leaving ∙ e .1)
 
     room : 0 < length before
-    room = come-read adviceSize g before p here .0
+    room = pair-read adviceSize g checked before found laid p here .0
 
     sound : BothSound (p .cells) (p .statements)
-    sound = pair-sound g checked p (come-read adviceSize g before p here .2)
+    sound = pair-read adviceSize g checked before found laid p here .3
 
     means : AdviceMeans p forbidden before after said
     unfolding adviceInto
@@ -242,8 +125,8 @@ module _ (g : Given) (checked : Checked g) (forbidden before after : List ℕ) (
               same = λ others f. came .0 ∙ ap read (same-advice (p .cells) (p .statements) forbidden others f);
             }
 
-  on : HandedOn adviceSize g before after said
-  on = handed-on adviceSize g checked before after said found (λ q. adviceInto (found q) before) (unfold advising in answers) (unfold adviceLeft in left)
+  on : HandedOn adviceSize g (adviceCall g forbidden before) said
+  on = handed-on adviceSize g checked before found laid said answers
 
   -- The line that is named is one of the 1,000.
   line-named : (l x : ℕ) → said ≡ read (Pad l x) → (1 ≤ l) × (l ≤ Size.lines)
@@ -256,7 +139,7 @@ module _ (g : Given) (checked : Checked g) (forbidden before after : List ℕ) (
       (allowed-said (p .cells) (p .statements) both forbidden l (means p (r .1) .named l x e .1 .isAllowed))
 
   pub advice-kept : AdvicePromised g forbidden before after said
-  advice-kept = record { answers = answers; leaves = left; handedOn = on; line = line-named; accepted = means }
+  advice-kept = record { promises = promises adviceSize g checked before found laid _ after said answers leaving means; handedOn = on; line = line-named }
 
 -- ---- the ranks
 
@@ -283,14 +166,14 @@ module _ (cells : List Cell) (ss : List Statement) (forbidden : List ℕ) where
     row-past i h = rw lays (rank-past (lineRank cells ss forbidden) (four cells ss forbidden) before i h)
 
 module _ (g : Given) (checked : Checked g) (forbidden before after : List ℕ) (said : Read ℕ)
-    (answers : said ≡ ranking g forbidden before) (left : after ≡ ranksLeft g forbidden before) where
+    (answers : said ≡ answered (rankCall g forbidden before)) (leaving : after ≡ left (rankCall g forbidden before)) where
   abbrev counted : Pair → ℕ
   counted p = length (allowedLines (p .statements) forbidden)
 
   abbrev ranked : Pair → List ℕ
   ranked p = ranks (p .cells) (p .statements) forbidden ++ drop Size.ranks before
 
-  module _ (p : Pair) (here : comes Size.ranks g before ≡ read p) where
+  module _ (p : Pair) (here : comes (rankCall g forbidden before) ≡ read p) where
     abbrev cells : List Cell
     cells = p .cells
 
@@ -298,12 +181,11 @@ module _ (g : Given) (checked : Checked g) (forbidden before after : List ℕ) (
     ss = p .statements
 
     all-came : (said ≡ read (counted p)) × (after ≡ ranked p)
-    all-came =
-        let c = come-read Size.ranks g before p here in
-        said-read Size.ranks g checked before after said counted ranked (unfold ranking in answers) (unfold ranksLeft in left) (c .1) p (c .2)
+    unfolding answerCall
+    all-came = let e = at-end (rankCall g forbidden before) p here in (answers ∙ e .0, leaving ∙ e .1)
 
     both : BothSound cells ss
-    both = pair-sound g checked p (come-read Size.ranks g before p here .2)
+    both = pair-read Size.ranks g checked before counted ranked p here .3
 
     ranks-mean : RanksMean p forbidden before after said
     unfolding lineRank noRank rankWords pick InRange
@@ -320,8 +202,8 @@ module _ (g : Given) (checked : Checked g) (forbidden before after : List ℕ) (
           same = λ others f. sym (same-ranks cells ss forbidden others f);
         }
 
-  all-on : HandedOn Size.ranks g before after said
-  all-on = handed-on Size.ranks g checked before after said counted ranked (unfold ranking in answers) (unfold ranksLeft in left)
+  all-on : HandedOn Size.ranks g (rankCall g forbidden before) said
+  all-on = handed-on Size.ranks g checked before counted ranked said answers
 
   lines-few : (n : ℕ) → said ≡ read n → n ≤ Size.lines
   lines-few n e =
@@ -330,81 +212,73 @@ module _ (g : Given) (checked : Checked g) (forbidden before after : List ℕ) (
       omega (arith, allowed-few (r .0 .statements) forbidden)
 
   pub ranks-kept : RankPromised g forbidden before after said
-  ranks-kept = record { answers = answers; leaves = left; handedOn = all-on; few = lines-few; accepted = ranks-mean }
+  ranks-kept = record { promises = promises Size.ranks g checked before counted ranked _ after said answers leaving ranks-mean; handedOn = all-on; few = lines-few }
 
 -- ---- from what was read and what was made of it
 
-module _ (size : ℕ) (g : Given) (before : List ℕ) {library netlist mid : List ℕ} (v : Verdict) (t : TextsRead size g before library netlist mid (verdictRead v)) where
+module _ (size : ℕ) (g : Given) (checked : Checked g) (before : List ℕ) {library netlist mid : List ℕ} (v : Verdict)
+    (t : TextsRead size g before library netlist mid (verdictRead v)) where
   -- What was read, where the call goes on.
   pub record WasRead : Type 0 where
     pub pair : Pair
-    pub came : comes size g before ≡ read pair
-    pub kept : mid ≡ before
+    pub comesTo : comes (textsCall size g before) ≡ read pair
+    pub same : mid ≡ before
     pub holds : Holds library netlist (pair .cells) (pair .statements)
 
   pub went-on : v ≡ Accepted → WasRead
-  unfolding verdictRead comes leftFrom leftLater doneRead _>>_
+  unfolding verdictRead answerCall
   went-on e =
-      let a = rw e at (t .answers) in
-      cases size g before
-      (λ h u. refused-read (sym (rw u at a)))
-      (λ h l u. refused-read (sym (rw u at a)))
-      (λ h l u n k q. refused-read (sym (rw (u, q) at a)))
-      (λ h l u p q.
-      let c : comes size g before ≡ read p = rw (u, q) in
-      record { pair = p; came = c; kept = rw (u, q) at (t .leaves); holds = t .holds p c })
+      let r = was-read (textsCall size g before) tt (sym (t .kept .answers) ∙ ap verdictRead e) in
+      record {
+        pair = r .0;
+        comesTo = r .1;
+        same = t .kept .leaves ∙ at-end (textsCall size g before) (r .0) (r .1) .1;
+        holds = t .accepted (r .0) (r .1);
+      }
 
   pub some-held : v ≡ Accepted → Holding library netlist
   some-held e = let r = went-on e in record { cells = r .pair .cells; statements = r .pair .statements; holds = r .holds }
 
   pub room-kept : v ≡ Accepted → size ≤ length mid
-  room-kept e = let r = went-on e in rw (r .kept) (come-read size g before (r .pair) (r .came) .0)
+  room-kept e = let r = went-on e in rw (r .same) (pair-read size g checked before _ _ (r .pair) (r .comesTo) .0)
 
   -- A refusal, whatever would have been made and written.
-  refused-made : {A : Type 0} (x : Refusal) → v ≡ Refused x → (made : Pair → A) (write : Pair → List ℕ)
-      → (_≡_ {A = Read A} (refused (x .number) (x .line)) (comes size g before >>= λ p. read (made p))) × (mid ≡ leftFrom (entered size g before) (readPair g) write before)
-  unfolding verdictRead comes leftFrom leftLater doneRead _>>_ _>>=_
-  refused-made {A} x e made write =
-      let a = rw e at (t .answers) in
-      cases size g before
-      (λ h u. (again (rw u at a) ∙ rw u, rw u (rw u at (t .leaves))))
-      (λ h l u. (again (rw u at a) ∙ rw u, rw u (rw u at (t .leaves))))
-      (λ h l u n k q. (again (rw (u, q) at a) ∙ rw (u, q), rw (u, q) (rw (u, q) at (t .leaves))))
-      (λ h l u p q. refused-read (rw (u, q) at a))
-    where
-      again : {n k m l : ℕ} → _≡_ {A = Read (Unit {0})} (refused n k) (refused m l) → _≡_ {A = Read A} (refused n k) (refused m l)
-      again {n} {k} {m} {l} q = let s = same-refusal n k m l q in λ i. refused (s .0 i) (s .1 i)
+  refused-on : {B : Type 0} (answer : Pair → B) (writes : Pair → List ℕ) (x : Refusal) → v ≡ Refused x
+      → (refused (x .number) (x .line) ≡ answered (answerCall size g before answer writes)) × (mid ≡ left (answerCall size g before answer writes))
+  unfolding verdictRead
+  refused-on answer writes x e =
+      let k = promises-on size g checked before answer writes (λ p after said. Unit {0}) (λ p. tt) (λ p. before) mid (x .number) (x .line)
+      (subst (λ (o : Read (Unit {0})). Kept (textsCall size g before) mid o) (ap verdictRead e) (t .kept)) in
+      (k .kept .answers, k .kept .leaves)
 
 module _ (g : Given) (checked : Checked g) (forbidden before : List ℕ) {library netlist mid : List ℕ} (v : Verdict) where
   module _ (t : TextsRead adviceSize g before library netlist mid (verdictRead v)) where
     pub advice-refused : (x : Refusal) → v ≡ Refused x → AdvicePromised g forbidden before mid (refused (x .number) (x .line))
-    unfolding advising adviceLeft
     advice-refused x e =
-        let r = refused-made adviceSize g before v t x e (λ q. advice (q .cells) (q .statements) forbidden) (λ q. adviceInto (advice (q .cells) (q .statements) forbidden) before) in
+        let r = refused-on adviceSize g checked before v t _ _ x e in
         advice-kept g checked forbidden before mid (refused (x .number) (x .line)) (r .0) (r .1)
 
     pub advice-found : v ≡ Accepted → (a : Advice) → ((cells : List Cell) (ss : List Statement) → Holds library netlist cells ss → a ≡ advice cells ss forbidden)
         → (after : List ℕ) → after ≡ adviceInto a mid → AdvicePromised g forbidden before after (read a)
-    unfolding advising adviceLeft comes leftFrom leftLater _>>_ _>>=_
+    unfolding answerCall comes
     advice-found e a is after wrote =
-        let r = went-on adviceSize g before v t e in
-        let c = come-read adviceSize g before (r .pair) (r .came) in
+        let r = went-on adviceSize g checked before v t e in
+        let s = at-end (adviceCall g forbidden before) (r .pair) (r .comesTo) in
         let same = is (r .pair .cells) (r .pair .statements) (r .holds) in
-        advice-kept g checked forbidden before after (read a) (rw (c .1, c .2) (ap read same)) (rw (c .1, c .2) (wrote ∙ (λ i. adviceInto (same i) (r .kept i))))
+        advice-kept g checked forbidden before after (read a) (ap read same ∙ sym (s .0)) (wrote ∙ (λ i. adviceInto (same i) (r .same i)) ∙ sym (s .1))
 
   module _ (t : TextsRead Size.ranks g before library netlist mid (verdictRead v)) where
     pub ranks-refused : (x : Refusal) → v ≡ Refused x → RankPromised g forbidden before mid (refused (x .number) (x .line))
-    unfolding ranking ranksLeft
     ranks-refused x e =
-        let r = refused-made Size.ranks g before v t x e (λ q. length (allowedLines (q .statements) forbidden)) (λ q. ranks (q .cells) (q .statements) forbidden ++ drop Size.ranks before) in
+        let r = refused-on Size.ranks g checked before v t _ _ x e in
         ranks-kept g checked forbidden before mid (refused (x .number) (x .line)) (r .0) (r .1)
 
     pub ranks-made : v ≡ Accepted → (n : ℕ) (after : List ℕ) → ((cells : List Cell) (ss : List Statement) → Holds library netlist cells ss → AllRanked cells ss forbidden mid after n)
         → RankPromised g forbidden before after (read n)
-    unfolding ranking ranksLeft comes leftFrom leftLater _>>_ _>>=_
+    unfolding answerCall comes
     ranks-made e n after is =
-        let r = went-on Size.ranks g before v t e in
-        let c = come-read Size.ranks g before (r .pair) (r .came) in
+        let r = went-on Size.ranks g checked before v t e in
+        let s = at-end (rankCall g forbidden before) (r .pair) (r .comesTo) in
         let all = is (r .pair .cells) (r .pair .statements) (r .holds) in
-        ranks-kept g checked forbidden before after (read n) (rw (c .1, c .2) (ap read (all .counts)))
-        (rw (c .1, c .2) (all .lays ∙ ap (λ (xs : List ℕ). ranks (r .pair .cells) (r .pair .statements) forbidden ++ drop Size.ranks xs) (r .kept)))
+        ranks-kept g checked forbidden before after (read n) (ap read (all .counts) ∙ sym (s .0))
+        (all .lays ∙ ap (λ (xs : List ℕ). ranks (r .pair .cells) (r .pair .statements) forbidden ++ drop Size.ranks xs) (r .same) ∙ sym (s .1))

@@ -1,12 +1,12 @@
 -- What the adviser's two calls promise. Document 02, K13: `g` is what a call was given to read, `said` what it answered. By
--- equation of every list and every answer that is lent (specs/Calls.antt), and what that says of an accepted pair of texts.
+-- equation of every answer that is lent (`adviceCall`, `rankCall`), and what that says of an accepted pair of texts.
 -- Assumes nothing.
 use mathlib.Core.Bool.{true, false}
 use mathlib.Core.List.{List}
 use mathlib.Core.Logic.{_↔_}
 use mathlib.Core.Path.{_≡_}
 use Prim.Native.Nat.{ℕ, _+_, _*_, _-_, _≤_, _<_}
-use lib.ListN.{length, getD, replicate}
+use lib.ListN.{length, getD}
 use Rattle.sizes.specs.Sizes as Size
 use Rattle.reading.specs.Numbers as No
 use Rattle.reading.specs.Refusal.{Read, refused, read}
@@ -14,24 +14,21 @@ use Rattle.cost.specs.Cost.{never}
 use Rattle.calculation.specs.declared.Advice.{Advice}
 use Rattle.calculation.specs.declared.Advice.the-variants.{NoneAllowed, Pad}
 use Rattle.calculation.specs.Advice.{allowed, leaves, Rank, rankOf, advice, ranks, LeavesExact, Best, ForbidSame}
+use Rattle.demands.specs.Call.{Call, comes, Promises}
 use Rattle.demands.specs.Outcome.{Given, Pair, Accepted, outcome}
 use Rattle.demands.specs.Own.{ownTables}
-use Rattle.advice_calls.specs.Calls.{comes, adviceSize, advising, adviceLeft, ranking, ranksLeft}
+use Rattle.advice_calls.specs.Calls.{adviceSize, adviceCall, rankCall}
 
 -- ---- refusals, of both calls
 
 -- A refused library or netlist is refused as the first library refuses it, with whatever report buffer: the same number and
--- line. What it accepts is accepted, nothing else is, and 17 is never made here. An answer that is too short is 1 at line 0.
-pub record HandedOn {A : Type 0} (size : ℕ) (g : Given) (before after : List ℕ) (said : Read A) : Type 0 where
-  pub short : length before < size → said ≡ refused No.tableShort 0
-  pub refusals : size ≤ length before → (number line : ℕ) → said ≡ refused number line
+-- line. What it accepts is accepted, and nothing else is. An answer that is too short is 1 at line 0.
+pub record HandedOn {B : Type 0} (size : ℕ) (g : Given) (c : Call Pair B (List ℕ)) (said : Read B) : Type 0 where
+  pub short : length (c .lent) < size → said ≡ refused No.tableShort 0
+  pub refusals : size ≤ length (c .lent) → (number line : ℕ) → said ≡ refused number line
       → (report : List ℕ) → outcome g (ownTables report) ≡ refused number line
-  pub wasRead : (x : A) → said ≡ read x → (p : Pair) × (comes size g before ≡ read p)
-  pub accepts : size ≤ length before → (report : List ℕ) (a : Accepted) → outcome g (ownTables report) ≡ read a → (x : A) × (said ≡ read x)
-  pub noReport : (line : ℕ) → said ≡ refused No.reportLong line → ⊥
-  -- "A refusal at entry touches no lent table; every other refusal leaves them all zero."
-  pub untouched : (number line : ℕ) → said ≡ refused number line → No.ofEntry number ≡ true → after ≡ before
-  pub cleared : (number line : ℕ) → said ≡ refused number line → No.ofEntry number ≡ false → after ≡ replicate (length before) 0
+  pub wasRead : (x : B) → said ≡ read x → (p : Pair) × (comes c ≡ read p)
+  pub accepts : size ≤ length (c .lent) → (report : List ℕ) (a : Accepted) → outcome g (ownTables report) ≡ read a → (x : B) × (said ≡ read x)
 
 -- ---- the advice
 
@@ -45,11 +42,9 @@ pub record AdviceMeans (p : Pair) (forbidden before after : List ℕ) (said : Re
   pub same : (others : List ℕ) → ForbidSame (p .statements) forbidden others → said ≡ read (advice (p .cells) (p .statements) others)
 
 pub record AdvicePromised (g : Given) (forbidden before after : List ℕ) (said : Read Advice) : Type 0 where
-  pub answers : said ≡ advising g forbidden before
-  pub leaves : after ≡ adviceLeft g forbidden before
-  pub handedOn : HandedOn adviceSize g before after said
+  pub promises : Promises (adviceCall g forbidden before) (λ p after said. AdviceMeans p forbidden before after said) after said
+  pub handedOn : HandedOn adviceSize g (adviceCall g forbidden before) said
   pub line : (l x : ℕ) → said ≡ read (Pad l x) → (1 ≤ l) × (l ≤ Size.lines)
-  pub accepted : (p : Pair) → comes adviceSize g before ≡ read p → AdviceMeans p forbidden before after said
 
 -- ---- the ranks
 
@@ -77,8 +72,6 @@ pub record RanksMean (p : Pair) (forbidden before after : List ℕ) (said : Read
       → ranks (p .cells) (p .statements) others ≡ ranks (p .cells) (p .statements) forbidden
 
 pub record RankPromised (g : Given) (forbidden before after : List ℕ) (said : Read ℕ) : Type 0 where
-  pub answers : said ≡ ranking g forbidden before
-  pub leaves : after ≡ ranksLeft g forbidden before
-  pub handedOn : HandedOn Size.ranks g before after said
+  pub promises : Promises (rankCall g forbidden before) (λ p after said. RanksMean p forbidden before after said) after said
+  pub handedOn : HandedOn Size.ranks g (rankCall g forbidden before) said
   pub few : (n : ℕ) → said ≡ read n → n ≤ Size.lines
-  pub accepted : (p : Pair) → comes Size.ranks g before ≡ read p → RanksMean p forbidden before after said

@@ -1,16 +1,17 @@
 -- What reading both texts comes to, for a call that lends an answer.
 -- Assumes nothing.
 use mathlib.Core.List.{List}
-use mathlib.Core.Path.{_≡_}
 use Prim.Native.Nat.{ℕ}
-use Rattle.reading.specs.Refusal.{Read, read}
-use Rattle.reading.specs.Verdict.{doneRead}
+use Rattle.reading.specs.Refusal.{Read}
 use Rattle.calculation.specs.Stored.{Holds}
-use Rattle.demands.specs.Outcome.{Given, Pair, readPair}
-use Rattle.advice_calls.specs.Calls.{entered, comes, leftFrom}
+use Rattle.demands.specs.Call.{Call, Promises, answerCall}
+use Rattle.demands.specs.Outcome.{Given, Pair}
 
 -- Both texts, with an answer of which so many entries are asked: nothing of it is written yet.
-pub record TextsRead (size : ℕ) (g : Given) (before library′ netlist′ after : List ℕ) (said : Read (Unit {0})) : Type 0 where
-  pub answers : said ≡ doneRead (comes size g before)
-  pub leaves : after ≡ leftFrom (entered size g before) (readPair g) (λ p. before) before
-  pub holds : (p : Pair) → comes size g before ≡ read p → Holds library′ netlist′ (p .cells) (p .statements)
+abbrev pub textsCall : ℕ → Given → List ℕ → Call Pair (Unit {0}) (List ℕ)
+textsCall size g before = answerCall size g before (λ p. tt) (λ p. before)
+
+-- What was read stands in the tables.
+abbrev pub TextsRead : ℕ → Given → (before library′ netlist′ after : List ℕ) → Read (Unit {0}) → Type 0
+TextsRead size g before library′ netlist′ after said =
+    Promises (textsCall size g before) (λ p after said. Holds library′ netlist′ (p .cells) (p .statements)) after said

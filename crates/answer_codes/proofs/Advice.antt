@@ -1,56 +1,35 @@
 -- The numbers of the calls for C of the pad adviser, from the answers of the calls in Rattle.
 -- Assumes nothing.
-use mathlib.Core.List.{List, []}
+use mathlib.Core.List.{List}
 use mathlib.Core.Logic.{_↔_}
 use mathlib.Core.Path.{_≡_, refl, sym, ap, subst, _∙_}
 use Prim.Native.Nat.{ℕ, _≤_}
 use native.Mathlib.Omega.{arith}
-use borrow.Author.Tests.{leb-true, ltb-true, ltb-false}
-use lib.Dec.{ltb}
-use lib.ListN.{length}
+use borrow.Author.Tests.{leb-true}
 use Rattle.sizes.specs.Sizes as Size
-use Rattle.reading.specs.Numbers as No
 use Rattle.reading.specs.Refusal.{Read, refused, read, _>>=_}
 use Rattle.reading.proofs.Bounds.{Within, anyNumber}
-use Rattle.reading.proofs.Laws.{by-test, refused-read}
+use Rattle.reading.proofs.Laws.{refused-read}
 use Rattle.writer.specs.Buffer.{codeOf, LineBelow}
 use Rattle.calculation.specs.declared.Advice.{Advice}
 use Rattle.calculation.specs.declared.Advice.the-variants.{NoneAllowed, Pad}
 use Rattle.calculation.proofs.AdvisedLine.{none-pad}
-use Rattle.demands.specs.Outcome.{givenTexts, answer}
-use Rattle.demands.specs.Own.{ownTables}
-use Rattle.demands.proofs.Bounds.{refusal-told}
+use Rattle.demands.specs.Outcome.{givenTexts}
+use Rattle.demands.proofs.Call.{answered-within}
 use Rattle.advice_calls.specs.declared.Advised.{Advised}
 use Rattle.advice_calls.specs.declared.Ranked.{Ranked}
-use Rattle.advice_calls.specs.Calls.{adviceSize, advisedRead, rankedRead}
-use Rattle.advice_calls.specs.Promise.{HandedOn, AdvicePromised, RankPromised}
+use Rattle.advice_calls.specs.Calls.{adviceSize, adviceCall, rankCall, advisedRead, rankedRead}
+use Rattle.advice_calls.specs.Promise.{AdvicePromised, RankPromised}
 use Rattle.answer_codes.specs.Number.{lastLine, toldBy}
 use Rattle.answer_codes.specs.Advice.{adviceLine, lineRead, AdviceCoded, RankCoded}
-use Rattle.answer_codes.proofs.Number.{within-told, told-within, told-read, tells, tells-by, line-below}
-
--- ---- refusals, of both calls
-
-module _ {A : Type 0} (lib net : List ℕ) (size : ℕ) (before after : List ℕ) (said : Read A) (h : HandedOn size (givenTexts lib net) before after said) where
-  handed-within : Within anyNumber lastLine said
-  unfolding answer
-  handed-within =
-      within-told said
-      (λ number line e.
-      by-test (ltb (length before) size)
-      (λ t.
-      let s = sym (h .short (ltb-true (length before) size t)) ∙ e in
-      let n : No.tableShort ≡ number = cc in
-      let l : 0 ≡ line = cc in
-      (omega arith, omega arith))
-      (λ t.
-      let o = h .refusals (ltb-false (length before) size t) number line e [] in
-      refusal-told lib net (ownTables []) number line (sym (ap answer o))))
+use Rattle.answer_codes.proofs.Call.{call-coded}
+use Rattle.answer_codes.proofs.Number.{told-within, told-read, by-refused, tells, tells-by, line-below}
 
 -- ---- the advice
 
 module _ (lib net forbidden before after : List ℕ) (r : Advised) (p : AdvicePromised (givenTexts lib net) forbidden before after (advisedRead r)) where
   within : Within anyNumber lastLine (advisedRead r)
-  within = handed-within lib net adviceSize before after (advisedRead r) (p .handedOn)
+  within = rw (p .promises .kept .answers) (answered-within adviceSize lib net before _ _)
 
   pub advice-line : LineBelow (lineRead (advisedRead r))
   advice-line = line-below _ (told-within adviceLine (advisedRead r) within)
@@ -88,19 +67,20 @@ module _ (lib net forbidden before after : List ℕ) (r : Advised) (p : AdvicePr
   pub advice-coded : (said : ℕ) → said ≡ codeOf (lineRead (advisedRead r)) → AdviceCoded lib net forbidden before after said
   advice-coded said is =
       let n = names said (advisedRead r) refl is in
+      let k = p .promises .kept in
       record {
-        answers = rw (← p .answers) (tells-by adviceLine (advisedRead r) within (λ a e. omega (arith, small a e)) said is);
-        leaves = p .leaves;
-        promised = rw (← p .answers) p;
-        named = rw (← p .answers) (n .named);
-        none = rw (← p .answers) (n .none);
+        coded = call-coded (adviceCall (givenTexts lib net) forbidden before) lineRead (by-refused adviceLine) after (advisedRead r) k said
+            (tells-by adviceLine (advisedRead r) within (λ a e. omega (arith, small a e)) said is);
+        promised = rw (← k .answers) p;
+        named = rw (← k .answers) (n .named);
+        none = rw (← k .answers) (n .none);
       }
 
 -- ---- the ranks
 
 module _ (lib net forbidden before after : List ℕ) (r : Ranked) (p : RankPromised (givenTexts lib net) forbidden before after (rankedRead r)) where
   rank-within : Within anyNumber lastLine (rankedRead r)
-  rank-within = handed-within lib net Size.ranks before after (rankedRead r) (p .handedOn)
+  rank-within = rw (p .promises .kept .answers) (answered-within Size.ranks lib net before _ _)
 
   pub rank-line : LineBelow (rankedRead r)
   rank-line = line-below (rankedRead r) rank-within
@@ -108,9 +88,9 @@ module _ (lib net forbidden before after : List ℕ) (r : Ranked) (p : RankPromi
   pub rank-coded : (said : ℕ) → said ≡ codeOf (rankedRead r) → RankCoded lib net forbidden before after said
   rank-coded said is =
       let t = tells (rankedRead r) rank-within (λ n e. omega (arith, p .few n e)) said is in
+      let k = p .promises .kept in
       record {
-        answers = rw (← p .answers) t;
-        leaves = p .leaves;
-        promised = rw (← p .answers) p;
-        counted = rw (← p .answers) (λ h. told-read t (omega arith), p .few said);
+        coded = call-coded (rankCall (givenTexts lib net) forbidden before) (λ o. o) (λ o number line e. e) after (rankedRead r) k said t;
+        promised = rw (← k .answers) p;
+        counted = rw (← k .answers) (λ h. told-read t (omega arith), p .few said);
       }

@@ -1,4 +1,5 @@
 pub mod Number
+pub mod Call
 pub mod ReportCode
 pub mod Cells
 pub mod Plan

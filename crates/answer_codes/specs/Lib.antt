@@ -1,4 +1,5 @@
 pub mod Number
+pub mod Call
 pub mod Coded
 pub mod Cell
 pub mod BuiltIn

@@ -3,8 +3,9 @@
 // that a call is proved by one law.
 //
 // For the crates above: a function for each type of answer, and `limit_plan`. specs/Number.antt says what the number of all
-// calls tells, specs/Coded.antt, specs/Plan.antt, specs/Cell.antt, specs/BuiltIn.antt, specs/Qualifies.antt,
-// specs/Stand.antt, specs/Change.antt, specs/Best.antt and specs/Advice.antt what each call promises.
+// calls tells, specs/Call.antt what a call keeps by it, specs/Coded.antt, specs/Plan.antt, specs/Cell.antt,
+// specs/BuiltIn.antt, specs/Qualifies.antt, specs/Stand.antt, specs/Change.antt, specs/Best.antt and specs/Advice.antt what
+// each call promises.
 use advice_calls::Advised;
 use advice_calls::Ranked;
 use budget_call::Steps;

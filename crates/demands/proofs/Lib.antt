@@ -6,3 +6,4 @@ pub mod Numbers
 pub mod Promise
 pub mod Bounds
 pub mod Held
+pub mod Call

@@ -1,4 +1,5 @@
 pub mod Outcome
+pub mod Call
 pub mod Demands
 pub mod Answer
 pub mod Own

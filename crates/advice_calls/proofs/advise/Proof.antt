@@ -24,7 +24,7 @@ advise-on-requires : tie.Need-advise-on-requires
 advise-on-requires c κs =
     let r = goes-on c in
     let a = began r .args in
-    some-held adviceSize (givenTexts (now (a .lib)) (now (a .net))) (now (a .answer)) (r .read-into .result) (r .read-into .ensures) (search needs)
+    some-held adviceSize (givenTexts (now (a .lib)) (now (a .net))) (texts-checked (now (a .lib)) (now (a .net))) (now (a .answer)) (r .read-into .result) (r .read-into .ensures) (search needs)
 
 returns : tie.Need-returns
 unfolding advisedRead

@@ -25,8 +25,8 @@ rank-on-requires : tie.Need-rank-on-requires
 rank-on-requires c κs =
     let r = goes-on c in
     let a = began r .args in (
-      some-held Size.ranks (givenTexts (now (a .lib)) (now (a .net))) (now (a .table)) (r .read-into .result) (r .read-into .ensures) (search needs),
-      room-kept Size.ranks (givenTexts (now (a .lib)) (now (a .net))) (now (a .table)) (r .read-into .result) (r .read-into .ensures) (search needs),
+      some-held Size.ranks (givenTexts (now (a .lib)) (now (a .net))) (texts-checked (now (a .lib)) (now (a .net))) (now (a .table)) (r .read-into .result) (r .read-into .ensures) (search needs),
+      room-kept Size.ranks (givenTexts (now (a .lib)) (now (a .net))) (texts-checked (now (a .lib)) (now (a .net))) (now (a .table)) (r .read-into .result) (r .read-into .ensures) (search needs),
     )
 
 returns : tie.Need-returns

@@ -1,9 +1,9 @@
 -- `read_into` refuses a short answer, and reads both texts. Assumes nothing.
-use mathlib.Core.Path.{_∙_}
+use mathlib.Core.Path.{refl, _∙_}
 use denote.Ref.{now}
 use Rattle.reading.specs.Verdict.{verdictRead}
 use Rattle.table.proofs.Places.{cleared-all}
-use Rattle.advice_calls.proofs.Texts.{short-read, entry-read, later-read, both-read}
+use Rattle.analysis_texts.proofs.Calls.{short-call, entry-call, later-call, made-call}
 use borrow.Author.Needs.{needs}
 use Rattle.advice_calls.proofs.read_into.Statement.{statement}
 use Rattle.advice_calls.proofs.read_into.Tie as tie
@@ -23,7 +23,7 @@ returns : tie.Need-returns
 unfolding verdictRead
 returns c =
     let a = began (c .before) .args in
-    short-read (a .size) (now (a .lib)) (now (a .net)) (now (a .answer)) (c .if1 .taken) _ _
+    short-call (a .size) (now (a .lib)) (now (a .net)) (now (a .answer)) _ _ _ (c .if1 .taken)
 
 returns-2 : tie.Need-returns-2
 unfolding verdictRead
@@ -32,7 +32,7 @@ returns-2 c =
     let i = fits r in
     let s = began (i .before) in
     let a = s .args in
-    entry-read (a .size) (now (a .lib)) (now (a .net)) (now (a .answer)) (i .if1 .left) (s .pre) _ _ (r .read-texts .result) (r .read-texts .ensures) _ (search needs)
+    entry-call (a .size) (now (a .lib)) (now (a .net)) (now (a .answer)) _ _ (i .if1 .left) (s .pre) _ _ (r .read-texts .result) (r .read-texts .ensures) _ _ (search needs)
 
 returns-3 : tie.Need-returns-3
 unfolding verdictRead
@@ -42,7 +42,7 @@ returns-3 c =
     let i = fits r in
     let s = began (i .before) in
     let a = s .args in
-    later-read (a .size) (now (a .lib)) (now (a .net)) (now (a .answer)) (i .if1 .left) (s .pre) _ _ (r .read-texts .result) (r .read-texts .ensures) _ (search needs)
+    later-call (a .size) (now (a .lib)) (now (a .net)) (now (a .answer)) _ _ (i .if1 .left) (s .pre) _ _ (r .read-texts .result) (r .read-texts .ensures) _ _ (search needs)
     _ (k .clear .ensures ∙ cleared-all (now (a .answer)))
 
 returns-4 : tie.Need-returns-4
@@ -52,7 +52,8 @@ returns-4 c =
     let i = fits r in
     let s = began (i .before) in
     let a = s .args in
-    both-read (a .size) (now (a .lib)) (now (a .net)) (now (a .answer)) (i .if1 .left) (s .pre) _ _ (r .read-texts .result) (r .read-texts .ensures) (search needs)
+    made-call (a .size) (now (a .lib)) (now (a .net)) (now (a .answer)) _ _ (i .if1 .left) (s .pre) _ _ (r .read-texts .result) (r .read-texts .ensures) _ (search needs)
+    _ tt (λ p h. (refl, refl, h))
 
 pub read-into-spec : {M : Type 1} → statement M
 read-into-spec =
