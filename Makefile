@@ -44,7 +44,7 @@ need-cargo:
 
 programs: need-rt
 	@echo 'proving the programs and the crates below them, one line for each:'
-	@tests/told target/log/run.out check $(PROGRAMS) || { echo 'not proved: target/log/run.out has it whole'; exit 1; }
+	@tools/told target/log/run.out check $(PROGRAMS) || { echo 'not proved: target/log/run.out has it whole'; exit 1; }
 
 run: programs
 	@echo 'target/bin/scoap on examples/c17:'
@@ -66,7 +66,7 @@ archive: need-rt
 	@sum=$$({ rt version; sha256sum crates.txt; find crates -type f ! -path '*/must-fail/*' -print0 | LC_ALL=C sort -z | xargs -0 sha256sum; } | sha256sum); \
 	if [ -e $(ARCHIVE) ] && [ "$$sum" = "$$(cat $(ARCHIVE).sum 2>/dev/null)" ]; then exit 0; fi; \
 	echo 'proving the calls for C and the crates below them, one line for each:'; \
-	tests/told target/log/archive.out staticlib scoap_c || { echo 'not built: target/log/archive.out has it whole'; exit 1; }; \
+	tools/told target/log/archive.out staticlib scoap_c || { echo 'not built: target/log/archive.out has it whole'; exit 1; }; \
 	echo "$$sum" >$(ARCHIVE).sum
 
 # The archive as WebAssembly, and what JavaScript and TypeScript need around it.
