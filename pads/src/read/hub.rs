@@ -1,6 +1,7 @@
 //! The hub that every reader fills: inputs, outputs, gates of one output each, and names.
 
 use crate::ask::archive::{lines_told, MOST_LINES};
+use crate::read::boxes::{self, Boxed};
 use crate::rows::cells::{Cell, Kind};
 use crate::show::cost::grouped;
 use crate::show::messages::Messages;
@@ -95,6 +96,11 @@ pub struct Design {
     pub block: bool,
     /// Bytes of the names that a reader made.
     pub name_bytes: usize,
+    /// Cells that stay closed, and their pins together.
+    pub boxes: Vec<Boxed>,
+    pub box_pins: usize,
+    /// Their types, once they have been put among inputs and outputs.
+    pub closed: Vec<String>,
 }
 
 /// Gates and nets that a reader takes at all; far above what the analyser does.
@@ -136,6 +142,8 @@ impl Design {
             || self.nets.len() > MOST_NETS
             || self.wires.len() > MOST_NETS
             || self.name_bytes > MOST_NAME_BYTES
+            || self.boxes.len() > MOST_GATES
+            || self.box_pins > MOST_NETS
     }
 
     pub fn add_net(&mut self) -> usize {
@@ -146,6 +154,7 @@ impl Design {
     /// Puts every wire's other name to its net, parts inout ports from their drivers, and finds nets with two drivers or
     /// none.
     pub fn settle(&mut self, lines: &Lines, allow_open: bool, messages: &mut Messages) {
+        boxes::open(self, lines, messages);
         self.join_wires(lines, messages);
         self.part_inouts();
         let drivers = self.drivers(lines, messages);

@@ -2,13 +2,16 @@
 
 pub mod bench;
 pub mod blif;
+pub mod boxes;
 pub mod csv;
 pub mod expr;
+pub mod genlib;
 pub mod hub;
 pub mod json;
 pub mod liberty;
 pub mod load;
 pub mod names;
 pub mod native;
+pub mod prices;
 pub mod verilog;
 pub mod yosys;

@@ -1,10 +1,11 @@
 //! Netlists as Yosys writes them in JSON.
 
 use crate::ask::archive::MOST_LINES;
+use crate::read::boxes::Boxed;
 use crate::read::hub::{too_many, Design, Lines, Source, MOST_GATES};
 use crate::read::json::{self, Value};
 use crate::rows::cells::{Cell, Kind};
-use crate::rows::types::{add_gates, Place, Type, Types};
+use crate::rows::types::{add_gates, Place, Type, Types, Unknown};
 use crate::rows::Table;
 use crate::show::cost::grouped;
 use crate::show::messages::Messages;
@@ -52,7 +53,7 @@ pub fn read(
         nets: HashMap::new(),
         messages,
         open_pins: 0,
-        unknown: Vec::new(),
+        unknown: Unknown::default(),
     };
     reader.design.block = wanted.top.is_some() && modules.members().iter().filter(|(_, m)| !is_blackbox(m)).count() > 1;
     reader.module(module, types);
@@ -126,8 +127,7 @@ struct Reader<'a, 'b, 'm> {
     nets: HashMap<i64, usize>,
     messages: &'m mut Messages,
     open_pins: usize,
-    /// Types that are not known: the first cell of each, the words, and how many cells more.
-    unknown: Vec<(String, String, String, usize)>,
+    unknown: Unknown,
 }
 
 impl Reader<'_, '_, '_> {
@@ -181,10 +181,7 @@ impl Reader<'_, '_, '_> {
         if self.design.full() {
             self.messages.error(self.file, too_many());
         }
-        for (_, who, words, more) in std::mem::take(&mut self.unknown) {
-            let more = if more > 0 { format!(" and {more} more") } else { String::new() };
-            self.messages.error(self.file, format!("{who}{more} {words}"));
-        }
+        std::mem::take(&mut self.unknown).tell(types, |_, words| self.messages.error(self.file, words));
         // A net without any name, of a hand-made file.
         for (&bit, &net) in &self.nets {
             let net = &mut self.design.nets[net];
@@ -290,6 +287,9 @@ impl Reader<'_, '_, '_> {
         let source = cell.get("attributes").and_then(|all| all.get("src")).and_then(Value::text).unwrap_or("");
         let place = Place { instance: name.to_string(), source: source.to_string(), line: 0 };
         let who = if source.is_empty() { format!("cell {name}") } else { format!("cell {name} ({source})") };
+        if types.is_box(title) {
+            return self.boxed(name, title, cell, &who, types);
+        }
         let kind = if title == "$lut" { Some(lut(cell)) } else { types.find(title) };
         let kind = match kind {
             Some(Ok(kind)) => kind,
@@ -298,7 +298,7 @@ impl Reader<'_, '_, '_> {
                 return;
             }
             None => {
-                self.unknown(&who, name, title, cell, types);
+                self.unknown(&who, name, title, cell);
                 return;
             }
         };
@@ -309,9 +309,12 @@ impl Reader<'_, '_, '_> {
             for (at, bit) in bits.iter().enumerate() {
                 let pin = if bits.len() == 1 && title != "$lut" { pin.to_string() } else { format!("{pin}[{at}]") };
                 let source = self.source(bit);
-                if kind.inputs.contains(&pin) {
-                    pins.insert(pin, source);
-                } else if kind.outputs.iter().any(|cell| cell.output == pin) {
+                let reads = kind.inputs.contains(&pin);
+                if reads {
+                    pins.insert(pin.clone(), source);
+                }
+                // A pin in both directions drives too.
+                if kind.outputs.iter().any(|cell| cell.output == pin) {
                     match source {
                         Source::Net(net) => {
                             outputs.insert(pin, net);
@@ -322,7 +325,7 @@ impl Reader<'_, '_, '_> {
                         }
                         Source::Open => {}
                     }
-                } else if matches!(source, Source::Net(_)) {
+                } else if !reads && matches!(source, Source::Net(_)) {
                     let words = format!("{who} has the type {title}, which has no pin {pin} with a function");
                     self.messages.error(self.file, words);
                 }
@@ -331,8 +334,31 @@ impl Reader<'_, '_, '_> {
         self.open_pins += add_gates(&mut self.design, &kind, &place, &pins, &outputs);
     }
 
+    /// A cell that stays closed; its directions are the cell's own, the block's or a library's.
+    fn boxed(&mut self, name: &str, title: &str, cell: &Value, who: &str, types: &Types) {
+        let ports = self.modules.get(title).and_then(|module| module.get("ports"));
+        let mut pins = Vec::new();
+        for (pin, bits) in self.members(cell, "connections", who) {
+            let own = cell.get("port_directions").and_then(|all| all.get(pin)).and_then(Value::text);
+            let port = ports.and_then(|ports| ports.get(pin)).and_then(|port| port.get("direction"));
+            let drives = match own.or(port.and_then(Value::text)) {
+                Some("output") => Some(true),
+                Some("input") => Some(false),
+                _ => types.drives(title, pin),
+            };
+            let bits = self.bits(Some(bits), who);
+            for (at, bit) in bits.iter().enumerate() {
+                let pin = if bits.len() == 1 { pin.to_string() } else { format!("{pin}[{at}]") };
+                let source = self.source(bit);
+                pins.push((pin, source, drives));
+            }
+        }
+        self.design.box_pins += pins.len();
+        self.design.boxes.push(Boxed { title: title.to_string(), instance: name.to_string(), pins, line: 0 });
+    }
+
     /// A block, a cell without outputs (passed over), or a type that no library has.
-    fn unknown(&mut self, who: &str, name: &str, title: &str, cell: &Value, types: &Types) {
+    fn unknown(&mut self, who: &str, name: &str, title: &str, cell: &Value) {
         if self.modules.get(title).is_some_and(|module| !is_blackbox(module)) {
             let blocks: Vec<String> = self
                 .modules
@@ -357,10 +383,7 @@ impl Reader<'_, '_, '_> {
         if !directions.is_empty() && directions.iter().all(|(_, way)| way.text() == Some("input")) {
             return;
         }
-        match self.unknown.iter_mut().find(|(other, ..)| other == title) {
-            Some((.., more)) => *more += 1,
-            None => self.unknown.push((title.to_string(), who.to_string(), types.unknown(title), 0)),
-        }
+        self.unknown.add(title, who, 0);
     }
 }
 

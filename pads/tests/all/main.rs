@@ -4,4 +4,5 @@ mod common;
 mod fewer;
 mod figures;
 mod formats;
+mod macros;
 mod reading;
