@@ -109,6 +109,8 @@ pub struct Model {
     pub inputs_too: bool,
     /// A block of a larger netlist.
     pub block: bool,
+    /// Types of cells that stay closed: what they take counts as seen.
+    pub closed: Vec<String>,
 }
 
 impl Model {
@@ -133,6 +135,7 @@ impl Model {
             ranges: false,
             inputs_too: false,
             block: false,
+            closed: Vec::new(),
         };
         model.read_netlist();
         let mut given: Vec<Option<Name>> = vec![None; MOST_LINES + 1];
@@ -142,7 +145,11 @@ impl Model {
         }
         let lines: Vec<usize> = model.numbers.lines().collect();
         for line in lines {
-            let name = given[line].take().unwrap_or_else(|| model.unnamed(line));
+            let mut name = given[line].take().unwrap_or_else(|| model.unnamed(line));
+            if name.kind == LineKind::Unsaid {
+                let own = model.unnamed(line);
+                name = Name { kind: own.kind, cell: own.cell, output: own.output, ..name };
+            }
             model.place[line] = model.names.len();
             model.names.push(name);
         }

@@ -107,7 +107,7 @@ pub fn is_candidate(model: &Model, line: usize) -> bool {
         LineKind::Gate => driven && read,
         LineKind::Register => driven,
         LineKind::Input => model.inputs_too && read && name.net != OWN_CLOCK,
-        LineKind::Constant | LineKind::Open | LineKind::Part => false,
+        LineKind::Constant | LineKind::Open | LineKind::Part | LineKind::Unsaid => false,
     };
     wanted && !model.is_output[line]
 }

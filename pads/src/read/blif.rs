@@ -2,10 +2,11 @@
 
 use crate::ask::archive::MOST_PINS;
 use crate::read::blocks::{Block, Tree};
+use crate::read::boxes::Boxed;
 use crate::read::hub::{too_many, Design, Gate, Lines, Source, MOST_NETS};
 use crate::read::names::OWN_CLOCK;
 use crate::rows::cells::{self, Cell, Kind, Op};
-use crate::rows::types::{add_gates, Place, Types};
+use crate::rows::types::{add_gates, Place, Types, Unknown};
 use crate::rows::Table;
 use crate::show::cost::grouped;
 use crate::show::messages::Messages;
@@ -147,8 +148,10 @@ pub fn read(file: &str, text: &str, wanted: &Wanted, types: &mut Types, messages
         outputs: Vec::new(),
         open_pins: 0,
         clockless: Vec::new(),
+        unknown: Unknown::default(),
     };
     reader.model(top, types);
+    std::mem::take(&mut reader.unknown).tell(types, |line, words| reader.error(line, words));
     if reader.design.full() {
         reader.messages.error(file, too_many());
     }
@@ -197,6 +200,7 @@ struct Reader<'a, 'm> {
     open_pins: usize,
     /// Registers whose clock is not said.
     clockless: Vec<usize>,
+    unknown: Unknown,
 }
 
 const MOST_COVER: usize = 70_000;
@@ -336,7 +340,8 @@ impl Reader<'_, '_> {
                 _ => self.error(number, "a .conn has two nets"),
             },
             ".end" => self.frame.ended = true,
-            ".exdc" | ".mlatch" | ".search" | ".start_kiss" => {
+            ".mlatch" => self.mlatch(number, rest, types),
+            ".exdc" | ".search" | ".start_kiss" => {
                 self.error(number, format!("{first} is not read here"));
             }
             ".cname" => match (rest.first(), self.frame.inner.last_mut(), self.design.gates.last_mut()) {
@@ -494,12 +499,15 @@ impl Reader<'_, '_> {
         let Some((&title, pairs)) = words.split_first() else {
             return self.error(number, "a cell without a type");
         };
+        if types.is_box(title) {
+            return self.boxed(number, title, pairs, types);
+        }
         let kind = match types.find(title) {
             Some(Ok(kind)) => kind,
             Some(Err(words)) => return self.error(number, format!("the type {title}: {words}")),
             None => match self.tree.place(title) {
                 Some(place) => return self.inner(number, place, pairs),
-                None => return self.error(number, format!("this cell {}", types.unknown(title))),
+                None => return self.unknown.add(title, "this cell", number),
             },
         };
         self.frame.inner_last = false;
@@ -513,11 +521,14 @@ impl Reader<'_, '_> {
                 continue;
             }
             let net = self.net(name);
-            if kind.inputs.iter().any(|other| other == pin) {
+            let reads = kind.inputs.iter().any(|other| other == pin);
+            if reads {
                 pins.insert(pin.to_string(), Source::Net(net));
-            } else if kind.outputs.iter().any(|cell| cell.output == pin) {
+            }
+            // A pin in both directions drives too.
+            if kind.outputs.iter().any(|cell| cell.output == pin) {
                 outputs.insert(pin.to_string(), net);
-            } else {
+            } else if !reads {
                 return self.error(number, format!("the type {title} has no pin {pin} with a function"));
             }
         }
@@ -544,6 +555,47 @@ impl Reader<'_, '_> {
         self.frame.inner_last = true;
     }
 
+    fn boxed(&mut self, number: usize, title: &str, pairs: &[&str], types: &Types) {
+        let mut pins = Vec::new();
+        for pair in pairs {
+            let Some((pin, name)) = pair.split_once('=') else {
+                return self.error(number, format!("{pair} is no PIN=NET"));
+            };
+            if !name.is_empty() {
+                pins.push((pin.to_string(), Source::Net(self.net(name)), types.drives(title, pin)));
+            }
+        }
+        self.design.box_pins += pins.len();
+        self.design.boxes.push(Boxed {
+            title: title.to_string(),
+            instance: self.frame.prefix.clone(),
+            pins,
+            line: number,
+        });
+    }
+
+    /// A latch of a genlib library: its pins, then its control and perhaps its initial value.
+    fn mlatch(&mut self, number: usize, words: &[&str], types: &mut Types) {
+        let pairs = words.iter().skip(1).take_while(|word| word.contains('=')).count();
+        let (Some(&title), Some(&control)) = (words.first(), words.get(1 + pairs)) else {
+            return self
+                .error(number, "a .mlatch has a type, PIN=NET pairs and its control: name the clock's net there");
+        };
+        if control == "NIL" {
+            return self.error(number, "a .mlatch without a control: name the clock's net in place of NIL");
+        }
+        if matches!(words.get(2 + pairs), Some(&("0" | "1"))) {
+            self.design.initial_values += 1;
+        }
+        let Some(pin) = types.written(title).map(|written| written.control().unwrap_or("").to_string()) else {
+            return self.unknown.add(title, "this cell", number);
+        };
+        let clocked = format!("{pin}={control}");
+        let mut given = words[..1 + pairs].to_vec();
+        given.push(&clocked);
+        self.cell(number, &given, types);
+    }
+
     fn finish(mut self, wanted: &Wanted) -> Design {
         let nets = &self.frame.nets;
         put_clock(&mut self.design, &self.clockless, wanted.clock, |name| nets.get(name).copied(), self.messages);
@@ -564,26 +616,28 @@ impl Reader<'_, '_> {
                 }
             }
         }
+        let undefined = self.name_undriven();
+        self.open_pins += undefined;
         if self.open_pins > 0 {
             self.messages
                 .warn(format!("{} pins are connected to nothing: open lines, which can never be set", self.open_pins));
         }
         if self.messages.errors() == 0 {
-            self.name_undriven();
             self.design.settle(self.lines, wanted.allow_open, self.messages);
         }
         self.design
     }
 
-    /// Yosys writes x as a net `$undef` that nothing drives, and constants as `$false` and `$true`.
-    fn name_undriven(&mut self) {
-        if let Some(&net) = self.frame.nets.get("$undef") {
-            let driven = self.design.wires.iter().any(|&(wire, _, _)| wire == net)
-                || self.design.gates.iter().any(|gate| gate.output == net);
-            if !driven {
-                self.design.wires.push((net, Source::Open, 0));
-            }
+    /// Yosys writes x as a net `$undef` that nothing drives: open, as x is in JSON. Answers how many pins read it.
+    fn name_undriven(&mut self) -> usize {
+        let Some(&net) = self.frame.nets.get("$undef") else { return 0 };
+        let driven = self.design.wires.iter().any(|&(wire, _, _)| wire == net)
+            || self.design.gates.iter().any(|gate| gate.output == net);
+        if driven {
+            return 0;
         }
+        self.design.wires.push((net, Source::Open, 0));
+        self.design.gates.iter().flat_map(|gate| &gate.pins).filter(|&&pin| pin == Source::Net(net)).count()
     }
 }
 

@@ -97,6 +97,11 @@ impl Tree {
             let mut own = block.gates;
             let mut below = Vec::new();
             for (title, &count) in &block.cells {
+                // What stays closed is not gone into.
+                if types.is_box(title) {
+                    own += count;
+                    continue;
+                }
                 match (types.find(title), self.places.get(title)) {
                     (Some(Ok(kind)), _) => own += count.saturating_mul(kind.outputs.len() as u64),
                     (None, Some(&place)) => below.push((place, count)),

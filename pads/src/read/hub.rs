@@ -1,6 +1,7 @@
 //! The hub that every reader fills: inputs, outputs, gates of one output each, and names.
 
 use crate::ask::archive::{lines_told, MOST_LINES};
+use crate::read::boxes::{self, Boxed};
 use crate::rows::cells::{Cell, Kind};
 use crate::show::cost::grouped;
 use crate::show::messages::Messages;
@@ -99,6 +100,11 @@ pub struct Design {
     /// The tree of blocks, and those that the analyser takes, for a chip of too many lines.
     pub tree: String,
     pub smaller: String,
+    /// Cells that stay closed, and their pins together.
+    pub boxes: Vec<Boxed>,
+    pub box_pins: usize,
+    /// Their types, once they have been put among inputs and outputs.
+    pub closed: Vec<String>,
 }
 
 /// Gates and nets that a reader takes at all; far above what the analyser does.
@@ -140,6 +146,8 @@ impl Design {
             || self.nets.len() > MOST_NETS
             || self.wires.len() > MOST_NETS
             || self.name_bytes > MOST_NAME_BYTES
+            || self.boxes.len() > MOST_GATES
+            || self.box_pins > MOST_NETS
     }
 
     pub fn add_net(&mut self) -> usize {
@@ -150,6 +158,7 @@ impl Design {
     /// Puts every wire's other name to its net, parts inout ports from their drivers, and finds nets with two drivers or
     /// none.
     pub fn settle(&mut self, lines: &Lines, allow_open: bool, messages: &mut Messages) {
+        boxes::open(self, lines, messages);
         self.join_wires(lines, messages);
         self.part_inouts();
         let drivers = self.drivers(lines, messages);

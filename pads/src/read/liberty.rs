@@ -4,6 +4,7 @@ use crate::ask::archive::MOST_PINS;
 use crate::read::expr::Expr;
 use crate::rows::cells::{Cell, Kind};
 use crate::rows::registers::{Driver, Function, Register};
+use crate::rows::types::inner;
 use crate::rows::Table;
 use crate::show::messages::Messages;
 use std::collections::HashMap;
@@ -14,6 +15,13 @@ use std::rc::Rc;
 pub struct Written {
     pins: Vec<Pin>,
     state: Option<State>,
+    table: Option<StateTable>,
+    /// The style of an integrated clock gate.
+    gating: Option<String>,
+    /// Buses with their directions.
+    buses: Vec<(String, String)>,
+    /// The control pin of a genlib latch.
+    control: Option<String>,
     /// Something that has no rows here.
     odd: Option<&'static str>,
 }
@@ -24,6 +32,19 @@ struct Pin {
     direction: String,
     function: Option<String>,
     three_state: Option<String>,
+    /// The function over pins and a statetable's node.
+    state_function: Option<String>,
+    internal_node: Option<String>,
+    /// What it is to a clock gate: clock, enable, test or out.
+    gate_role: Option<&'static str>,
+}
+
+/// `statetable ("CK E", "IQ") { table : "L L : - : L, .." }`.
+#[derive(Clone, Debug, Default)]
+struct StateTable {
+    inputs: Vec<String>,
+    nodes: Vec<String>,
+    rows: String,
 }
 
 #[derive(Clone, Debug, Default)]
@@ -226,7 +247,7 @@ impl Reader<'_> {
                                 cell = Some((title, open.len(), Written::default()));
                             } else if let Some((_, depth, written)) = &mut cell {
                                 if open.len() == *depth + 1 {
-                                    pins += usize::from(name == "pin");
+                                    pins += usize::from(["pin", "bus", "bundle"].contains(&name.as_str()));
                                     if pins > MOST_PINS_WRITTEN {
                                         return Err("more than 200,000 pins".to_string());
                                     }
@@ -325,14 +346,25 @@ fn take_group(cell: &mut Written, name: &str, arguments: Vec<String>) {
             cell.state = Some(State { latch: name == "latch", names: [argument(0), argument(1)], ..State::default() });
         }
         "ff_bank" | "latch_bank" => cell.odd = Some("a bank of registers"),
-        "statetable" => cell.odd = Some("a statetable"),
-        "bus" | "bundle" => cell.odd = Some("a bus or bundle of pins"),
+        "statetable" if cell.table.is_some() => cell.odd = Some("two statetables"),
+        "statetable" => {
+            let words = |at: usize| argument(at).split_whitespace().map(str::to_string).collect();
+            cell.table = Some(StateTable { inputs: words(0), nodes: words(1), rows: String::new() });
+        }
+        "bus" | "bundle" => {
+            cell.odd = Some("a bus or bundle of pins");
+            cell.buses.push((argument(0), String::new()));
+        }
         _ => {}
     }
 }
 
 /// `open` begins with the cell's own group.
 fn take_attribute(cell: &mut Written, open: &[(usize, String)], name: &str, value: String) {
+    if open.len() == 1 && name == "clock_gating_integrated_cell" {
+        cell.gating = Some(value);
+        return;
+    }
     let [_, group] = open else { return };
     match group.1.as_str() {
         "pin" => {
@@ -341,7 +373,23 @@ fn take_attribute(cell: &mut Written, open: &[(usize, String)], name: &str, valu
                 "direction" => pin.direction = value,
                 "function" => pin.function = Some(value),
                 "three_state" => pin.three_state = Some(value),
+                "state_function" => pin.state_function = Some(value),
+                "internal_node" => pin.internal_node = Some(value),
+                "clock_gate_clock_pin" if value == "true" => pin.gate_role = Some("clock"),
+                "clock_gate_enable_pin" if value == "true" => pin.gate_role = Some("enable"),
+                "clock_gate_test_pin" if value == "true" => pin.gate_role = Some("test"),
+                "clock_gate_out_pin" if value == "true" => pin.gate_role = Some("out"),
                 _ => {}
+            }
+        }
+        "bus" | "bundle" if name == "direction" => {
+            if let Some((_, direction)) = cell.buses.last_mut() {
+                *direction = value;
+            }
+        }
+        "statetable" if name == "table" => {
+            if let Some(table) = cell.table.as_mut() {
+                table.rows = value;
             }
         }
         "ff" | "latch" => {
@@ -357,6 +405,56 @@ fn take_attribute(cell: &mut Written, open: &[(usize, String)], name: &str, valu
 pub type Made = Result<(Vec<Rc<Cell>>, Vec<String>), String>;
 
 impl Written {
+    fn of(inputs: Vec<String>, output: &str, function: &str) -> Written {
+        let pin = |name: String| Pin { name, direction: "input".to_string(), ..Pin::default() };
+        let mut pins: Vec<Pin> = inputs.into_iter().map(pin).collect();
+        let (name, function) = (output.to_string(), Some(function.to_string()));
+        pins.push(Pin { name, direction: "output".to_string(), function, ..Pin::default() });
+        Written { pins, ..Written::default() }
+    }
+
+    /// A gate of one output.
+    pub fn plain(inputs: Vec<String>, output: &str, function: &str) -> Written {
+        Written::of(inputs, output, function)
+    }
+
+    /// A register or latch of one output; `state` names its old value.
+    pub fn register(
+        mut inputs: Vec<String>,
+        output: &str,
+        next: &str,
+        latch: bool,
+        active: bool,
+        control: &str,
+        state: &str,
+    ) -> Written {
+        inputs.push(control.to_string());
+        let [data, clock] = if latch { ["data_in", "enable"] } else { ["next_state", "clocked_on"] };
+        let turned = format!("{}\"{control}\"", if active { "" } else { "!" });
+        let attributes = [(data.to_string(), next.to_string()), (clock.to_string(), turned)].into_iter().collect();
+        let state = State { latch, names: [state.to_string(), String::new()], attributes };
+        let function = format!("\"{}\"", state.names[0]);
+        let control = Some(control.to_string());
+        Written { state: Some(state), control, ..Written::of(inputs, output, &function) }
+    }
+
+    /// The control pin of a genlib latch.
+    pub fn control(&self) -> Option<&str> {
+        self.control.as_deref()
+    }
+
+    /// Whether a pin, or the bus that it is a bit of, drives; None where that is not said.
+    pub fn drives(&self, pin: &str) -> Option<bool> {
+        let own = self.pins.iter().find(|other| other.name == pin).map(|own| own.direction.as_str());
+        let of = pin.split('[').next().unwrap_or(pin);
+        let bus = || self.buses.iter().find(|(name, _)| name == of).map(|(_, direction)| direction.as_str());
+        match own.or_else(bus)? {
+            "output" => Some(true),
+            "input" => Some(false),
+            _ => None,
+        }
+    }
+
     pub fn cells(&self, title: &str) -> Made {
         if let Some(odd) = self.odd {
             return Err(format!("the cell {title} has {odd}, which has no rows here"));
@@ -364,20 +462,28 @@ impl Written {
         let inputs: Vec<String> = self
             .pins
             .iter()
-            .filter(|pin| pin.direction == "input" || pin.direction == "inout" && pin.function.is_none())
+            .filter(|pin| pin.direction == "input" || pin.direction == "inout")
             .map(|pin| pin.name.clone())
             .collect();
+        let told = |pin: &str, words: String| format!("the cell {title}, pin {pin}: {words}");
+        let make = |pins: Vec<String>, output: &str, kind: Kind| {
+            Rc::new(Cell { title: title.to_string(), pins, output: output.to_string(), kind })
+        };
         let mut cells = Vec::new();
+        for node in self.inner_nodes() {
+            let (pins, kind) =
+                self.inner_register(&inputs, &node).map_err(|words| format!("the cell {title}: {words}"))?;
+            cells.push(make(pins, &inner(&node), kind));
+        }
         for pin in &self.pins {
-            let Some(function) = &pin.function else { continue };
+            let function = self.shown_function(pin);
+            let Some(function) = &function else { continue };
             if pin.direction == "input" || pin.direction == "internal" {
                 continue;
             }
-            let cell = self
-                .output(&inputs, function, pin.three_state.as_deref())
-                .map_err(|words| format!("the cell {title}, pin {}: {words}", pin.name))?;
-            let (pins, kind) = cell;
-            cells.push(Rc::new(Cell { title: title.to_string(), pins, output: pin.name.clone(), kind }));
+            let (pins, kind) =
+                self.output(&inputs, function, pin.three_state.as_deref()).map_err(|words| told(&pin.name, words))?;
+            cells.push(make(pins, &pin.name, kind));
         }
         let outputs = self.pins.iter().filter(|pin| pin.direction == "output" || pin.direction == "inout");
         if cells.is_empty() && outputs.count() > 0 {
@@ -395,7 +501,7 @@ impl Written {
         let function = Expr::parse(function)?;
         let names = function.names();
         if let Some(state) = &self.state {
-            if names.iter().any(|name| state.names.contains(name)) {
+            if names.iter().any(|name| state.names.contains(name)) && !mixes(state, &names) {
                 if three_state.is_some() {
                     return Err("a register with a three-state output has no rows here".to_string());
                 }
@@ -409,15 +515,196 @@ impl Written {
                 used.push(name);
             }
         }
-        let pins = in_order(inputs, &used)?;
-        let table =
-            |expr: &Expr, turned: bool| Table::of(pins.len(), |s| expr.value(&|name| bit_of(&pins, s, name)) != turned);
+        // A register inside the cell is a pin of this function, at its value or its inverse.
+        let nodes = self.inner_nodes();
+        let inverse = self.state.as_ref().map_or("", |state| state.names[1].as_str());
+        let mut known = inputs.to_vec();
+        known.extend(nodes.iter().cloned());
+        for name in &mut used {
+            if name == inverse && !nodes.is_empty() {
+                *name = nodes[0].clone();
+            }
+        }
+        used.dedup();
+        let pins = in_order(&known, &used)?;
+        let value = |s: u32, name: &str| {
+            if name == inverse && !nodes.is_empty() {
+                !bit_of(&pins, s, &nodes[0])
+            } else {
+                bit_of(&pins, s, name)
+            }
+        };
+        let table = |expr: &Expr, turned: bool| Table::of(pins.len(), |s| expr.value(&|name| value(s, name)) != turned);
         let data = table(&function, false);
         let kind = match off {
             None => Kind::Table(data),
             Some(off) => Kind::Driver(Driver { data, enable: table(&off, true) }),
         };
-        Ok((pins, kind))
+        let shown = |pin: &String| if nodes.contains(pin) { inner(pin) } else { pin.clone() };
+        Ok((pins.iter().map(shown).collect(), kind))
+    }
+
+    /// What an output shows: its function, over a statetable's node too, or what a clock gate does by its style.
+    fn shown_function(&self, pin: &Pin) -> Option<String> {
+        let node = pin.internal_node.clone().filter(|_| pin.direction == "output");
+        let shown = pin.function.clone().or_else(|| pin.state_function.clone()).or(node);
+        if shown.is_some() || pin.gate_role != Some("out") || self.gating.is_none() {
+            return shown;
+        }
+        let clock = self.role("clock")?;
+        Some(match (self.role("test"), self.style("_postcontrol")) {
+            (Some(test), true) => format!("\"{clock}\" & ({GATE_NODE} | \"{test}\")"),
+            _ => format!("\"{clock}\" & {GATE_NODE}"),
+        })
+    }
+
+    fn style(&self, word: &str) -> bool {
+        self.gating.as_ref().is_some_and(|style| style.contains(word))
+    }
+
+    fn role(&self, role: &str) -> Option<&str> {
+        self.pins.iter().find(|pin| pin.gate_role == Some(role)).map(|pin| pin.name.as_str())
+    }
+
+    /// Registers that an output reads beside pins.
+    fn inner_nodes(&self) -> Vec<String> {
+        if let Some(table) = &self.table {
+            return table.nodes.clone();
+        }
+        if let Some(state) = &self.state {
+            let mixed = self
+                .pins
+                .iter()
+                .filter_map(|pin| self.shown_function(pin))
+                .any(|function| Expr::parse(&function).is_ok_and(|expr| mixes(state, &expr.names())));
+            return if mixed { vec![state.names[0].clone()] } else { Vec::new() };
+        }
+        let by_style = self.gating.is_some() && !self.pins.iter().any(|pin| pin.function.is_some());
+        if by_style {
+            vec![GATE_NODE.to_string()]
+        } else {
+            Vec::new()
+        }
+    }
+
+    fn inner_register(&self, inputs: &[String], node: &str) -> Result<(Vec<String>, Kind), String> {
+        if let Some(table) = &self.table {
+            return table.latch(inputs);
+        }
+        if let Some(state) = &self.state {
+            return state.register(inputs, &Expr::Name(node.to_string()));
+        }
+        let style = self.gating.as_deref().unwrap_or("");
+        if !style.starts_with("latch_posedge") {
+            return Err(format!(
+                "the clock gate {style} has no rows here: give the cell a statetable or a latch, and its output a function"
+            ));
+        }
+        let missing = |role: &str| format!("its clock gate has no pin with clock_gate_{role}_pin");
+        let clock = self.role("clock").ok_or_else(|| missing("clock"))?;
+        let enable = self.role("enable").ok_or_else(|| missing("enable"))?;
+        let data = match self.role("test") {
+            Some(test) if self.style("_precontrol") => format!("\"{enable}\" | \"{test}\""),
+            _ => format!("\"{enable}\""),
+        };
+        let attributes = [("data_in", data), ("enable", format!("!\"{clock}\""))];
+        let attributes = attributes.map(|(name, value)| (name.to_string(), value)).into_iter().collect();
+        let state = State { latch: true, names: [node.to_string(), String::new()], attributes };
+        state.register(inputs, &Expr::Name(node.to_string()))
+    }
+}
+
+/// The node of a clock gate that has its style alone.
+const GATE_NODE: &str = "gate_latch";
+
+fn mixes(state: &State, names: &[String]) -> bool {
+    let own = |name: &String| state.names.contains(name);
+    names.iter().any(own) && !names.iter().all(own)
+}
+
+impl StateTable {
+    /// The latch that the table is: at one value of a pin it holds, at the other it follows the other pins.
+    fn latch(&self, inputs: &[String]) -> Result<(Vec<String>, Kind), String> {
+        if self.nodes.len() != 1 {
+            return Err("a statetable of several nodes has no rows here: give the cell ff or latch groups".to_string());
+        }
+        let pins = in_order(inputs, &self.inputs)?;
+        let n = pins.len();
+        let mut rows = Vec::new();
+        for row in self.rows.split(',').filter(|row| !row.trim().is_empty()) {
+            let parts: Vec<Vec<&str>> = row.split(':').map(|part| part.split_whitespace().collect()).collect();
+            let [values, old, next] = parts.as_slice() else {
+                return Err(format!("its statetable has the row '{}', which is no INPUTS : NODE : NEXT", row.trim()));
+            };
+            let edge = |word: &&str| !["L", "H", "-", "L/H", "H/L"].contains(word);
+            if let Some(word) = values.iter().chain(old).find(|word| edge(word)) {
+                return Err(format!(
+                    "its statetable has '{word}', an edge, which has no rows here: give the cell an ff group"
+                ));
+            }
+            if values.len() != self.inputs.len() || old.len() != 1 || next.len() != 1 {
+                return Err(format!("its statetable's row '{}' has not a value for each pin", row.trim()));
+            }
+            if !["L", "H", "N"].contains(&next[0]) {
+                return Err(format!("its statetable gives '{}', which has no rows here", next[0]));
+            }
+            rows.push((values.clone(), old[0], next[0]));
+        }
+        let fits = |word: &str, bit: bool| match word {
+            "L" => !bit,
+            "H" => bit,
+            _ => true,
+        };
+        // The first row that fits; what no row says is no latch.
+        let next = |s: u32| -> Option<bool> {
+            let old = s >> n & 1 == 1;
+            let (_, _, next) = rows.iter().find(|(values, own, _)| {
+                let pins_fit = self.inputs.iter().zip(values).all(|(pin, word)| fits(word, bit_of(&pins, s, pin)));
+                pins_fit && fits(own, old)
+            })?;
+            Some(match *next {
+                "L" => false,
+                "H" => true,
+                _ => old,
+            })
+        };
+        let all: Vec<Option<bool>> = (0..2u32 << n).map(next).collect();
+        if all.contains(&None) {
+            return Err(
+                "its statetable leaves settings out, which has no rows here: give the cell a latch group".to_string()
+            );
+        }
+        let at = |s: u32| all[s as usize] == Some(true);
+        let is_gate = |pin: usize, active: bool| {
+            (0..1u32 << n).all(|s| {
+                let (low, high) = (at(s), at(s | 1 << n));
+                if (s >> pin & 1 == 1) == active {
+                    low == high
+                } else {
+                    !low && high
+                }
+            })
+        };
+        let found = (0..n).flat_map(|pin| [(pin, false), (pin, true)]).find(|&(pin, active)| is_gate(pin, active));
+        let Some((clock, active)) = found else {
+            return Err(
+                "its statetable is no latch with one gate pin, which has no rows here: give the cell ff or latch \
+                        groups"
+                    .to_string(),
+            );
+        };
+        let open = |s: u32| if active { s | 1 << clock } else { s & !(1 << clock) };
+        let register = Register {
+            pins: n,
+            clock,
+            active,
+            latch: true,
+            clear: Function::of(n, |_| false),
+            preset: Function::of(n, |_| false),
+            next: Function::of(n + 1, |s| at(open(s))),
+            inverted: false,
+        };
+        Ok((pins, Kind::Register(register)))
     }
 }
 
@@ -523,6 +810,49 @@ mod tests {
         cell (GATED) { latch(IQ,IQN) { data_in:\"D\"; enable:\"G E\"; } pin(D){direction:input;} pin(G){direction:input;}
           pin(E){direction:input;} pin(Q){direction:output;function:\"IQ\";} }
         }";
+
+    const GATES: &str = r#"library(gates) {
+        cell (ICG) { clock_gating_integrated_cell : "latch_posedge_precontrol";
+          statetable("CK E TE", "IQ") { table : "L L L : - : L , L H - : - : H , L L H : - : H , \
+ H - - : - : N "; }
+          pin(CK) {direction:input; clock_gate_clock_pin:true;} pin(E) {direction:input; clock_gate_enable_pin:true;}
+          pin(TE) {direction:input; clock_gate_test_pin : true;} pin(IQ) {direction:internal; internal_node:"IQ";}
+          pin(GCK) {direction:output; clock_gate_out_pin:true; state_function:"CK * IQ";} }
+        cell (ICGL) { latch(IQ,IQN) { enable:"!CK"; data_in:"E + TE"; } pin(CK) {direction:input;} pin(E) {direction:input;}
+          pin(TE) {direction:input;} pin(GCK) {direction:output; function:"CK & !IQN";} }
+        cell (ICGS) { clock_gating_integrated_cell : latch_posedge_precontrol; pin(CK) {direction:input; clock_gate_clock_pin:true;}
+          pin(E) {direction:input; clock_gate_enable_pin:true;} pin(TE) {direction:input; clock_gate_test_pin : true;}
+          pin(GCK) {direction:output; clock_gate_out_pin:true;} }
+        cell (ICGE) { statetable("CK D", "IQ") { table : "R L : - : L, R H : - : H, ~R - : - : N"; } pin(CK) {direction:input;}
+          pin(D) {direction:input;} pin(Q) {direction:output; internal_node:"IQ";} }
+        cell (IOPAD) { pin(A) {direction:input;} pin(EN) {direction:input;} pin(Y) {direction:output; function:"PAD";}
+          pin(PAD) {direction:inout; function:"A"; three_state:"!EN";} }
+        }"#;
+
+    #[test]
+    fn clock_gates_and_pads() {
+        let (library, said) = library(GATES);
+        assert_eq!(said, "");
+        // A clock gate in three forms: a latch that is open at clock 0, and an AND.
+        for name in ["ICG", "ICGL", "ICGS"] {
+            let (cells, inputs) = library.cells[name].cells(name).unwrap();
+            assert_eq!(inputs, ["CK", "E", "TE"], "{name}");
+            let [latch, gate] = &cells[..] else { panic!("{name}") };
+            assert!(latch.output.starts_with('(') && gate.pins == ["CK", &latch.output], "{name}: {gate:?}");
+            let Kind::Register(register) = &latch.kind else { panic!("{name}") };
+            assert!(register.latch && !register.active && register.clock == 0, "{name}");
+            let whole = |s: u32| if s & 1 == 1 { s >> 3 & 1 == 1 } else { s & 6 != 0 };
+            for s in (0..16).filter(|s| s & 1 == 0) {
+                assert_eq!(register.next.at(s), whole(s), "{name}");
+            }
+            let Kind::Table(table) = &gate.kind else { panic!("{name}") };
+            assert_eq!(table.digits(), "0001", "{name}");
+        }
+        assert!(library.cells["ICGE"].cells("ICGE").unwrap_err().contains("an edge"));
+        // A pad: what it drives, and what it reads.
+        let (cells, inputs) = library.cells["IOPAD"].cells("IOPAD").unwrap();
+        assert_eq!((cells.len(), inputs.len()), (2, 3));
+    }
 
     #[test]
     fn cells_of_a_library() {

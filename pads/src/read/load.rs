@@ -4,7 +4,7 @@ use crate::ask::archive::refusal_told;
 use crate::ask::model::Model;
 use crate::read::hub::{Design, Lines};
 use crate::read::names::{self, LineKind};
-use crate::read::{bench, blif, blocks, liberty, native, structural, verilog, yosys};
+use crate::read::{bench, blif, blocks, genlib, liberty, native, prices, structural, verilog, yosys};
 use crate::rows::types::Types;
 use crate::rows::writer::{self, Texts};
 use crate::show::cost::grouped;
@@ -21,6 +21,10 @@ pub struct Source {
     pub top: Option<String>,
     pub clock: Option<String>,
     pub open: bool,
+    /// Types of cells that stay closed.
+    pub boxes: Vec<String>,
+    /// The file with prices of inputs.
+    pub price: Option<String>,
 }
 
 pub struct Loaded {
@@ -32,6 +36,9 @@ pub struct Loaded {
 /// Reads a source; every error is in the messages.
 pub fn load(source: &Source, messages: &mut Messages) -> Result<Loaded, Stop> {
     if Path::new(&source.path).is_dir() {
+        if source.price.is_some() || !source.boxes.is_empty() {
+            messages.warn("--price and --box are not used: a folder has its ranges and its inputs in net.txt");
+        }
         let model = native::read(&source.path, messages)?;
         return Ok(Loaded { model, texts: None });
     }
@@ -41,6 +48,9 @@ pub fn load(source: &Source, messages: &mut Messages) -> Result<Loaded, Stop> {
     }
     let mut texts = writer::write(&mut design, messages)?;
     names::shorten(&mut texts.names, &texts.net);
+    if let Some(file) = &source.price {
+        prices::put(file, &mut texts, messages)?;
+    }
     let file = source.path.rsplit('/').next().unwrap_or("");
     let stem = file.rsplit_once('.').map_or(file, |(stem, _)| stem);
     let title = if design.name.is_empty() { stem.to_string() } else { design.name.clone() };
@@ -48,6 +58,7 @@ pub fn load(source: &Source, messages: &mut Messages) -> Result<Loaded, Stop> {
     match Model::new(&title, bytes(&texts.lib), bytes(&texts.net), texts.names.clone()) {
         Ok(mut model) => {
             model.block = design.block;
+            model.closed = design.closed.iter().map(|title| shown_name(title)).collect();
             tell(&model, messages);
             Ok(Loaded { model, texts: Some(texts) })
         }
@@ -71,18 +82,20 @@ pub fn read(source: &Source, messages: &mut Messages) -> Result<Design, Stop> {
     let mut libraries = Vec::new();
     for file in &source.libraries {
         let text = text::read(file, liberty::MOST_BYTES, messages)?;
-        libraries.push(liberty::read(file, &text, messages));
+        let genlib = file.ends_with(".genlib") || genlib::is_one(&text);
+        libraries.push(if genlib { genlib::read } else { liberty::read }(file, &text, messages));
     }
     if messages.errors() > 0 {
         return Err(Stop::Refused);
     }
     let mut types = Types::new(libraries);
+    types.boxes = source.boxes.iter().map(|title| (title.clone(), false)).collect();
     let wanted = blif::Wanted { top: source.top.as_deref(), clock: source.clock.as_deref(), allow_open: source.open };
     let by_json = yosys::Wanted { top: source.top.as_deref(), allow_open: source.open };
     if source.top.is_some() && !["json", "blif", "v", "sv"].contains(&format) {
         messages.warn(format!("--top is not used: a .{format} file has one block"));
     }
-    match format {
+    let design = match format {
         "json" => {
             let text = text::read(path, blocks::MOST_BYTES, messages)?;
             yosys::read(path, &text, &by_json, &mut types, messages)
@@ -99,7 +112,11 @@ pub fn read(source: &Source, messages: &mut Messages) -> Result<Design, Stop> {
         _ => Err(Stop::Usage(format!(
             "{path}: is neither a folder nor a netlist by its ending (.json, .blif, .bench, .v); --format says which it is"
         ))),
+    };
+    for (title, _) in types.boxes.iter().filter(|(_, met)| !met) {
+        messages.warn(format!("--box {title} is not used: no cell has this type"));
     }
+    design
 }
 
 /// Structural Verilog is read here, the rest by Yosys where it is installed.
@@ -180,13 +197,14 @@ pub fn summary(path: &str, model: &Model) -> String {
     }
     let outputs = model.lines().filter(|&line| model.is_output[line]).count();
     format!(
-        "{}: {}, {} ({}), {}, {}{}",
+        "{}: {}, {} ({}), {}, {}{}{}",
         shown_name(path),
         model.title,
         many(model.names.len(), "line"),
         kinds.join(", "),
         many(outputs, "output"),
         many(model.cells.len(), "cell"),
+        if model.closed.is_empty() { String::new() } else { format!("; closed: {}", model.closed.join(", ")) },
         if model.ranges { "; numbers at LOW of the ranges" } else { "" }
     )
 }

@@ -3,8 +3,10 @@
 pub mod bench;
 pub mod blif;
 pub mod blocks;
+pub mod boxes;
 pub mod csv;
 pub mod expr;
+pub mod genlib;
 pub mod hub;
 pub mod json;
 pub mod liberty;
@@ -12,6 +14,7 @@ pub mod load;
 pub mod modules;
 pub mod names;
 pub mod native;
+pub mod prices;
 pub mod structural;
 pub mod verilog;
 pub mod yosys;

@@ -15,6 +15,8 @@ pub enum LineKind {
     Open,
     /// Inside a split gate.
     Part,
+    /// A names.csv without this column does not say it.
+    Unsaid,
 }
 
 impl LineKind {
@@ -107,15 +109,23 @@ pub fn read(file: &str, text: &str, messages: &mut Messages) -> Vec<Name> {
     };
     let mut names: Vec<Name> = Vec::new();
     let mut at_line = vec![0usize; MOST_LINES + 1];
+    let mut records = records.into_iter().peekable();
+    // Without a head the fields are those of a file that was written here.
+    let mut columns: Vec<String> = HEAD.map(str::to_string).to_vec();
+    if let Some((number, head)) = records.next_if(|(_, fields)| is_head(fields)) {
+        if let Err(words) = known_columns(&head) {
+            messages.error_at(file, number, text.lines().nth(number - 1).unwrap_or(""), words);
+            return Vec::new();
+        }
+        columns = head;
+    }
     for (number, fields) in records {
         let shown = text.lines().nth(number - 1).unwrap_or("");
-        let wrong = match read_one(&fields) {
-            Ok(None) if number == 1 => None,
-            Ok(None) => Some("the head stands twice".to_string()),
-            Ok(Some(name)) if at_line[name.line] > 0 => {
+        let wrong = match read_one(&columns, &fields) {
+            Ok(name) if at_line[name.line] > 0 => {
                 Some(format!("line {} has its name already, on line {} of this file", name.line, at_line[name.line]))
             }
-            Ok(Some(name)) => {
+            Ok(name) => {
                 at_line[name.line] = number;
                 names.push(name);
                 None
@@ -129,34 +139,60 @@ pub fn read(file: &str, text: &str, messages: &mut Messages) -> Vec<Name> {
     names
 }
 
-/// None for the head.
-fn read_one(fields: &[String]) -> Result<Option<Name>, String> {
-    if fields == HEAD {
-        return Ok(None);
+fn is_head(fields: &[String]) -> bool {
+    fields.iter().any(|field| field == "line") && fields.iter().any(|field| field == "net")
+}
+
+fn known_columns(head: &[String]) -> Result<(), String> {
+    for (at, word) in head.iter().enumerate() {
+        if !HEAD.contains(&word.as_str()) {
+            return Err(format!(
+                "'{word}' is no column; there are {}, of which line and net are enough",
+                HEAD.join(",")
+            ));
+        }
+        if head[..at].contains(word) {
+            return Err(format!("the column '{word}' stands twice"));
+        }
     }
-    let [line, net, kind, cell, instance, output, pins, aliases, source] = fields else {
-        return Err(format!("{} fields, a line of names has {}: {}", fields.len(), HEAD.len(), HEAD.join(",")));
-    };
+    Ok(())
+}
+
+fn read_one(columns: &[String], fields: &[String]) -> Result<Name, String> {
+    if is_head(fields) {
+        return Err("the head stands twice".to_string());
+    }
+    if fields.len() != columns.len() {
+        return Err(format!("{} fields, a line of names has {}: {}", fields.len(), columns.len(), columns.join(",")));
+    }
+    let field = |word: &str| columns.iter().position(|column| column == word).map_or("", |at| fields[at].as_str());
+    let line = field("line");
     let line: usize = line.parse().map_err(|_| format!("'{line}' is no line number"))?;
     if !(1..=MOST_LINES).contains(&line) {
         return Err(format!("line number {line} is not 1 to {}", grouped(MOST_LINES as u64)));
     }
-    let kind = LineKind::read(kind).ok_or_else(|| format!("'{kind}' is no kind of line"))?;
-    if net.is_empty() {
+    let given = columns.iter().any(|column| column == "kind");
+    let kind = match LineKind::read(field("kind")) {
+        Some(kind) => Some(kind),
+        None if given => return Err(format!("'{}' is no kind of line", field("kind"))),
+        None => None,
+    };
+    if field("net").is_empty() {
         return Err("the net has no name".to_string());
     }
     let words = |text: &str| text.split(' ').filter(|word| !word.is_empty()).map(str::to_string).collect();
-    Ok(Some(Name {
+    Ok(Name {
         line,
-        net: net.clone(),
-        kind,
-        cell: cell.clone(),
-        instance: instance.clone(),
-        output: output == "1",
-        pins: words(pins),
-        aliases: words(aliases),
-        source: source.clone(),
-    }))
+        net: field("net").to_string(),
+        // The model says which it is where the file does not.
+        kind: kind.unwrap_or(LineKind::Unsaid),
+        cell: field("cell").to_string(),
+        instance: field("instance").to_string(),
+        output: field("output") == "1",
+        pins: words(field("pins")),
+        aliases: words(field("aliases")),
+        source: field("source").to_string(),
+    })
 }
 
 /// Whether a pattern with `*` (any bytes) fits a name.
@@ -453,6 +489,28 @@ mod tests {
                     2,b,gate,,,0,,,\n2,c,gate,,,0,,,\n3,,gate,,,0,,,\n";
         read("names.csv", text, &mut messages);
         assert_eq!(messages.errors(), 5);
+    }
+
+    #[test]
+    fn a_head_of_two_words_is_enough() {
+        let mut messages = Messages::new();
+        let names = read("names.csv", "net,line\na,3\n\"b,c\",4\n", &mut messages);
+        assert_eq!(messages.text(), "");
+        let told: Vec<(usize, &str, LineKind)> =
+            names.iter().map(|name| (name.line, name.net.as_str(), name.kind)).collect();
+        assert_eq!(told, [(3, "a", LineKind::Unsaid), (4, "b,c", LineKind::Unsaid)]);
+        for (text, words) in [
+            ("line,net,colour\n1,a,red\n", "'colour' is no column"),
+            ("line,net,net\n1,a,b\n", "stands twice"),
+            ("line,net\n1,a\nline,net\n", "the head stands twice"),
+            ("line,net\n1,a,b\n", "3 fields, a line of names has 2: line,net"),
+            ("line,net\n1,\n", "no name"),
+            ("1,a\n", "2 fields"),
+        ] {
+            let mut messages = Messages::new();
+            read("names.csv", text, &mut messages);
+            assert!(messages.text().contains(words), "{text}: {}", messages.text());
+        }
     }
 
     #[test]

@@ -1,10 +1,11 @@
 //! Netlists as Yosys writes them in JSON, flattened below the chip.
 
 use crate::read::blocks::{Block, Tree};
+use crate::read::boxes::Boxed;
 use crate::read::hub::{too_many, Design, Lines, Source};
 use crate::read::json::{self, Value, Wrong};
 use crate::rows::cells::{Cell, Kind};
-use crate::rows::types::{add_gates, Place, Type, Types};
+use crate::rows::types::{add_gates, Place, Type, Types, Unknown};
 use crate::rows::Table;
 use crate::show::messages::Messages;
 use crate::show::text::Stop;
@@ -51,7 +52,7 @@ pub fn read(
         modules[at] = Some(module);
     }
     let mut reader =
-        Reader { file, tree: &tree, modules: &modules, design, messages, open_pins: 0, unknown: Vec::new() };
+        Reader { file, tree: &tree, modules: &modules, design, messages, open_pins: 0, unknown: Unknown::default() };
     reader.chip(top, types);
     let (mut design, open) = (reader.design, reader.open_pins);
     if open > 0 {
@@ -144,8 +145,7 @@ struct Reader<'a, 'b, 'm> {
     design: Design,
     messages: &'m mut Messages,
     open_pins: usize,
-    /// Types that are not known: the first cell of each, the words, and how many cells more.
-    unknown: Vec<(String, String, String, usize)>,
+    unknown: Unknown,
 }
 
 /// An instance of a block: what stands before its names, and what each bit is in the chip.
@@ -193,10 +193,7 @@ impl<'a, 'b> Reader<'a, 'b, '_> {
         if self.design.full() {
             self.messages.error(self.file, too_many());
         }
-        for (_, who, words, more) in std::mem::take(&mut self.unknown) {
-            let more = if more > 0 { format!(" and {more} more") } else { String::new() };
-            self.messages.error(self.file, format!("{who}{more} {words}"));
-        }
+        std::mem::take(&mut self.unknown).tell(types, |_, words| self.messages.error(self.file, words));
     }
 
     /// The nets and cells of a block, whose ports are bound.
@@ -323,6 +320,9 @@ impl<'a, 'b> Reader<'a, 'b, '_> {
         let source = cell.get("attributes").and_then(|all| all.get("src")).and_then(Value::text).unwrap_or("");
         let name = format!("{}{name}", frame.prefix);
         let who = if source.is_empty() { format!("cell {name}") } else { format!("cell {name} ({source})") };
+        if types.is_box(title) {
+            return self.boxed(&name, title, cell, &who, frame, types);
+        }
         let kind = if title == "$lut" { Some(lut(cell)) } else { types.find(title) };
         let kind = match kind {
             Some(Ok(kind)) => kind,
@@ -333,7 +333,7 @@ impl<'a, 'b> Reader<'a, 'b, '_> {
             None => {
                 match self.tree.place(title) {
                     Some(block) => self.instance(&name, &who, cell, block, frame, types),
-                    None => self.unknown(&who, title, cell, types),
+                    None => self.unknown(&who, title, cell),
                 }
                 return;
             }
@@ -346,9 +346,12 @@ impl<'a, 'b> Reader<'a, 'b, '_> {
             for (at, bit) in bits.iter().enumerate() {
                 let pin = if bits.len() == 1 && title != "$lut" { pin.to_string() } else { format!("{pin}[{at}]") };
                 let source = self.source(bit, frame);
-                if kind.inputs.contains(&pin) {
-                    pins.insert(pin, source);
-                } else if kind.outputs.iter().any(|cell| cell.output == pin) {
+                let reads = kind.inputs.contains(&pin);
+                if reads {
+                    pins.insert(pin.clone(), source);
+                }
+                // A pin in both directions drives too.
+                if kind.outputs.iter().any(|cell| cell.output == pin) {
                     match source {
                         Source::Net(net) => {
                             outputs.insert(pin, net);
@@ -359,13 +362,37 @@ impl<'a, 'b> Reader<'a, 'b, '_> {
                         }
                         Source::Open => {}
                     }
-                } else if matches!(source, Source::Net(_)) {
+                } else if !reads && matches!(source, Source::Net(_)) {
                     let words = format!("{who} has the type {title}, which has no pin {pin} with a function");
                     self.messages.error(self.file, words);
                 }
             }
         }
         self.open_pins += add_gates(&mut self.design, &kind, &place, &pins, &outputs);
+    }
+
+    /// A cell that stays closed; its directions are the cell's own, the block's or a library's.
+    fn boxed(&mut self, name: &str, title: &str, cell: &Value, who: &str, frame: &mut Frame, types: &Types) {
+        let module = self.tree.place(title).and_then(|at| self.modules[at].as_ref());
+        let ports = module.and_then(|module| module.get("ports"));
+        let mut pins = Vec::new();
+        for (pin, bits) in self.members(cell, "connections", who) {
+            let own = cell.get("port_directions").and_then(|all| all.get(pin)).and_then(Value::text);
+            let port = ports.and_then(|ports| ports.get(pin)).and_then(|port| port.get("direction"));
+            let drives = match own.or(port.and_then(Value::text)) {
+                Some("output") => Some(true),
+                Some("input") => Some(false),
+                _ => types.drives(title, pin),
+            };
+            let bits = self.bits(Some(bits), who);
+            for (at, bit) in bits.iter().enumerate() {
+                let pin = if bits.len() == 1 { pin.to_string() } else { format!("{pin}[{at}]") };
+                let source = self.source(bit, frame);
+                pins.push((pin, source, drives));
+            }
+        }
+        self.design.box_pins += pins.len();
+        self.design.boxes.push(Boxed { title: title.to_string(), instance: name.to_string(), pins, line: 0 });
     }
 
     /// The block inside the chip: its ports are the nets outside, and all else is copied.
@@ -438,15 +465,12 @@ impl<'a, 'b> Reader<'a, 'b, '_> {
     }
 
     /// A cell without outputs (passed over), or a type that no library has.
-    fn unknown(&mut self, who: &str, title: &str, cell: &Value, types: &Types) {
+    fn unknown(&mut self, who: &str, title: &str, cell: &Value) {
         let directions = cell.get("port_directions").map_or(&[][..], Value::members);
         if !directions.is_empty() && directions.iter().all(|(_, way)| way.text() == Some("input")) {
             return;
         }
-        match self.unknown.iter_mut().find(|(other, ..)| other == title) {
-            Some((.., more)) => *more += 1,
-            None => self.unknown.push((title.to_string(), who.to_string(), types.unknown(title), 0)),
-        }
+        self.unknown.add(title, who, 0);
     }
 }
 

@@ -13,7 +13,7 @@ pub struct Takes {
 }
 
 /// Options of every source.
-const SOURCE_VALUES: [&str; 4] = ["-l", "--top", "--clock", "--format"];
+const SOURCE_VALUES: [&str; 6] = ["-l", "--top", "--clock", "--format", "--box", "--price"];
 const SOURCE_FLAGS: [&str; 2] = ["--open", "--json"];
 
 #[derive(Debug, Default)]
@@ -80,6 +80,8 @@ impl Args {
             "--clock" => self.source.clock = Some(value),
             "--format" => self.source.format = Some(value.trim_start_matches('.').to_ascii_lowercase()),
             "--open" => self.source.open = true,
+            "--box" => self.source.boxes.push(value),
+            "--price" => self.source.price = Some(value),
             _ => self.options.push((name.to_string(), value)),
         }
     }

@@ -449,6 +449,12 @@ fn privacy_of(args: &Args, model: &Model, messages: &mut Messages) -> Result<Pri
     if messages.errors() > 0 {
         return Err(Stop::Refused);
     }
+    if !protected.is_empty() && !model.closed.is_empty() {
+        messages.warn(
+            "what a box takes counts as seen already, so that --protect does not find the pads that show it: forbid by hand \
+             (--forbid) the nets around a box that takes a protected value",
+        );
+    }
     Ok(Privacy::new(model, forbidden, protected, depth))
 }
 

@@ -16,10 +16,13 @@ scoap_pads: from a chip's netlist to its pads
 
 SOURCE is a netlist (.json of Yosys, .blif, .bench, .v through Yosys) or a folder with lib.txt, net.txt and, if
 there, names.csv. Options of a netlist:
-    -l FILE         a Liberty library; may stand several times
+    -l FILE         a Liberty or genlib library; may stand several times
     --top NAME      the block to take
     --clock NAME    the input that clocks registers whose format has no clock
     --open          nets without a driver become open lines
+    --box TYPE      cells of this type stay closed, a memory or a converter: what they give becomes inputs, what they
+                    take outputs; may stand several times
+    --price FILE    what inputs and outputs of boxes cost: lines net,LOW,HIGH, each price 1 to 999; # starts a comment
     --format WORD   json, blif, bench or v, whatever the file's ending
 Every command takes --json: the same answer as JSON on standard output, refusals too (docs/JSON.md).
 NET is a name, an alias, line:N, or a pattern with * where several nets are meant. A net that the designer did not name is
@@ -33,14 +36,16 @@ pub const IMPORT: &str = "\
 scoap_pads import SOURCE -o DIR
 
 Writes the analyser's texts of a netlist into the folder DIR: lib.txt, net.txt and names.csv, which has one record
-for each line: line,net,kind,cell,instance,output,pins,aliases,source. The folder is a SOURCE of every command.
+for each line: line,net,kind,cell,instance,output,pins,aliases,source. The folder is a SOURCE of every command; a
+names.csv of your own needs the columns line and net, by the words of its head, in any order.
 ";
 
 pub const CHECK: &str = "\
 scoap_pads check SOURCE
 
 Counts lines by kind, says which limits of the analyser are used how far, lists the cells with the types that share
-them, and tells warnings. No numbers.
+them, and tells warnings. No numbers. Where the netlist has more functions than the analyser takes, it says how many are
+written by others, with pins in another order and inverters of depth 0: every number of every net is the same.
 ";
 
 pub const REPORT: &str = "\

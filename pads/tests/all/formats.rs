@@ -10,7 +10,7 @@ use std::collections::BTreeMap;
 use std::path::PathBuf;
 
 /// The six numbers by net name.
-fn by_name(model: &Model) -> BTreeMap<String, Six> {
+pub fn by_name(model: &Model) -> BTreeMap<String, Six> {
     model.names.iter().map(|name| (name.net.clone(), *model.numbers.of(name.line))).collect()
 }
 
@@ -247,10 +247,16 @@ fn damaged_files_end_well() {
         ("d.blif", read("recorder/breath.blif")),
         ("d.bench", read("eight_inputs/eight_inputs.bench")),
         ("d.lib", read("recorder/recorder.lib")),
+        ("d.genlib", crate::macros::GENLIB.as_bytes().to_vec()),
+        ("gates.lib", crate::macros::ICG.as_bytes().to_vec()),
+        ("prices", crate::macros::PRICES.as_bytes().to_vec()),
     ];
+    let mapped = room.file("mapped.blif", crate::macros::MAPPED);
+    let gated = room.file("gated.blif", crate::macros::GATED);
+    let boxed = room.file("boxed.blif", crate::macros::BOXED);
     let begun = worked();
     let (mut turns, mut refused) = (0, 0);
-    while turns < 1_200 && worked() - begun < 20.0 {
+    while turns < 2_100 && worked() - begun < 20.0 {
         let (name, whole) = &files[turns % files.len()];
         turns += 1;
         let mut bytes = whole.clone();
@@ -277,10 +283,13 @@ fn damaged_files_end_well() {
         }
         let path = room.0.join(name);
         std::fs::write(&path, &bytes).unwrap();
-        let source = if *name == "d.lib" {
-            Source { libraries: vec![path.display().to_string()], ..source(&example("recorder/breath.json")) }
-        } else {
-            source(&path.display().to_string())
+        let path = path.display().to_string();
+        let source = match *name {
+            "d.lib" => Source { libraries: vec![path], ..source(&example("recorder/breath.json")) },
+            "d.genlib" => Source { libraries: vec![path], ..mapped.clone() },
+            "gates.lib" => Source { libraries: vec![path], ..gated.clone() },
+            "prices" => Source { price: Some(path), boxes: vec!["SRAM".to_string()], ..boxed.clone() },
+            _ => source(&path),
         };
         let one = worked();
         let (loaded, said) = load(&source);
@@ -334,9 +343,12 @@ fn huge_inputs_are_refused() {
         ("d.bench", "a = NOT(a)\n".repeat(400_000)),
         ("e.blif", format!(".model e\n.inputs {}\n", "a ".repeat(2 << 20))),
         ("f.bench", format!("INPUT(a)\ny = AND({}a)\nOUTPUT(y)\n", "a, ".repeat(200_000))),
+        ("g.blif", format!(".model g\n{}", ".subckt SRAM A=a Q=b\n".repeat(150_000))),
+        ("h.blif", format!(".model h\n.subckt SRAM {}\n", "A=a ".repeat(900_000))),
+        ("i.blif", format!(".model i\n{}", ".mlatch x D=a Q=b c\n".repeat(150_000))),
     ] {
         let begun = worked();
-        let (loaded, said) = load(&room.file(name, &text));
+        let (loaded, said) = load(&Source { boxes: vec!["SRAM".to_string()], ..room.file(name, &text) });
         assert!(loaded.is_none() && said.contains("error: "), "{name}: {said}");
         assert!(worked() - begun < 5.0, "{name}");
     }
@@ -356,7 +368,7 @@ fn every_bad_file_is_told_in_words() {
         let source = match name.as_str() {
             "bad.lib" => continue,
             // A library that can't be read stands for itself.
-            "broken.lib" => {
+            "broken.lib" | "broken.genlib" => {
                 Source { libraries: vec![path.display().to_string()], ..source(&example("recorder/breath.json")) }
             }
             _ => Source { libraries: vec![library], ..source(&path.display().to_string()) },

@@ -5,5 +5,6 @@ mod fewer;
 mod figures;
 mod formats;
 mod json;
+mod macros;
 mod names;
 mod reading;
