@@ -10,7 +10,7 @@ use std::collections::BTreeMap;
 use std::path::PathBuf;
 
 /// The six numbers by net name.
-fn by_name(model: &Model) -> BTreeMap<String, Six> {
+pub fn by_name(model: &Model) -> BTreeMap<String, Six> {
     model.names.iter().map(|name| (name.net.clone(), *model.numbers.of(name.line))).collect()
 }
 
@@ -33,16 +33,16 @@ fn importing_twice_gives_equal_bytes() {
     }
 }
 
-struct Room(PathBuf);
+pub struct Room(pub PathBuf);
 
 impl Room {
-    fn new(name: &str) -> Room {
+    pub fn new(name: &str) -> Room {
         let path = std::env::temp_dir().join(format!("scoap_pads_{name}_{}", std::process::id()));
         std::fs::create_dir_all(&path).unwrap();
         Room(path)
     }
 
-    fn file(&self, name: &str, text: &str) -> Source {
+    pub fn file(&self, name: &str, text: &str) -> Source {
         let path = self.0.join(name);
         std::fs::write(&path, text).unwrap();
         source(&path.display().to_string())

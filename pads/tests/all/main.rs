@@ -3,4 +3,5 @@
 mod common;
 mod figures;
 mod formats;
+mod hierarchy;
 mod reading;
