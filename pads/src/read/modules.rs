@@ -427,7 +427,11 @@ impl<'a> Parser<'a> {
         }
         while !self.is_word("endmodule") {
             match self.token {
-                Token::End => return self.wrong(format!("the module {} has no endmodule", self.module.name)),
+                Token::End => {
+                    let none = self.wrong(format!("the module {} has no endmodule", self.module.name));
+                    // What went wrong before is the reason.
+                    return faults.into_iter().next().map_or(none, Err);
+                }
                 Token::Name("module", false) => return self.wrong("a module inside a module: an endmodule is missing"),
                 _ => {}
             }

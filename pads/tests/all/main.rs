@@ -7,4 +7,5 @@ mod formats;
 mod json;
 mod macros;
 mod names;
+mod hierarchy;
 mod reading;
