@@ -323,7 +323,7 @@ pub fn cut_all(names: &[(usize, &str)], most: usize) -> Vec<String> {
 
 /// Gives nets that the designer did not name a short one, from the register or output that they feed by the fewest gates:
 /// `rx[2].d~3`, the third of the nets before pin D of rx[2]; `q~1` before an output. The long name is an alias. The order
-/// is by distance and by the long names, so that every format gives the same names.
+/// is by distance and by the long names, so that formats which agree on these agree on the short ones.
 pub fn shorten(names: &mut [Name], net: &str) {
     let mut types: HashMap<String, BTreeSet<String>> = HashMap::new();
     for name in names.iter().filter(|name| !name.cell.is_empty()) {
