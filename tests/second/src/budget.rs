@@ -129,7 +129,7 @@ impl Run {
                     continue;
                 }
                 if let Some(offer) = self.offers[line][value] {
-                    if best.map_or(true, |(least, _)| offer < least) {
+                    if best.is_none_or(|(least, _)| offer < least) {
                         best = Some((offer, (line, value)));
                     }
                 }

@@ -204,7 +204,7 @@ fn rows_line(
     let mut joined = false;
     for field in fields {
         if field == b"M" {
-            if joined || groups.last().map_or(true, Group::is_empty) {
+            if joined || groups.last().is_none_or(Group::is_empty) {
                 return Err(LIBRARY_FORM);
             }
             joined = true;

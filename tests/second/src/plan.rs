@@ -55,7 +55,7 @@ pub fn write(
                     } else {
                         row_sum(each, reads, &costs)
                     };
-                    if best.map_or(true, |(least, _)| sum < least) {
+                    if best.is_none_or(|(least, _)| sum < least) {
                         best = Some((sum, row));
                     }
                 }

@@ -235,7 +235,7 @@ fn random_netlists() {
                 .map(|(_, cost)| cost)
                 .collect();
             let largest = *costs.iter().max().unwrap();
-            if best.map_or(true, |(least, _)| largest < least) {
+            if best.is_none_or(|(least, _)| largest < least) {
                 best = Some((largest, line));
             }
             count += 1;
