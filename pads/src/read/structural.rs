@@ -2,11 +2,12 @@
 
 use crate::ask::archive::MOST_PINS;
 use crate::read::blocks::Tree;
+use crate::read::boxes::Boxed;
 use crate::read::hub::{too_many, Design, Gate, Lines, Source, MOST_NETS};
 use crate::read::modules::{self, Declared, Expr, Fault, Item, Module, Net, Op, Way};
 use crate::rows::cells::{self, Cell, Kind};
 use crate::rows::registers::Driver;
-use crate::rows::types::{add_gates, Place, Types};
+use crate::rows::types::{add_gates, Place, Types, Unknown};
 use crate::rows::Table;
 use crate::show::cost::grouped;
 use crate::show::messages::Messages;
@@ -82,7 +83,7 @@ pub fn read(file: &str, text: &str, wanted: &Wanted, types: &mut Types, messages
         open_pins: 0,
         resized: 0,
         tables: 0,
-        unknown: Vec::new(),
+        unknown: Unknown::default(),
         wired: HashMap::new(),
     };
     reader.chip(top, types);
@@ -130,8 +131,7 @@ struct Reader<'v, 'a, 'm> {
     resized: usize,
     /// Expressions that were read as one gate.
     tables: usize,
-    /// Types that are not known: the first line of each, the words, and how many cells more.
-    unknown: Vec<(String, usize, String, usize)>,
+    unknown: Unknown,
     /// Nets that several may drive: how they are joined, and their drivers.
     wired: HashMap<usize, (Op, Vec<usize>)>,
 }
@@ -174,10 +174,7 @@ impl<'v, 'a: 'v> Reader<'v, 'a, '_> {
         if self.design.full() {
             self.messages.error(self.lines.file, too_many());
         }
-        for (_, line, words, more) in std::mem::take(&mut self.unknown) {
-            let more = if more > 0 { format!(" and {more} more") } else { String::new() };
-            self.error(line, format!("this cell{more} {words}"));
-        }
+        std::mem::take(&mut self.unknown).tell(types, |line, words| self.error(line, words));
     }
 
     fn finish(mut self, wanted: &Wanted) -> Answer {
@@ -569,6 +566,9 @@ impl<'v, 'a: 'v> Reader<'v, 'a, '_> {
         if by_order && pins.iter().any(|(pin, _)| pin.is_some()) {
             return Err("pins by name and by order together".to_string());
         }
+        if types.is_box(title) {
+            return self.boxed(line, title, &name, pins, frame, types);
+        }
         match (types.find(title), place) {
             (Some(Ok(kind)), place) => {
                 let order = place.filter(|_| by_order).map(|place| self.order(place));
@@ -610,13 +610,41 @@ impl<'v, 'a: 'v> Reader<'v, 'a, '_> {
             (Some(Err(words)), _) => Err(format!("the type {title}: {words}")),
             (None, Some(place)) => self.block(place, &name, pins, by_order, frame, types),
             (None, None) => {
-                match self.unknown.iter_mut().find(|(other, ..)| other == title) {
-                    Some((.., more)) => *more += 1,
-                    None => self.unknown.push((title.to_string(), line, types.unknown(title), 0)),
-                }
+                self.unknown.add(title, "this cell", line);
                 Ok(())
             }
         }
+    }
+
+    /// A cell that stays closed. A pin that is not named is called by its place.
+    fn boxed(
+        &mut self,
+        line: usize,
+        title: &str,
+        name: &str,
+        pins: &[(Option<&'a str>, Option<Expr<'a>>)],
+        frame: &mut Frame<'v, 'a>,
+        types: &Types,
+    ) -> Told<()> {
+        let mut connected = Vec::new();
+        for (at, (pin, given)) in pins.iter().enumerate() {
+            let Some(given) = given else { continue };
+            let pin = pin.map_or_else(|| (at + 1).to_string(), str::to_string);
+            let drives = types.drives(title, &pin);
+            let sources = self.pin_sources(given, frame)?;
+            for (bit, &source) in sources.iter().enumerate() {
+                let pin = if sources.len() == 1 { pin.clone() } else { format!("{pin}[{bit}]") };
+                let source = match source {
+                    Source::Net(net) if drives == Some(true) => Source::Net(self.driver(net)),
+                    other => other,
+                };
+                connected.push((pin, source, drives));
+            }
+        }
+        self.design.box_pins += connected.len();
+        let instance = format!("{}{name}", frame.prefix);
+        self.design.boxes.push(Boxed { title: title.to_string(), instance, pins: connected, line });
+        Ok(())
     }
 
     /// What a pin reads: an unsized constant is one bit.
