@@ -59,15 +59,25 @@ impl Types {
 
     /// Why a type is not known.
     pub fn unknown(&self, title: &str) -> String {
+        if ["$reduce_and", "$reduce_or"].contains(&title) {
+            return format!(
+                "has the type {title}: a wired AND or OR (wand, wor) has no cell and so no rows; write it as an AND or OR gate, \
+                 or synthesise first, see 'scoap_pads --recipes'"
+            );
+        }
         if title.starts_with('$') {
             return format!("has the type {title}, which is no gate: synthesise first, see 'scoap_pads --recipes'");
         }
         let told: Vec<String> =
             self.libraries.iter().map(|library| format!("{}, {} cells", library.file, library.cells.len())).collect();
         if told.is_empty() {
-            format!("has the type {title}, and no library is given: name it with -l FILE.lib")
+            format!("has the type {title}, and no library is given: name it with -l FILE.lib, or keep it closed by --box {title}")
         } else {
-            format!("has the type {title}, which no library given has (libraries: {})", told.join("; "))
+            format!(
+                "has the type {title}, which no library given has (libraries: {}): add one by -l, or keep it closed by --box \
+                 {title}",
+                told.join("; ")
+            )
         }
     }
 }
@@ -111,7 +121,8 @@ impl Unknown {
             tell(
                 *line,
                 format!(
-                    "{cells} cells have types that are not known, and no library is given: name it with -l FILE.lib\n  {}",
+                    "{cells} cells have types that are not known, and no library is given: name it with -l FILE.lib, or keep a type closed by \
+                     --box TYPE\n  {}",
                     told.join(", ")
                 ),
             );
