@@ -82,6 +82,7 @@ bench: second
 
 fuzz: second
 	@target/cargo/release/compare --fuzz $(SECONDS) $(SEED)
+	@tests/pads --fuzz $(SECONDS)
 
 # The companion, from a chip's netlist to its pads; it links the archive and those for more lines that make large has built.
 pads: $(if $(LINES),large) wasm need-cargo

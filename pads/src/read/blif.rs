@@ -42,8 +42,13 @@ fn each_joined(text: &str, mut take: impl FnMut(usize, usize, &str) -> bool) {
             }
             continue;
         }
-        whole.push_str(line);
-        whole.push(' ');
+        if whole.len() > MOST_JOINED {
+            whole = ".(more than 16 MB)".to_string();
+        }
+        if whole != ".(more than 16 MB)" {
+            whole.push_str(line);
+            whole.push(' ');
+        }
         if !more {
             first = None;
             if !take(number, begins, &whole) {
@@ -204,6 +209,8 @@ struct Reader<'a, 'm> {
 }
 
 const MOST_COVER: usize = 70_000;
+/// Bytes of a statement that stands on several lines.
+const MOST_JOINED: usize = 16 << 20;
 
 impl Reader<'_, '_> {
     fn error(&mut self, line: usize, words: impl AsRef<str>) {

@@ -224,6 +224,18 @@ impl Design {
             gate.pins.iter_mut().for_each(put);
         }
         self.outputs.iter_mut().for_each(|(_, source)| put(source));
+        // A net of several outputs has the name of the first, in every format.
+        let mut named = is_input;
+        self.inouts.iter().for_each(|&net| named[net] = true);
+        for (name, source) in &self.outputs {
+            let &Source::Net(net) = source else { continue };
+            if !std::mem::replace(&mut named[net], true) {
+                let net = &mut self.nets[net];
+                if let Some(other) = net.port.replace(name.clone()).filter(|other| other != name) {
+                    net.names.push(other);
+                }
+            }
+        }
     }
 
     /// A port in both directions with a three-state driver is an input and, apart, the driver's output.

@@ -14,10 +14,10 @@ scoap_pads: from a chip's netlist to its pads
 
 'scoap_pads COMMAND --help' says more of each.
 
-SOURCE is a netlist (.json of Yosys, .blif, .bench, .v through Yosys) or a folder with lib.txt, net.txt and, if
-there, names.csv. Options of a netlist:
+SOURCE is a netlist (.json of Yosys, .blif, .bench, .v of gates and cells; other Verilog through Yosys) of at most
+128 MB, or a folder with lib.txt, net.txt and, if there, names.csv. Options of a netlist:
     -l FILE         a Liberty or genlib library; may stand several times
-    --top NAME      the block to take
+    --top NAME      the block to take, with all blocks in it; else the one that is in no other
     --clock NAME    the input that clocks registers whose format has no clock
     --open          nets without a driver become open lines
     --box TYPE      cells of this type stay closed, a memory or a converter: what they give becomes inputs, what they
