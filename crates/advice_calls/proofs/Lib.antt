@@ -1,1 +1,6 @@
-pub mod Promise
+mod Promise
+mod LinesLaws
+mod PadCosts
+mod Changes
+mod Ranks
+mod Candidate

@@ -34,11 +34,11 @@ use Rattle.demands.proofs.Call.{at-entry, at-end, come-to, refused-where, was-r
 use Rattle.demands.proofs.EntryChecks.{own-fit}
 use Rattle.demands.proofs.Given.{Checked}
 use Rattle.advice_calls.specs.Calls.{adviceSize, adviceInto, adviceCall, rankCall}
-use Rattle.advice_lines.specs.Parts.{Holding, AllRanked}
+use Rattle.advice_calls.specs.Parts.{Holding, AllRanked}
 use Rattle.advice_calls.specs.Texts.{textsCall, TextsRead}
 use Rattle.advice_calls.specs.Promise.{HandedOn, AdviceMeans, AdvicePromised, rankAt, RanksMean, RankPromised}
-use Rattle.advice_lines.proofs.Lines.{allowed-few}
-use Rattle.advice_lines.proofs.Ranks.{four, rank-at, rank-past}
+use Rattle.advice_calls.proofs.LinesLaws.{allowed-few}
+use Rattle.advice_calls.proofs.Ranks.{four, rank-at, rank-past}
 
 pad-same : (k y l x : ℕ) → _≡_ {A = Read Advice} (read (Pad k y)) (read (Pad l x)) → (k ≡ l) × (y ≡ x)
 pad-same k y l x e = (cc, cc)

@@ -1,3 +1,4 @@
 pub mod Calls
 pub mod Texts
 pub mod Promise
+pub mod Parts

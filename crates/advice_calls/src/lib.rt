@@ -1,8 +1,8 @@
 // The pad adviser for the home recorder: document 02, K13. A second library above the first: it takes a netlist and a
 // list of lines that privacy forbids to pad, and names one allowed line; beyond the request, it ranks the allowed lines.
 //
-// Of the first library it uses `analysis_texts::read_texts`, which reads the texts and refuses them; and by crate
-// `advice_lines`, which is part of it and has what is done over their tables, `sweep_runs::calculate`, one analysis;
+// Of the first library it uses `analysis_texts::read_texts`, which reads the texts and refuses them; and by module
+// `lines`, which is part of it and has what is done over their tables, `sweep_runs::calculate`, one analysis;
 // `sweep_links::link` and `sweep_reruns::try_pad`, a pad on trial from the numbers of that analysis, which
 // `sweep_runs::hand_over` lays anew for each; the readers of the netlist table, `netlist_table::lines`; and the costs of crate
 // `cost`.
@@ -10,8 +10,10 @@
 // Open to others: `advise` and `rank`, over two texts and a list, with an answer that the caller lends; the types `Advised`
 // and `Ranked`. They have tables of their own, and no condition on their input; specs/Calls.antt says what they answer
 // and leave, specs/Promise.antt what that means. The published sizes of the answers are 1 and `sizes::RANKS`.
-use advice_lines::advise_on;
-use advice_lines::rank_on;
+mod lines;
+
+use crate::lines::advise_on;
+use crate::lines::rank_on;
 use analysis_texts::Progress;
 use analysis_texts::Tables;
 use analysis_texts::read_texts;

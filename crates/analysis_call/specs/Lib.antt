@@ -1,1 +1,3 @@
 pub mod Own
+pub mod Finished
+pub mod Printed

@@ -6,8 +6,13 @@
 // of the tables are `sizes::LIBRARY`, `sizes::NETLIST` and `sizes::NUMBERS`. For the crates above:
 // `analyse_into`, which does not clear tables of the caller's own first, and `report_into`, which speaks of the report alone
 // (specs/Own.antt).
-use analysis_end::finish;
-use analysis_end::tell;
+//
+// Modules: `end`, the numbers and the report of what was read; `printed`, what a program prints of its texts.
+pub mod end;
+pub mod printed;
+
+use crate::end::finish;
+use crate::end::tell;
 use analysis_texts::Tables;
 use analysis_texts::read_texts;
 use demands::Answer;

@@ -36,10 +36,10 @@ use Rattle.demands.proofs.Room.{reports-short, pair-sound}
 use Rattle.demands.proofs.EntryChecks.{Entered, entered}
 use Rattle.analysis_texts.specs.Progress.{Begun, Reached}
 use Rattle.analysis_texts.proofs.Reached.{NetlistRead, unrefused-entry, reached, ready}
-use Rattle.analysis_end.specs.Finished.{Finished}
-use Rattle.analysis_end.proofs.Promise.{promised}
-use Rattle.netlist_records.specs.declared.Record.{Record}
-use Rattle.netlist_records.specs.Records.{recordForms, recordStatements, fromRecords}
+use Rattle.analysis_call.specs.Finished.{Finished}
+use Rattle.analysis_call.proofs.Promise.{promised}
+use Rattle.analysis_records.specs.declared.record.Record.{Record}
+use Rattle.analysis_records.specs.Records.{recordForms, recordStatements, fromRecords}
 use Rattle.analysis_records.specs.Walk.{declaredProgress, Walked}
 use Rattle.analysis_records.specs.Outcome.{givenRecords, RecordsPromised, Prepared}
 use Rattle.analysis_records.proofs.Laws.{records-unranged, walked-end, declared-stays, declared-end}

@@ -31,9 +31,9 @@ use Rattle.analysis_texts.specs.declared.Progress.{Progress}
 use Rattle.analysis_texts.specs.declared.Progress.the-variants.{Unrefused, AtEntry, Later}
 use Rattle.analysis_texts.specs.Progress.{progressOf}
 use Rattle.analysis_texts.proofs.Reached.{later-shut}
-use Rattle.netlist_records.specs.declared.Record.{Record}
-use Rattle.netlist_records.specs.Records.{markForm, gateForm, recordForm, recordForms, recordStatements, fromRecords}
-use Rattle.netlist_records.specs.Steps.{progressAfter, RecordChecked, Stepped}
+use Rattle.analysis_records.specs.declared.record.Record.{Record}
+use Rattle.analysis_records.specs.Records.{markForm, gateForm, recordForm, recordForms, recordStatements, fromRecords}
+use Rattle.analysis_records.specs.Steps.{progressAfter, RecordChecked, Stepped}
 use Rattle.analysis_records.specs.Walk.{declaredProgress, Admitted, WalkReached, Walked}
 
 -- ---- no record is a range

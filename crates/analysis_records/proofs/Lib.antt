@@ -1,6 +1,7 @@
-pub mod Lent
+mod Lent
 pub mod Call
-pub mod Laws
+mod Laws
 pub mod Same
-pub mod Shared
-pub mod Tested
+mod Shared
+mod Tested
+mod RecordLaws

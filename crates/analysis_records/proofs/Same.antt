@@ -19,8 +19,8 @@ use Rattle.library_table.specs.Library.{library}
 use Rattle.netlist_table.specs.declared.Rules.the-variants.{New}
 use Rattle.netlist_table.specs.Netlist.{Statement, admitted, lineForms, textStatements, declared, netlist, netlist-open}
 use Rattle.demands.specs.Outcome.{Lent, Pair, pairOf, givenBy, givenTexts, textLong, tableShort, conclude, readPair, reading, entry, outcome, answer, left, leftFrom}
-use Rattle.netlist_records.specs.declared.Record.{Record}
-use Rattle.netlist_records.specs.Records.{allZero, pinsBefore, endsInZeros, markForm, gateForm, recordForm, recordForms, recordStatements, fromRecords}
+use Rattle.analysis_records.specs.declared.record.Record.{Record}
+use Rattle.analysis_records.specs.Records.{allZero, pinsBefore, endsInZeros, markForm, gateForm, recordForm, recordForms, recordStatements, fromRecords}
 use Rattle.analysis_records.specs.Outcome.{givenRecords}
 use Rattle.analysis_records.specs.Same.{SaySame, SameCalls}
 

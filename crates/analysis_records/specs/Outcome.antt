@@ -14,8 +14,8 @@ use Rattle.demands.specs.declared.Summary.{Summary}
 use Rattle.demands.specs.Outcome.{Given, Lent, textLong, reports}
 use Rattle.demands.specs.Demands.{PairRead, Promised}
 use Rattle.analysis_texts.specs.Progress.{Begun}
-use Rattle.netlist_records.specs.declared.Record.{Record}
-use Rattle.netlist_records.specs.Records.{fromRecords}
+use Rattle.analysis_records.specs.declared.record.Record.{Record}
+use Rattle.analysis_records.specs.Records.{fromRecords}
 
 -- A library text and a list of records. "2 a text above 65,535 bytes" judges the library text alone: the list may have any
 -- length.

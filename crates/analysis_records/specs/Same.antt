@@ -14,8 +14,8 @@ use Rattle.netlist_table.specs.Netlist.{lineForms}
 use Rattle.demands.specs.declared.Summary.{Summary}
 use Rattle.demands.specs.Demands.{Promised}
 use Rattle.demands.specs.Outcome.{Lent, givenTexts}
-use Rattle.netlist_records.specs.declared.Record.{Record}
-use Rattle.netlist_records.specs.Records.{recordForms}
+use Rattle.analysis_records.specs.declared.record.Record.{Record}
+use Rattle.analysis_records.specs.Records.{recordForms}
 use Rattle.analysis_records.specs.Outcome.{givenRecords}
 
 -- Against the cells of the library, each record says what the line at its place says. A line of bad form is said by a record

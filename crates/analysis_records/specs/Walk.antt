@@ -15,8 +15,8 @@ use Rattle.netlist_table.specs.Admission.{someUndeclared}
 use Rattle.netlist_table.specs.Sound.{Sound}
 use Rattle.analysis_texts.specs.declared.Progress.{Progress}
 use Rattle.analysis_texts.specs.declared.Progress.the-variants.{Unrefused, AtEntry, Later}
-use Rattle.netlist_records.specs.declared.Record.{Record}
-use Rattle.netlist_records.specs.Records.{recordForms, recordStatements}
+use Rattle.analysis_records.specs.declared.record.Record.{Record}
+use Rattle.analysis_records.specs.Records.{recordForms, recordStatements}
 
 -- ---- behind the last record
 

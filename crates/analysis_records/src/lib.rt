@@ -1,21 +1,23 @@
-// The netlist as a list of records, each checked and stored by `netlist_records::step`, and analysed.
+// The netlist as a list of records, each checked and stored by `record::step`, and analysed.
 //
-// Open to others: the type `Record` of crate `netlist_records`, and `analyse_records`, which has the answer and the promises
+// Open to others: the type `Record` of module `record`, and `analyse_records`, which has the answer and the promises
 // of `analysis_call::analyse` over a list of records. It has no condition on its input.
-use analysis_end::finish;
+pub mod record;
+
+pub use crate::record::Record;
+use crate::record::step;
+use analysis_call::end::finish;
 use analysis_texts::Progress;
 use analysis_texts::Tables;
 use analysis_texts::begin;
 use demands::Answer;
 use netlist_admission::some_undeclared;
-pub use netlist_records::Record;
-use netlist_records::step;
 use reading::Refusal;
 use table::clear;
 ghost use mathlib.Core.Path.{_≡_};
 ghost use lib.ListN.{length};
 ghost use Rattle.demands.specs.Answer.{answerRead, lentOf};
-ghost use Rattle.analysis_end.specs.Finished.{ReadyIfUnrefused, Finished};
+ghost use Rattle.analysis_call.specs.Finished.{ReadyIfUnrefused, Finished};
 ghost use Rattle.analysis_records.specs.Outcome.{RecordsPromised, Prepared};
 ghost use Rattle.analysis_records.specs.Walk.{declaredProgress, Walked};
 

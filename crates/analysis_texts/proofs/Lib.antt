@@ -1,5 +1,5 @@
-pub mod EntryChecks
-pub mod NetlistRead
+mod EntryChecks
+mod NetlistRead
 pub mod Reached
-pub mod Own
+mod Own
 pub mod Calls

@@ -4,8 +4,12 @@
 //
 // For the crates above: `Progress`, `Tables`; `read_texts`, over two texts; `begin`, the entry and the library text alone,
 // behind which a caller reads its netlist itself.
-use analysis_entry::entry;
-use library_lines::read_lines;
+//
+// Module `entry`: the checks at entry, and what a later refusal clears.
+pub mod entry;
+
+use crate::entry::entry;
+use library_text::lines::read_lines;
 use netlist_table::Rules;
 use netlist_text::read_all;
 use reading::Refusal;

@@ -1,5 +1,5 @@
-pub mod Number
-pub mod Call
+mod Number
+mod Call
 pub mod ReportCode
 pub mod Cells
 pub mod Plan
@@ -7,3 +7,4 @@ pub mod Stand
 pub mod Best
 pub mod Advice
 pub mod Change
+mod QualifiesLaws

@@ -28,7 +28,7 @@ use Rattle.demands.proofs.Bounds.{pair-within, behind-entry}
 use Rattle.demands.proofs.Given.{texts-checked}
 use Rattle.demands.proofs.EntryChecks.{own-fit}
 use Rattle.demands.proofs.Room.{entry-number}
-use Rattle.plan_end.specs.Concluded.{askedNumber, kindOf, planRead}
+use Rattle.plan_calls.specs.Concluded.{askedNumber, kindOf, planRead}
 use Rattle.plan_calls.specs.Promise.{planOutcome, PlanSeen, PlanPromised}
 use Rattle.plan_calls.proofs.Promise.{length-refused}
 use Rattle.plan_calls.proofs.Printed.{text-left}

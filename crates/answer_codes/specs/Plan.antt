@@ -13,7 +13,7 @@ use Rattle.calculation.specs.Calculation.{analysed}
 use Rattle.plan_text.specs.PlanText.{cheapestText}
 use Rattle.demands.specs.Outcome.{Lent, Pair, readPair, givenTexts}
 use Rattle.demands.specs.Own.{ownTables}
-use Rattle.plan_end.specs.Concluded.{askedNumber, kindOf}
+use Rattle.plan_calls.specs.Concluded.{askedNumber, kindOf}
 use Rattle.plan_calls.specs.Promise.{planOutcome, PlanSeen, PlanPromised}
 use Rattle.answer_codes.specs.Number.{Tells, mostTold, textTold}
 

@@ -6,6 +6,10 @@
 // calls tells, specs/Call.antt what a call keeps by it, specs/Coded.antt, specs/Plan.antt, specs/Cell.antt,
 // specs/BuiltIn.antt, specs/Qualifies.antt, specs/Stand.antt, specs/Change.antt, specs/Best.antt and specs/Advice.antt what
 // each call promises.
+//
+// Module `qualifies`: whether the theorems of K8 apply, by one number.
+pub mod qualifies;
+
 use advice_calls::Advised;
 use advice_calls::Ranked;
 use budget_call::Steps;

@@ -16,7 +16,7 @@ use Rattle.reading.specs.Numbers as No
 use Rattle.reading.specs.Refusal.{Read, _>>_, weigh}
 use Rattle.text.specs.Bytes.{bytes}
 use Rattle.writer.specs.Buffer.{shown, Prints}
-use Rattle.writer_bytes.specs.Put.{Put}
+use Rattle.writer.specs.Put.{Put}
 use Rattle.writer.proofs.Buffer.{put-prints}
 use Rattle.files.specs.declared.Loaded.{Loaded}
 use Rattle.files.specs.declared.Loaded.the-variants.{Bytes, Unreadable}

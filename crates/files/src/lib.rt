@@ -8,7 +8,7 @@ use libc::STDOUT_FILENO;
 ghost use mathlib.Core.Path.{_≡_};
 ghost use Prim.Native.Nat.{_≤_};
 ghost use lib.ListN.{length, take};
-ghost use Rattle.writer_bytes.specs.Put.{Put};
+ghost use Rattle.writer.specs.Put.{Put};
 ghost use Rattle.files.specs.Loads.{Within, Seen, nextOf};
 ghost use Rattle.files.specs.Output.{unreadable};
 
@@ -84,7 +84,7 @@ pub fn front(buffer: &[u8], n: usize) -> &[u8]
 pub fn put_unreadable(output: &mut [u8]) -> usize
     ensures { λ r. ⌜ Put 0 unreadable (now (output .entry)) (now (output .exit)) r ⌝ }
 {
-    writer_bytes::put_bytes(output, 0, b"unreadable\n")
+    writer::bytes::put_bytes(output, 0, b"unreadable\n")
 }
 
 pub fn print(bytes: &[u8]) {

@@ -14,7 +14,7 @@ use Rattle.sizes.specs.Sizes as Size
 use Rattle.reading.proofs.Laws.{by-test, each-at, and-left, and-right}
 use Rattle.text.specs.Lines.{sameBytes}
 use Rattle.text.proofs.Laws.{sameBytes-other}
-use Rattle.text_fields.proofs.Laws.{nameForm-length}
+use Rattle.text.proofs.FieldLaws.{nameForm-length}
 use Rattle.table.specs.Blocks.{fitted, blocks}
 use Rattle.table.proofs.Places.{length-fitted}
 use Rattle.library_table.specs.Cells.{Heading, plain, deep, Row, Group, Cell, noRow}

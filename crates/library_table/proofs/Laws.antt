@@ -17,8 +17,8 @@ use Rattle.reading.specs.Numbers as No
 use Rattle.reading.specs.Refusal.{read, weigh, form}
 use Rattle.reading.proofs.Laws.{or-left, or-right, each-append, each-map, refused-read, bind-read, then-read, form-read, weigh-one}
 use Rattle.text.specs.Lines.{sameBytes, lines}
-use Rattle.text_fields.specs.Numeral.{value, decimal, nameForm}
-use Rattle.text_fields.proofs.Laws.{nameForm-length}
+use Rattle.text.specs.Numeral.{value, decimal, nameForm}
+use Rattle.text.proofs.FieldLaws.{nameForm-length}
 use Rattle.library_table.specs.Cells.{Heading, plain, deep, depthBits, deepest, Row, rowOf, Group, Cell, bit}
 use Rattle.library_table.specs.declared.Word.{Word}
 use Rattle.library_table.specs.declared.Word.the-variants.{CC, CO, SC, SO}

@@ -11,7 +11,7 @@ use Rattle.reading.specs.Numbers as No
 use Rattle.text.specs.Bytes.{bytes, bytes-open}
 use Rattle.reading.specs.Choice.{pick}
 use Rattle.text.specs.Lines.{lines, sameBytes, lines-open}
-use Rattle.text_fields.specs.Numeral.{numeral, value, decimal, nameForm, numeral-open}
+use Rattle.text.specs.Numeral.{numeral, value, decimal, nameForm, numeral-open}
 use Rattle.reading.specs.Refusal.{Read, refused, read, weigh, form, refusal-open, _>>=_, _>>_}
 use Rattle.library_table.specs.Cells.{Heading, plain, deep, Row, rowOf, Group, Cell, bit, cells-open}
 use Rattle.library_table.specs.declared.Word.{Word}

@@ -8,7 +8,7 @@ use Prim.Native.Nat.{ℕ, _≤_, _<_, _^_}
 use lib.Dec.{ltb}
 use lib.ListN.{length}
 use Rattle.sizes.specs.Sizes as Size
-use Rattle.text_fields.specs.Numeral.{nameForm}
+use Rattle.text.specs.Numeral.{nameForm}
 use Rattle.library_table.specs.Cells.{deepest, Row, Group, Cell}
 use Rattle.library_table.specs.declared.Word.{Word}
 use Rattle.library_table.specs.declared.Word.the-variants.{CC, CO, SC, SO}

@@ -1,6 +1,13 @@
 // The library text read into the library table.
 //
 // Open to others, for every input: `read_library`.
+//
+// Modules: `groups`, the groups of a row line, and the number that refuses it; `rows`, a row line; `lines`, the lines of a text
+// one after another.
+mod groups;
+pub mod lines;
+mod rows;
+
 ghost use mathlib.Core.Path.{_≡_};
 ghost use Prim.Native.Nat.{_≤_};
 ghost use lib.ListN.{length};
@@ -9,7 +16,7 @@ ghost use Rattle.reading.specs.Verdict.{verdictRead, doneRead};
 ghost use Rattle.library_text.specs.Entry.{readLibrary, libraryLeft};
 ghost use Rattle.library_table.specs.Library.{library};
 ghost use Rattle.library_table.specs.Layout.{libraryAfter};
-use library_lines::read_lines;
+use crate::lines::read_lines;
 use reading::Refusal;
 use reading::Verdict;
 use table::clear;

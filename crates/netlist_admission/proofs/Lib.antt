@@ -1,1 +1,3 @@
 mod StandsFor
+mod GateCauses
+mod Outcomes

@@ -16,7 +16,7 @@ use Rattle.netlist_table.specs.declared.RawStatement.{RawStatement}
 use Rattle.netlist_table.specs.Netlist.{Gate, Mark, input, output, opened, Statement, Range, mark, gate, priced, kindOf, gateKind, rangeKind, lastKind}
 use Rattle.netlist_table.specs.Layout.{NetlistHolds}
 use Rattle.netlist_table.specs.Admission.{IsGate, IsRange, StandsFor, refusalOf, Decided}
-use Rattle.netlist_kinds.proofs.Outcomes.{refuses}
+use Rattle.netlist_admission.proofs.Outcomes.{refuses}
 
 pub form-bad : (cells : List Cell) {table : List ℕ} {ss : List Statement} (holds : NetlistHolds table ss)
     → Decided cells ss none (holds .past) No.netlistForm table

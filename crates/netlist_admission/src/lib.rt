@@ -1,12 +1,17 @@
 // Statements admitted into the netlist table: refusals 10 to 15 and 20 to 22. One statement over plain numbers is checked and
-// stored by its kind (crate `netlist_kinds`); what a line of text says is read by `netlist_text`, what a record says by
-// `netlist_records`.
+// stored by its kind (module `kinds`); what a line of text says is read by `netlist_text`, what a record says by
+// `analysis_records::record`.
 //
 // For the crates above: `admit`, which checks a `RawStatement` and stores it, and behind all statements `undeclared` and
 // `some_undeclared`, which ask the table. netlist_table/specs/Admission.antt says what they come to.
-use netlist_kinds::admit_gate;
-use netlist_kinds::admit_mark;
-use netlist_kinds::admit_range;
+//
+// Module `causes`: why a statement is refused by its own numbers.
+mod causes;
+mod kinds;
+
+use crate::kinds::admit_gate;
+use crate::kinds::admit_mark;
+use crate::kinds::admit_range;
 use netlist_table::GATE;
 use netlist_table::INPUT;
 use netlist_table::OPEN;

@@ -1,1 +1,4 @@
-pub mod Opens
+mod Opens
+mod Copy
+mod Split
+pub mod Pads

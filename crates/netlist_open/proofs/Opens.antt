@@ -14,10 +14,10 @@ use Rattle.reading.specs.Refusal.{Read, refused, read, _>>=_, _>>_, weigh}
 use Rattle.reading.specs.declared.Refusal.{Refusal}
 use Rattle.reading.proofs.Laws.{by-test}
 use Rattle.text.specs.Bytes.{bytes}
-use Rattle.writer_bytes.specs.Put.{Put}
+use Rattle.writer.specs.Put.{Put}
 use Rattle.writer.specs.Refused.{refusalBytes}
 use Rattle.writer.specs.Buffer.{textWithin, shown}
-use Rattle.writer_bytes.proofs.Decimal.{decimal-below}
+use Rattle.writer.proofs.Decimal.{decimal-below}
 use Rattle.writer.proofs.Buffer.{refusal-short, put-prints}
 use Rattle.library_table.specs.Cells.{Cell}
 use Rattle.library_table.specs.Library.{library}
@@ -33,9 +33,9 @@ use Rattle.calculation.specs.Calculation.{Analysed, analysed}
 use Rattle.report_text.specs.Report.{reportBytes}
 use Rattle.report_text.proofs.Laws.{report-fits}
 use Rattle.demands.specs.Outcome as O
-use Rattle.netlist_copy.specs.Copy.{openLine, openLines, copyOf, declaredToo}
-use Rattle.netlist_copy.specs.Kept.{Kept}
-use Rattle.netlist_copy.proofs.Copy.{copy-keeps}
+use Rattle.netlist_open.specs.Copy.{openLine, openLines, copyOf, declaredToo}
+use Rattle.netlist_open.specs.Kept.{Kept}
+use Rattle.netlist_open.proofs.Copy.{copy-keeps}
 use Rattle.analysis_texts.specs.declared.Progress.{Progress}
 use Rattle.analysis_texts.specs.declared.Progress.the-variants.{Unrefused, AtEntry, Later}
 use Rattle.analysis_texts.specs.Progress.{Reached}

@@ -18,8 +18,8 @@ use Rattle.netlist_table.specs.Netlist.{Statement, netlist}
 use Rattle.calculation.specs.Calculation.{analysed}
 use Rattle.demands.specs.Outcome.{textLong, givenBy, readPair, reportOf}
 use Rattle.demands.specs.Printed.{printed}
-use Rattle.netlist_copy.specs.Copy.{copyOf}
-use Rattle.netlist_copy.specs.Kept.{Kept}
+use Rattle.netlist_open.specs.Copy.{copyOf}
+use Rattle.netlist_open.specs.Kept.{Kept}
 
 -- The bytes of the buffer, `COPY_BYTES`: the longest text, and for each line its digits and six.
 abbrev pub copyBytes : ℕ

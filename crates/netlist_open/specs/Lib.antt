@@ -1,1 +1,4 @@
 pub mod Copied
+pub mod Copy
+pub mod Kept
+pub mod Padded

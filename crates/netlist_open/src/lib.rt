@@ -13,10 +13,10 @@ ghost use mathlib.Core.List.{[], _++_};
 ghost use Prim.Native.Nat.{_≤_};
 ghost use Rattle.sizes.specs.Sizes as Size;
 ghost use Rattle.reading.specs.Choice.{pick};
-ghost use Rattle.writer_bytes.specs.Put.{Put};
+ghost use Rattle.writer.specs.Put.{Put};
 ghost use Rattle.netlist_table.specs.Netlist.{linesWhere};
 ghost use Rattle.netlist_table.specs.Admission.{wordsUndeclared};
-ghost use Rattle.netlist_copy.specs.Copy.{openLine, openLines};
+ghost use Rattle.netlist_open.specs.Copy.{openLine, openLines};
 ghost use Rattle.netlist_open.specs.Copied.{Copied};
 
 // The most bytes of a copy: those of a text, and a line `open,L` for each line.
@@ -27,9 +27,9 @@ const LINE_END: u8 = 10;
 fn put_open(copy: &mut [u8], at: usize, l: u32) -> usize
     ensures { λ r. ⌜ Put at (openLine l) (now (copy .entry)) (now (copy .exit)) r ⌝ }
 {
-    let word = writer_bytes::put_bytes(copy, at, b"open,");
-    let end = writer_bytes::put_decimal(copy, word, l);
-    writer_bytes::put_byte(copy, end, LINE_END)
+    let word = writer::bytes::put_bytes(copy, at, b"open,");
+    let end = writer::bytes::put_decimal(copy, word, l);
+    writer::bytes::put_byte(copy, end, LINE_END)
 }
 
 // The line of a text for a line that is read or marked, and neither driven nor open.
@@ -64,7 +64,7 @@ fn put_declared(copy: &mut [u8], net: &[u8], netlist: &[u32]) -> usize
     ensures { λ r. ⌜ Put 0 (now (net .entry) ++ openLines (linesWhere (wordsUndeclared (now (netlist .entry))) Size.lines 1))
         (now (copy .entry)) (now (copy .exit)) r ⌝ }
 {
-    let at = writer_bytes::put_bytes(copy, 0, net);
+    let at = writer::bytes::put_bytes(copy, 0, net);
     put_opens(copy, at, netlist)
 }
 

@@ -11,7 +11,7 @@ use native.Mathlib.Omega.{arith}
 use Rattle.sizes.specs.Sizes as Size
 use Rattle.text.specs.Bytes.{bytes}
 use Rattle.text.specs.Lines.{lines, sameBytes}
-use Rattle.text_fields.specs.Numeral.{nameForm}
+use Rattle.text.specs.Numeral.{nameForm}
 use Rattle.reading.specs.Choice.{pick}
 use Rattle.reading.specs.Numbers as No
 use Rattle.reading.specs.Refusal.{Read, refused, read, _>>=_, _>>_, weigh, form}

@@ -8,7 +8,7 @@ use Prim.Native.Nat.{ℕ, suc}
 use native.Mathlib.Omega.{arith}
 use Rattle.text.specs.Bytes.{bytes}
 use Rattle.text.specs.Lines.{lines, sameBytes}
-use Rattle.text_fields.specs.Numeral.{nameForm}
+use Rattle.text.specs.Numeral.{nameForm}
 use Rattle.reading.specs.Choice.{pick}
 use Rattle.reading.specs.Refusal.{read, _>>=_, _>>_, form}
 use Rattle.reading.specs.Numbers as No

@@ -10,7 +10,7 @@ use lib.ListN.{length}
 use Rattle.sizes.specs.Sizes as Size
 use Rattle.text.specs.Bytes.{bytes, bytes-open}
 use Rattle.text.specs.Lines.{lines, sameBytes, lines-open}
-use Rattle.text_fields.specs.Numeral.{decimal, nameForm, numeral-open}
+use Rattle.text.specs.Numeral.{decimal, nameForm, numeral-open}
 use Rattle.reading.specs.Choice.{pick}
 use Rattle.reading.specs.Numbers as No
 use Rattle.reading.specs.Refusal.{Read, read, _>>=_, _>>_, weigh, form, refusal-open}

@@ -1,4 +1,5 @@
-// The netlist table: its statements, and what the table says of its gates and lines. Crate `netlist_kinds` stores a statement.
+// The netlist table: its statements, and what the table says of its gates and lines. Module `netlist_admission::kinds` stores a
+// statement.
 //
 // Open to others: `line_bad` and `some_range`. Modules `gates` and `lines`: what a table says of its gates and lines, for all
 // that read it.

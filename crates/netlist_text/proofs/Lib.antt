@@ -1,3 +1,4 @@
-pub mod Declared
-pub mod EntryChecks
+mod Declared
+mod EntryChecks
 pub mod Walk
+mod Forms

@@ -3,6 +3,10 @@
 //
 // Open to others: `read_netlist`, which has no condition on its input: the library table may be any. For the crates above:
 // `read_all`, behind an entry that the caller has checked, into a table that holds no statement.
+//
+// Module `statements`: the statement that a line says.
+mod statements;
+
 ghost use mathlib.Core.Path.{_≡_};
 ghost use mathlib.Core.List.{List};
 ghost use Prim.Native.Nat.{_≤_};
@@ -18,11 +22,11 @@ ghost use Rattle.netlist_table.specs.Layout.{NetlistHolds};
 ghost use Rattle.netlist_table.specs.Admission.{Admits};
 ghost use Rattle.netlist_table.specs.Sound.{Sound};
 ghost use Rattle.netlist_text.specs.Reader.{netlistEntry, NoStatements, Fills, ReadsAs, ReadsNetlist};
+use crate::statements::declaring;
+use crate::statements::statement_of;
 use library_table::cells::told;
 use netlist_admission::admit;
 use netlist_admission::some_undeclared;
-use netlist_statements::declaring;
-use netlist_statements::statement_of;
 use netlist_table::Rules;
 use reading::Refusal;
 use reading::Verdict;

@@ -14,7 +14,7 @@ use Rattle.demands.specs.Outcome.{givenTexts}
 use Rattle.demands.proofs.Given.{texts-checked}
 use Rattle.sweep_groups.proofs.Gone.{gone-named}
 use Rattle.chip_values.proofs.Laws.{never-means-of, never-means, never-at-prices}
-use Rattle.netlist_copy.proofs.Pads.{pads-accepted}
+use Rattle.netlist_open.proofs.Pads.{pads-accepted}
 use Rattle.analysis_records.specs.Outcome.{givenRecords}
 use Rattle.analysis_records.proofs.Call.{checked}
 use Rattle.analysis_records.proofs.Same.{same-calls}

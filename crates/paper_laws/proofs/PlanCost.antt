@@ -23,7 +23,7 @@ use Rattle.demands.specs.Outcome.{Given, Lent, Pair, pairOf, entry, readPair, g
 use Rattle.demands.proofs.Given.{texts-checked}
 use Rattle.standing_table.specs.StandingTable.{StandsIn}
 use Rattle.standing_calls.proofs.Meaning.{means}
-use Rattle.plan_end.specs.Concluded.{known, askedNumber, kindOf}
+use Rattle.plan_calls.specs.Concluded.{known, askedNumber, kindOf}
 use Rattle.plan_calls.specs.Promise.{planOutcome, PlanPromised}
 use Rattle.paper_laws.specs.PlanCost.{PlanStands}
 

@@ -19,10 +19,10 @@ use Rattle.text.proofs.Laws.{split-whole, fields-join, lines-join}
 use Rattle.library_table.specs.Cells.{Row, Cell, rowValue}
 use Rattle.library_table.specs.Library.{Fields}
 use Rattle.netlist_table.specs.Netlist.{Gate, Statement}
-use Rattle.writer_bytes.specs.Digits.{digits}
-use Rattle.writer_bytes.specs.Decimal.{decimalBytes}
-use Rattle.writer_bytes.specs.Octal.{octalBytes}
-use Rattle.writer_bytes.proofs.Decimal.{decimal-read}
+use Rattle.writer.specs.Digits.{digits}
+use Rattle.writer.specs.Decimal.{decimalBytes}
+use Rattle.writer.specs.Octal.{octalBytes}
+use Rattle.writer.proofs.Decimal.{decimal-read}
 use Rattle.calculation.specs.Nodes.{Kind, Purpose}
 use Rattle.calculation.specs.Ways.{cellOf}
 use Rattle.calculation.specs.LinePlans.{Plan, Plan.input, Plan.row, Plan.output, Plan.through, Plans, Plans.done, Plans.also}

@@ -10,8 +10,8 @@ use Rattle.truth_tables.specs.Statements.{CellTells, GeneratedTells, SettingDes
 use Rattle.demands.specs.Outcome.{givenTexts}
 use Rattle.sweep_groups.specs.Gone.{GoneNamed}
 use Rattle.chip_values.specs.Never.{NeverOf, NeverAtPrices}
-use Rattle.netlist_copy.specs.Padded.{PadsAccepted}
-use Rattle.netlist_records.specs.declared.Record.{Record}
+use Rattle.netlist_open.specs.Padded.{PadsAccepted}
+use Rattle.analysis_records.specs.declared.record.Record.{Record}
 use Rattle.analysis_records.specs.Outcome.{givenRecords}
 use Rattle.analysis_records.specs.Same.{SameCalls}
 use Rattle.standing_change.specs.CallList.{under, CallsStand, PadsStand}

@@ -12,7 +12,7 @@ use Rattle.calculation.specs.LinePlans.{cost}
 use Rattle.calculation.specs.Pads.{State}
 use Rattle.demands.specs.Outcome.{Lent, givenTexts}
 use Rattle.standing_table.specs.StandingTable.{StandsIn}
-use Rattle.plan_end.specs.Concluded.{kindOf}
+use Rattle.plan_calls.specs.Concluded.{kindOf}
 use Rattle.plan_calls.specs.Promise.{PlanPromised}
 
 -- `plan-stands`: the call that writes a plan is lent the texts under which an analysis stands, and knows nothing of its pads. The

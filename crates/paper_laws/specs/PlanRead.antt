@@ -10,11 +10,11 @@ use lib.ListN.{length}
 use Rattle.reading.specs.Choice.{pick}
 use Rattle.text.specs.Bytes.{bytes}
 use Rattle.text.specs.Lines.{lines}
-use Rattle.text_fields.specs.Numeral.{numeral}
+use Rattle.text.specs.Numeral.{numeral}
 use Rattle.library_table.specs.Cells.{Cell}
 use Rattle.library_table.specs.Library.{Fields}
 use Rattle.netlist_table.specs.Netlist.{Gate, Statement}
-use Rattle.writer_bytes.specs.Decimal.{decimalBytes}
+use Rattle.writer.specs.Decimal.{decimalBytes}
 use Rattle.calculation.specs.Nodes.{Kind, Purpose}
 use Rattle.calculation.specs.Ways.{cellOf}
 use Rattle.calculation.specs.LinePlans.{Plan, Plan.input, Plan.row, Plan.output, Plan.through, Plans, Plans.done, Plans.also}

@@ -30,7 +30,7 @@ use Rattle.analysis_texts.specs.declared.Progress.{Progress}
 use Rattle.analysis_texts.specs.declared.Progress.the-variants.{Unrefused, AtEntry, Later}
 use Rattle.analysis_texts.specs.Progress.{Reached}
 use Rattle.analysis_texts.proofs.Reached.{stands-hold, zeroed-same}
-use Rattle.plan_end.specs.Concluded.{planRead, PlanConcluded, PlanMade}
+use Rattle.plan_calls.specs.Concluded.{planRead, PlanConcluded, PlanMade}
 use Rattle.plan_calls.specs.Promise.{ownNumber, planOutcome, tablesFilled, planFilled, planLater, planFrom, planLeft, PlanSeen, PlanRefusals, PlanPromised}
 
 pub plan-number : (cells : List Cell) (ss : List Statement) (l v kind space number line : ℕ) → planRead cells ss l v kind space ≡ refused number line

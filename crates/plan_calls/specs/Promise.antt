@@ -17,7 +17,7 @@ use Rattle.plan_text.specs.PlanText.{planText}
 use Rattle.plan_text.specs.Plan.{Cheapest}
 use Rattle.demands.specs.Demands.{NumbersStand}
 use Rattle.demands.specs.Outcome as O
-use Rattle.plan_end.specs.Concluded.{kindOf, planRead, PlanConcluded}
+use Rattle.plan_calls.specs.Concluded.{kindOf, planRead, PlanConcluded}
 
 -- The numbers of K3's own refusals.
 abbrev pub ownNumber : ℕ → Bool

@@ -3,12 +3,16 @@
 // Open to others: `write_plan`, over two texts, three tables and a text buffer that the caller lends, with a line, a
 // value and a kind; `put_plan`, what the program prints. They have no condition on their input;
 // specs/Promise.antt and specs/Printed.antt say what they promise. For the crates above: `write_plan_into`.
-use analysis_entry::clear_all;
+//
+// Module `end`: the numbers and the plan of what was read.
+pub mod end;
+
+use crate::end::calculate_plan;
 use analysis_texts::Progress;
 use analysis_texts::Tables;
+use analysis_texts::entry::clear_all;
 use analysis_texts::read_texts;
 use netlist_table::Rules;
-use plan_end::calculate_plan;
 use writer::Written;
 ghost use Rattle.sizes.specs.Sizes as Size;
 ghost use Rattle.writer.specs.Buffer.{writtenRead};

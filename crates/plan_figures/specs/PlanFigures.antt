@@ -10,7 +10,7 @@ use Rattle.reading.specs.Refusal.{Read, refused, read}
 use Rattle.demands.specs.Outcome.{givenTexts}
 use Rattle.plan_text.specs.PlanText.{text-open}
 use Rattle.writer.specs.Buffer.{textWithin}
-use Rattle.plan_end.specs.Concluded.{known, askedNumber, kindOf, planRead}
+use Rattle.plan_calls.specs.Concluded.{known, askedNumber, kindOf, planRead}
 use Rattle.plan_calls.specs.Promise.{planOutcome}
 use Rattle.report_figures.specs.Entries.{c1130, nand2, and2}
 use Rattle.report_figures.specs.Figures.{outcome-open, lent}

@@ -10,7 +10,7 @@ use Rattle.reading.specs.Refusal.{Read, read, _>>=_}
 use Rattle.demands.specs.Outcome as O
 use Rattle.calculation.specs.Pads.{padded}
 use Rattle.plan_text.specs.PlanText.{routeText, text-open}
-use Rattle.plan_end.specs.Concluded.{kindOf}
+use Rattle.plan_calls.specs.Concluded.{kindOf}
 use Rattle.report_figures.specs.Entries.{c1130, nand2, and2}
 use Rattle.report_figures.specs.Figures.{outcome-open}
 

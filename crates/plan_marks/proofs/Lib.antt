@@ -1,7 +1,13 @@
-pub mod Sweeps
+mod Sweeps
 pub mod Rest
-pub mod Run
+mod Run
 pub mod Observed
 pub mod Turned
 pub mod Padded
-pub mod TurnTimes
+mod TurnTimes
+mod RowsLaws
+pub mod Remembered
+mod Marks
+mod VisitsLaws
+mod Turns
+mod Wakes

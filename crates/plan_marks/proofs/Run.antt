@@ -30,9 +30,9 @@ use Rattle.sweep_start.specs.Start.{linesStart}
 use Rattle.sweep_runs.proofs.Bridge.{setting-sweep, start-is}
 use Rattle.sweep_runs.proofs.FourRuns.{set-fits}
 use Rattle.sweep_start.proofs.StartLines.{laid-length}
-use Rattle.plan_visits.specs.Marks.{NotedAs, AllNoted, Stands}
-use Rattle.plan_visits.specs.Visits.{Traced}
-use Rattle.plan_visits.proofs.Remembered.{trace-time, traces-last, traces-add, resting}
+use Rattle.plan_marks.specs.Marks.{NotedAs, AllNoted, Stands}
+use Rattle.plan_marks.specs.Visits.{Traced}
+use Rattle.plan_marks.proofs.Remembered.{trace-time, traces-last, traces-add, resting}
 use Rattle.plan_marks.specs.Lowered.{settingTrace}
 use Rattle.plan_marks.proofs.Sweeps.{gates-length}
 use Rattle.plan_marks.proofs.Rest.{visits, trace-lower, visits-inside}

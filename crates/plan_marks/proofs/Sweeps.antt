@@ -13,14 +13,14 @@ use Rattle.plans.specs.Sweep.{lower}
 use Rattle.plans.specs.Idle.{inTurn, Skipped}
 use Rattle.plans.specs.Trace.{Trace, traceSweep}
 use Rattle.sweep_groups.specs.Tables.{byRole}
-use Rattle.sweep_visits.specs.Order.{gateVisits}
-use Rattle.sweep_visits.proofs.Visits.{swept-none}
+use Rattle.sweep_turns.specs.Order.{gateVisits}
+use Rattle.sweep_turns.proofs.VisitsLaws.{swept-none}
 use Rattle.sweep_runs.specs.Order.{firstGates}
 use Rattle.sweep_runs.proofs.Asleep.{skipped-swept}
-use Rattle.plan_visits.specs.Marks.{Stands}
-use Rattle.plan_visits.specs.Visits.{Traced}
-use Rattle.plan_visits.proofs.Remembered.{trace-append, idle-sweep}
-use Rattle.plan_visits.proofs.Marks.{stands-same}
+use Rattle.plan_marks.specs.Marks.{Stands}
+use Rattle.plan_marks.specs.Visits.{Traced}
+use Rattle.plan_marks.proofs.Remembered.{trace-append, idle-sweep}
+use Rattle.plan_marks.proofs.Marks.{stands-same}
 
 module _ (kind : ℕ) (library netlist : List ℕ) where
   pub traced-none : (clock : ℕ) (numbers marks : List ℕ) → Traced kind library netlist [] clock numbers marks numbers marks false

@@ -1,2 +1,5 @@
 pub mod Lowered
 pub mod Runs
+pub mod Rows
+pub mod Marks
+pub mod Visits

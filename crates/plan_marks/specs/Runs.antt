@@ -9,7 +9,7 @@ use Rattle.library_table.specs.Cells.{Cell}
 use Rattle.netlist_table.specs.Netlist.{Statement}
 use Rattle.calculation.specs.Stored.{Holds}
 use Rattle.sweep_runs.specs.Asleep.{Resting}
-use Rattle.plan_visits.specs.Visits.{Fits}
+use Rattle.plan_marks.specs.Visits.{Fits}
 
 -- A sweep from a time on: gates that are asleep are idle.
 pub record SweepFits (kind : ℕ) (library netlist links numbers marks awake : List ℕ) (clock : ℕ) : Type 0 where

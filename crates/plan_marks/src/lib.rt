@@ -2,20 +2,25 @@
 // last lowered and of the row by which it was. A cheapest plan is read off from them.
 //
 // For the crates above: `trace`, over the library and the netlist table of accepted texts. specs/Lowered.antt has what
-// the sweeps remember; how it stands in the table of marks, `plan_visits`.
+// the sweeps remember; how it stands in the table of marks, `visits`.
 //
 // This run stands by itself, so that the sweeps of an analysis, which need no marks, pay nothing for them. Its sweeps go
 // in netlist order from one gate that is awake to the next, as those of crate `sweep_runs` do: the visits of a gate that
 // is asleep lower nothing, so that numbers, marks and times are those of the whole sweep.
+//
+// Modules: `rows`, the row by which a visit lowers its number; `visits`, one gate's visits, with their marks.
+pub mod rows;
+pub mod visits;
+
+use crate::visits::visit_gate;
 use netlist_table::gates::unchecked;
-use plan_visits::visit_gate;
-use sweep_awake::all_awake;
-use sweep_awake::next_awake;
-use sweep_awake::rest;
+use sweep_links::awake::all_awake;
+use sweep_links::awake::next_awake;
+use sweep_links::awake::rest;
 use sweep_links::link;
 use sweep_start::LOW;
 use sweep_start::start;
-use sweep_visits::either;
+use sweep_turns::visits::either;
 ghost use mathlib.Core.List.{List};
 ghost use mathlib.Core.Path.{_≡_};
 ghost use Rattle.library_table.specs.Cells.{Cell};
@@ -24,8 +29,8 @@ ghost use Rattle.calculation.specs.Nodes.{Kind, kindNumber};
 ghost use Rattle.sweep_runs.specs.Asleep.{Resting};
 ghost use Rattle.sweep_runs.specs.Order.{sweepVisits};
 ghost use Rattle.calculation.specs.Stored.{Holds};
-ghost use Rattle.plan_visits.specs.Marks.{AllNoted};
-ghost use Rattle.plan_visits.specs.Visits.{Traced};
+ghost use Rattle.plan_marks.specs.Marks.{AllNoted};
+ghost use Rattle.plan_marks.specs.Visits.{Traced};
 ghost use Rattle.plan_marks.specs.Lowered.{settingTrace};
 ghost use Rattle.plan_marks.specs.Runs.{SweepFits, Traceable};
 

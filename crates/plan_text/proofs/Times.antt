@@ -22,7 +22,7 @@ use Rattle.calculation.specs.Acceptance.{BothSound}
 use Rattle.calculation.specs.Calculation.{start}
 use Rattle.calculation.proofs.Visits.{setting-length}
 use Rattle.plan_marks.specs.Lowered.{settingTrace}
-use Rattle.plan_visits.proofs.Remembered.{trace-time}
+use Rattle.plan_marks.proofs.Remembered.{trace-time}
 use Rattle.plan_marks.proofs.Rest.{visits, most-sweeps, trace-lower}
 
 -- Every mark was made before the present time.

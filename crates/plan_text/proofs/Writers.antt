@@ -14,8 +14,8 @@ use Rattle.common_laws.proofs.Lists.{sets-past}
 use Rattle.sizes.specs.Sizes as Size
 use Rattle.reading.specs.Choice.{pick}
 use Rattle.reading.proofs.Laws.{by-test}
-use Rattle.writer_bytes.specs.Put.{Put}
-use Rattle.writer_bytes.proofs.Steps.{put-none, put-then}
+use Rattle.writer.specs.Put.{Put}
+use Rattle.writer.proofs.Steps.{put-none, put-then}
 use Rattle.sweep_sums.proofs.Columns.{no-places, lowest-first}
 use Rattle.plan_text.specs.PlanText.{nodeLine, joined}
 use Rattle.plan_text.specs.Writers.{visitAt, rowAt, lastAt, columnsAt, goalAt, goals, goalRow, goalLine, levels, lineBytes, rowBytes}

@@ -38,12 +38,12 @@ use Rattle.sweep_wires.specs.Wires.{onceColumns, sharesLine}
 use Rattle.sweep_groups.proofs.RowWays.{way-told, asking-few, asking-named}
 use Rattle.sweep_groups.proofs.Named.{set-node, setting-named}
 use Rattle.sweep_groups.proofs.Bridge as B
-use Rattle.plan_rows.specs.Rows.{stepRow, wayRow, asWritten, askingColumns}
-use Rattle.plan_visits.specs.Marks.{rowPlace, gateRow, Noted, Unnoted, NotedAs, AllNoted}
+use Rattle.plan_marks.specs.Rows.{stepRow, wayRow, asWritten, askingColumns}
+use Rattle.plan_marks.specs.Marks.{rowPlace, gateRow, Noted, Unnoted, NotedAs, AllNoted}
 use Rattle.plan_text.specs.PlanText.{nodeLine, rowText, inputText, wayRows, joined, lineFor, freeText, wayText, visitOf, stampOf, cheapestText}
 use Rattle.plan_text.specs.Writers.{visitAt, rowAt, columnsAt, lastAt, goalAt, goals, goalRow, goalLine, lineBytes, rowBytes}
 use Rattle.plan_text.proofs.ChosenRow.{trace, Chosen}
-use Rattle.writer_bytes.specs.Put.{Put}
+use Rattle.writer.specs.Put.{Put}
 use Rattle.calculation.specs.Stored.{Holds}
 use Rattle.plan_marks.specs.Lowered.{settingTrace, markFor, turnsFor}
 use Rattle.plan_text.specs.Plan.{Cheapest}

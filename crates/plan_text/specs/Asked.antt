@@ -6,7 +6,7 @@ use Prim.Native.Nat.{ℕ, _≤_}
 use lib.ListN.{getD}
 use Rattle.sizes.specs.Sizes as Size
 use Rattle.cost.specs.Cost.{most}
-use Rattle.writer_bytes.specs.Put.{Put}
+use Rattle.writer.specs.Put.{Put}
 use Rattle.library_table.specs.Cells.{Cell}
 use Rattle.netlist_table.specs.Netlist.{Statement}
 use Rattle.calculation.specs.Nodes.{Kind, kindNumber, set, node}

@@ -8,8 +8,8 @@ use mathlib.Core.Path.{_≡_}
 use Prim.Native.Nat.{ℕ, zero, suc, _+_, _<_}
 use lib.ListN.{length, getD}
 use Rattle.text.specs.Bytes.{bytes}
-use Rattle.writer_bytes.specs.Decimal.{decimalBytes, decimal-open}
-use Rattle.writer_bytes.specs.Octal.{octalBytes, octal-open}
+use Rattle.writer.specs.Decimal.{decimalBytes, decimal-open}
+use Rattle.writer.specs.Octal.{octalBytes, octal-open}
 use Rattle.plans.specs.Trace.{Mark}
 use Rattle.library_table.specs.Cells.{Row, rowValue, Group, Cell, Column, noRow}
 use Rattle.netlist_table.specs.Netlist.{Gate, Statement}

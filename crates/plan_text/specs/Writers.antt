@@ -7,7 +7,7 @@ use lib.Dec.{ltb, eqb}
 use lib.ListN.{getD}
 use Rattle.sizes.specs.Sizes as Size
 use Rattle.reading.specs.Choice.{pick}
-use Rattle.writer_bytes.specs.Octal.{octalBytes}
+use Rattle.writer.specs.Octal.{octalBytes}
 use Rattle.sweep_sums.specs.Columns.{columnPlaces}
 use Rattle.plan_text.specs.PlanText.{nodeLine, inputText, joined}
 

@@ -7,14 +7,14 @@
 // the tables.
 use plan_marks::trace;
 use table::word;
-use writer_bytes::put_byte;
-use writer_bytes::put_bytes;
-use writer_bytes::put_decimal;
-use writer_bytes::put_octal;
+use writer::bytes::put_byte;
+use writer::bytes::put_bytes;
+use writer::bytes::put_decimal;
+use writer::bytes::put_octal;
 ghost use mathlib.Core.Path.{_≡_};
 ghost use Prim.Native.Nat.{_+_, _-_, _/_, _%_, _^_, _<_};
 ghost use lib.Count.{trailingZeros};
-ghost use Rattle.writer_bytes.specs.Put.{Put};
+ghost use Rattle.writer.specs.Put.{Put};
 ghost use Rattle.plan_text.specs.Asked.{Askable, PutWhere};
 ghost use Rattle.plan_text.specs.PlanText.{nodeLine};
 ghost use Rattle.plan_text.specs.Writers.{goalAt, goalRow, lineBytes, rowBytes};

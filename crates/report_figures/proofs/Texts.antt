@@ -9,7 +9,7 @@ use Rattle.sizes.specs.Sizes as Size
 use Rattle.text.specs.Bytes.{bytes, text, bytes-open}
 use Rattle.text.specs.Class.{classOf, class-open}
 use Rattle.text.specs.Lines.{fields, lines, fieldsFrom, linesFrom, lines-open}
-use Rattle.text_fields.specs.Numeral.{decimal, numeral, nameForm, numeral-open}
+use Rattle.text.specs.Numeral.{decimal, numeral, nameForm, numeral-open}
 use Rattle.reading.specs.Refusal.{Read, refused, read, _>>=_, _>>_, weigh, form, refusal-open}
 use Rattle.text.specs.declared.Class.the-variants.{Digit, Letter, Comma, LineEnd, Other}
 

@@ -14,8 +14,8 @@ use Rattle.cost.specs.Cost.{over, never}
 use Rattle.text.specs.Bytes.{bytes}
 use Rattle.reading.specs.Choice.{pick}
 use Rattle.reading.proofs.Laws.{by-test}
-use Rattle.writer_bytes.specs.Decimal.{decimalBytes}
-use Rattle.writer_bytes.proofs.Decimal.{decimal-below, decimal-length}
+use Rattle.writer.specs.Decimal.{decimalBytes}
+use Rattle.writer.proofs.Decimal.{decimal-below, decimal-length}
 use Rattle.calculation.specs.declared.Counts.{Counts}
 use Rattle.calculation.specs.Settled.{FewSweeps}
 use Rattle.report_text.specs.Report.{costBytes, costsFrom, lineBytes, linesBytes, sweepsBytes, header, reportBytes, highLine, lineDigits, mostSweeps, sweepDigits, behindNumber, headerBytes, sweepsBeside, longestReport}

@@ -9,7 +9,7 @@ use Rattle.sizes.specs.Sizes as Size
 use Rattle.sizes.specs.Places.{linePlace}
 use Rattle.text.specs.Bytes.{bytes, bytes-open}
 use Rattle.reading.specs.Choice.{pick}
-use Rattle.writer_bytes.specs.Decimal.{decimalBytes, decimal-open}
+use Rattle.writer.specs.Decimal.{decimalBytes, decimal-open}
 use Rattle.calculation.specs.declared.Counts.{Counts}
 use Rattle.cost.specs.Cost.{over, never}
 

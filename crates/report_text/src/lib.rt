@@ -10,15 +10,15 @@ ghost use Prim.Native.Nat.{_+_, _<_};
 ghost use Rattle.sizes.specs.Sizes as Size;
 ghost use Rattle.reading.specs.Choice.{pick};
 ghost use Rattle.netlist_table.specs.Lines.{highestMentioned};
-ghost use Rattle.writer_bytes.specs.Decimal.{decimalBytes};
-ghost use Rattle.writer_bytes.specs.Put.{Put};
+ghost use Rattle.writer.specs.Decimal.{decimalBytes};
+ghost use Rattle.writer.specs.Put.{Put};
 ghost use Rattle.report_text.specs.Report.{costBytes, costsFrom, lineBytes, linesBytes, sweepsBytes, highLine};
 ghost use Rattle.report_text.specs.Arguments.{marked, reportOf};
 use calculation::Counts;
 use netlist_table::lines;
-use writer_bytes::put_byte;
-use writer_bytes::put_bytes;
-use writer_bytes::put_decimal;
+use writer::bytes::put_byte;
+use writer::bytes::put_bytes;
+use writer::bytes::put_decimal;
 
 const COMMA: u8 = 44;
 

@@ -26,7 +26,7 @@ fn put_output(
     let Loaded::Bytes(net_length) = net_loaded else {
         return put_unreadable(output);
     };
-    analysis_printed::put_analysis(front(lib, lib_length), front(net, net_length), output)
+    analysis_call::printed::put_analysis(front(lib, lib_length), front(net, net_length), output)
 }
 
 // Writes what the program prints of its files. The files are handed on for the condition alone.

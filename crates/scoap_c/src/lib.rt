@@ -4,16 +4,16 @@
 // Open to others: `scoap_report`, `scoap_plan`, `scoap_cell`, `scoap_built_in`, `scoap_qualifies`, `scoap_stand`,
 // `scoap_ask`, `scoap_commit`, `scoap_change`, `scoap_best`, `scoap_advise` and `scoap_rank`. They have no condition
 // on their input. What each promises, and what the number of all of them tells, is said by crate `answer_codes`, which also
-// makes the number of an answer; that of `scoap_qualifies` is made by crate `answer_qualifies`.
+// makes the number of an answer; that of `scoap_qualifies` is made by module `answer_codes::qualifies`.
 use analysis_texts::Tables;
 use answer_codes::advised_code;
 use answer_codes::answer_code;
 use answer_codes::change_code;
 use answer_codes::limit_plan;
 use answer_codes::pads_code;
+use answer_codes::qualifies::qualifies_code;
 use answer_codes::ranked_code;
 use answer_codes::steps_code;
-use answer_qualifies::qualifies_code;
 ghost use Rattle.answer_codes.specs.Advice.{AdviceCoded, RankCoded};
 ghost use Rattle.answer_codes.specs.Best.{BestCoded};
 ghost use Rattle.answer_codes.specs.BuiltIn.{BuiltInCoded};

@@ -1,1 +1,2 @@
-pub mod Output
+mod Output
+mod Laws

@@ -11,7 +11,7 @@ use Rattle.reading.specs.Choice.{pick}
 use Rattle.reading.specs.Numbers as No
 use Rattle.reading.specs.Refusal.{weigh}
 use Rattle.text.specs.Bytes.{bytes}
-use Rattle.writer_bytes.specs.Put.{Put}
+use Rattle.writer.specs.Put.{Put}
 use Rattle.demands.specs.Outcome as O
 use Rattle.demands.specs.Outcome.{givenBy, givenTexts, textLong}
 use Rattle.demands.specs.Own.{ownTables}
@@ -20,9 +20,9 @@ use Rattle.plan_calls.specs.Printed.{planPrinted, PlanPrinted}
 use Rattle.files.specs.declared.Loaded.{Loaded}
 use Rattle.files.specs.Output.{Outputs, LongRefused, PrintsFiles}
 use Rattle.files.proofs.Output.{prints-outputs, put-outputs, long-shown, either-long}
-use Rattle.plan_arguments.specs.declared.Arguments.{Arguments}
-use Rattle.plan_arguments.specs.declared.Arguments.the-variants.{Plan, Usage}
-use Rattle.plan_arguments.specs.Arguments.{usage}
+use Rattle.scoap_plan.specs.declared.arguments.Arguments.{Arguments}
+use Rattle.scoap_plan.specs.declared.arguments.Arguments.the-variants.{Plan, Usage}
+use Rattle.scoap_plan.specs.Arguments.{usage}
 use Rattle.demands.proofs.EntryChecks.{own-entry}
 use Rattle.scoap_plan.specs.Output.{planShown, planOutput, PlanOutputs}
 

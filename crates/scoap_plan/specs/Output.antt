@@ -8,9 +8,9 @@ use Rattle.sizes.specs.Sizes as Size
 use Rattle.files.specs.declared.Loaded.{Loaded}
 use Rattle.files.specs.Output.{ofFiles, Outputs, PrintsFiles}
 use Rattle.plan_calls.specs.Printed.{planPrinted}
-use Rattle.plan_arguments.specs.declared.Arguments.{Arguments}
-use Rattle.plan_arguments.specs.declared.Arguments.the-variants.{Plan, Usage}
-use Rattle.plan_arguments.specs.Arguments.{usage}
+use Rattle.scoap_plan.specs.declared.arguments.Arguments.{Arguments}
+use Rattle.scoap_plan.specs.declared.arguments.Arguments.the-variants.{Plan, Usage}
+use Rattle.scoap_plan.specs.Arguments.{usage}
 
 -- Of two texts: the text or the refusal, by a buffer of 65,536 bytes, as `scoap` has for the report.
 unfoldable pub planShown : (line value kind : ℕ) (lib net : List ℕ) → List ℕ

@@ -2,17 +2,21 @@
 // the line to the value, of kind 0 (combinational) or 1 (sequential), or `refused,number,line`, or `unreadable` where a file
 // cannot be read, or how it is used. What it prints of arguments and of files that were loaded is proved: `put_output` puts it
 // ready, and `print_output` takes nothing else.
+//
+// Module `arguments`: what the program is asked for.
+mod arguments;
+
+use crate::arguments::Arguments;
+use crate::arguments::put_usage;
+use crate::arguments::read_arguments;
 use files::FILE_BYTES;
 use files::Loaded;
 use files::front;
 use files::put_unreadable;
-use plan_arguments::Arguments;
-use plan_arguments::put_usage;
-use plan_arguments::read_arguments;
 ghost use mathlib.Core.Path.{_≡_};
 ghost use Rattle.sizes.specs.Sizes as Size;
 ghost use Rattle.files.specs.Output.{PrintsFiles};
-ghost use Rattle.plan_arguments.specs.Arguments.{argumentsOf};
+ghost use Rattle.scoap_plan.specs.Arguments.{argumentsOf};
 ghost use Rattle.scoap_plan.specs.Output.{planShown, planOutput, PlanOutputs};
 
 // One byte more than a decimal may have.

@@ -198,7 +198,7 @@ rankWords = 4
 abbrev pub ranks : ℕ
 ranks = lines * rankWords
 
--- ---- the set of crate `sweep_awake`
+-- ---- the set of module `sweep_links::awake`
 
 -- A bit for each gate, in words.
 abbrev pub wordBits : ℕ

@@ -138,7 +138,7 @@ pub const RANK_WORDS: usize = 4;
 
 pub const RANKS: usize = LINES * RANK_WORDS;
 
-// ---- the set of crate `sweep_awake`
+// ---- the set of module `sweep_links::awake`
 
 // A bit for each gate, in words.
 pub const WORD_BITS: usize = 64;

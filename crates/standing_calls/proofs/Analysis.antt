@@ -29,7 +29,7 @@ use Rattle.demands.proofs.EntryChecks.{own-fit}
 use Rattle.demands.proofs.Given.{Checked}
 use Rattle.demands.proofs.Room.{pair-sound, entry-number, later-number, longest-most}
 use Rattle.demands.specs.Own.{ownTables}
-use Rattle.standing_texts.specs.Held.{entered}
+use Rattle.standing_table.specs.Held.{entered}
 use Rattle.standing_calls.specs.Calls.{tableShort, standing, stoodLater, stoodFrom, stood, reportedFrom, reported}
 use Rattle.standing_calls.specs.Promise.{StandPromised}
 use Rattle.standing_table.specs.StandingTable.{standingWords, StandsIn}

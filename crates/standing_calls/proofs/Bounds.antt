@@ -18,7 +18,7 @@ use Rattle.demands.specs.Outcome.{givenBy, givenTexts, textLong, readPair, answ
 use Rattle.demands.specs.Outcome as O
 use Rattle.demands.proofs.Bounds.{lastLine, pair-within, refusal-told}
 use Rattle.demands.specs.Own.{ownTables}
-use Rattle.standing_texts.specs.Held.{entered, heldBy}
+use Rattle.standing_table.specs.Held.{entered, heldBy}
 use Rattle.standing_calls.specs.Calls.{comes, ticketOf, placedOf, tableShort, standing}
 
 module _ (lib net : List ℕ) where

@@ -30,14 +30,14 @@ use Rattle.sweep_reruns.specs.Kept.{ObservedAnew}
 use Rattle.calculation.specs.Stored.{Holds, Ready}
 use Rattle.demands.specs.Outcome.{Given, readPair}
 use Rattle.demands.proofs.Given.{Checked}
-use Rattle.standing_texts.specs.Held.{entered, heldBy, padCauses}
+use Rattle.standing_table.specs.Held.{entered, heldBy, padCauses}
 use Rattle.standing_calls.specs.Calls.{comes, tableShort, answerShort, ticketOf, answerAfter, placedOf, tableAfter}
 use Rattle.standing_table.specs.StandingTable.{StoresPad}
-use Rattle.standing_texts.specs.Parts.{PadRead}
+use Rattle.standing_table.specs.Parts.{PadRead}
 use Rattle.standing_calls.specs.Promise.{AskPromised, CommitPromised}
 use Rattle.standing_table.specs.StandingTable.{standingWords, padsHeld, countsHeld, analysisHeld, stateHeld, observedWords}
 use Rattle.standing_calls.proofs.Promise.{comes-short, held, more-few, ask-free, ask-promised, commit-free, commit-promised}
-use Rattle.standing_texts.proofs.Texts.{done-both}
+use Rattle.standing_table.proofs.TextsLaws.{done-both}
 
 pub is-short : (table : List ℕ) → length table < Size.standing → tableShort table ≡ true
 unfolding tableShort

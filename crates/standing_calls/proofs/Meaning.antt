@@ -30,7 +30,7 @@ use Rattle.demands.proofs.Numbers.{placed-purpose}
 use Rattle.demands.specs.Demands.{Reported}
 use Rattle.demands.specs.Outcome.{Given, readPair}
 use Rattle.sweep_reruns.specs.Kept.{held}
-use Rattle.standing_texts.specs.Held.{entered, foreign, heldBy}
+use Rattle.standing_table.specs.Held.{entered, foreign, heldBy}
 use Rattle.standing_calls.specs.Calls.{comes, tableShort}
 use Rattle.standing_calls.specs.Promise.{Meant}
 use Rattle.standing_table.specs.StandingTable.{standingWords, analysisHeld, stateHeld, StandsIn}

@@ -33,7 +33,7 @@ use Rattle.demands.proofs.Numbers.{placed-purpose}
 use Rattle.demands.specs.Outcome.{Given, Pair, readPair}
 use Rattle.demands.proofs.Acceptance.{read-as}
 use Rattle.demands.proofs.Given.{Checked}
-use Rattle.standing_texts.specs.Held.{entered, foreign, heldBy}
+use Rattle.standing_table.specs.Held.{entered, foreign, heldBy}
 use Rattle.standing_calls.specs.Calls.{comes, tableShort, answerShort, ticketOf, answerAfter, placedOf, tableAfter, asked, committed}
 use Rattle.standing_table.specs.StandingTable.{answerPlace}
 use Rattle.standing_calls.specs.Promise.{Answered, AskRefused, PadSeen, AskPromised, CommitRefused, CommitPromised}

@@ -12,7 +12,7 @@ use Rattle.calculation.specs.Calculation.{analysed}
 use Rattle.calculation.specs.Pads.{padded, State, placed, Operation, ask, commit, causesOf, checked}
 use Rattle.demands.specs.Outcome as O
 use Rattle.demands.specs.Own.{ownTables}
-use Rattle.standing_texts.specs.Held.{entered, heldBy}
+use Rattle.standing_table.specs.Held.{entered, heldBy}
 use Rattle.standing_calls.specs.declared.Pads.{Pads}
 use Rattle.standing_calls.specs.declared.Pads.the-variants.{Count, Refused}
 use Rattle.standing_table.specs.StandingTable.{standingWords, observedWords}

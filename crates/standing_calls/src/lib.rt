@@ -5,7 +5,7 @@
 // output; `commit`, which marks it; the type `Pads`. They have no condition on their input; specs/Calls.antt says what
 // they answer and leave, specs/Promise.antt what that means of a standing analysis. The published sizes are
 // `sizes::STANDING` and `sizes::OBSERVED`.
-// What they are made of: crate `standing_texts` reads what is lent, crate `standing_table` runs and stores.
+// What they are made of: module `standing_table::texts` reads what is lent, crate `standing_table` runs and stores.
 use analysis_call::analyse_into;
 use analysis_texts::Tables;
 use calculation::Counts;
@@ -18,8 +18,8 @@ use standing_table::hand_observed;
 use standing_table::observe;
 use standing_table::put_pad;
 use standing_table::put_standing;
-use standing_texts::read_pad;
-use standing_texts::refusal;
+use standing_table::texts::read_pad;
+use standing_table::texts::refusal;
 use sweep_sums::kinds::wide;
 use table::word;
 ghost use mathlib.Core.Path.{_≡_};

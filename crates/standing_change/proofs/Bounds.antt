@@ -21,7 +21,7 @@ use Rattle.netlist_table.proofs.Bounds.{netlist-within}
 use Rattle.calculation.specs.Pads.{State}
 use Rattle.demands.specs.Outcome.{Given, givenBy, givenTexts, textLong}
 use Rattle.demands.proofs.Bounds.{lastLine}
-use Rattle.standing_texts.specs.Held.{heldBy}
+use Rattle.standing_table.specs.Held.{heldBy}
 use Rattle.standing_calls.specs.Calls.{tableShort}
 use Rattle.standing_calls.proofs.Bounds.{held-within}
 use Rattle.standing_change.specs.Calls.{Change, changed, changedBy, comes, answerOf}

@@ -32,12 +32,12 @@ use Rattle.library_growth.specs.Held.{HoldsCells}
 use Rattle.demands.specs.Outcome.{Given, Pair, readPair, givenBy, givenTexts, textLong}
 use Rattle.demands.proofs.Acceptance.{read-as}
 use Rattle.standing_table.specs.StandingTable.{padsHeld, stateHeld}
-use Rattle.standing_texts.specs.Held.{entered, foreign, heldBy}
+use Rattle.standing_table.specs.Held.{entered, foreign, heldBy}
 use Rattle.standing_calls.specs.Calls.{tableShort}
-use Rattle.standing_texts.specs.Parts.{HeldRead}
-use Rattle.standing_texts.proofs.Texts.{done-both}
-use Rattle.standing_runs.specs.Parts.{readUnder, AgainFits, ReadAgain}
-use Rattle.standing_runs.proofs.Runs.{count-few}
+use Rattle.standing_table.specs.Parts.{HeldRead}
+use Rattle.standing_table.proofs.TextsLaws.{done-both}
+use Rattle.standing_change.specs.RunParts.{readUnder, AgainFits, ReadAgain}
+use Rattle.standing_change.proofs.RunsLaws.{count-few}
 use Rattle.standing_change.specs.Calls.{Change, changed, changedBy, comes}
 use Rattle.standing_change.specs.Parts.{StateHeld, SomeState, Changes}
 use Rattle.standing_change.specs.Promise.{ChangePromised}

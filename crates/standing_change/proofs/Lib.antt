@@ -1,5 +1,7 @@
-pub mod NewNetlist
-pub mod Promise
+mod NewNetlist
+mod Promise
 pub mod CallList
-pub mod Call
+mod Call
 pub mod Bounds
+mod RunsLaws
+mod Again

@@ -24,9 +24,9 @@ use Rattle.calculation.specs.Stored.{Holds}
 use Rattle.calculation.proofs.NewLibrary.{again-placeable, on-read, on-sound}
 use Rattle.library_growth.specs.Held.{HoldsCells}
 use Rattle.standing_table.specs.StandingTable.{standingWords, padsHeld, stateHeld}
-use Rattle.standing_texts.specs.Held.{foreign}
-use Rattle.standing_texts.specs.Parts.{PadsJudged}
-use Rattle.standing_runs.specs.Parts.{Stores, lesserHeld, readUnder, Again, ReadAgain}
+use Rattle.standing_table.specs.Held.{foreign}
+use Rattle.standing_table.specs.Parts.{PadsJudged}
+use Rattle.standing_change.specs.RunParts.{Stores, lesserHeld, readUnder, Again, ReadAgain}
 use Rattle.standing_change.specs.Calls.{goneOn, Change, changeOf, changed, answerOf, tableAfter}
 use Rattle.standing_change.specs.Parts.{StateHeld, Changes}
 

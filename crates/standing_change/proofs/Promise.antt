@@ -21,7 +21,7 @@ use Rattle.calculation.specs.StandingAnalysis.{Standing, wentOn, begunAgain, ch
 use Rattle.calculation.proofs.NewLibrary.{on-read, lesser-on, changed-standing, on-goes, same-library}
 use Rattle.demands.specs.Outcome.{Given}
 use Rattle.standing_table.specs.StandingTable.{standingWords, StandsIn}
-use Rattle.standing_texts.specs.Held.{heldBy}
+use Rattle.standing_table.specs.Held.{heldBy}
 use Rattle.standing_calls.specs.Calls.{tableShort}
 use Rattle.standing_calls.proofs.Meaning.{table-long, held-standing, means}
 use Rattle.standing_change.specs.Calls.{goneOn, Change, changeOf, changed, changedBy, comes, answerOf, tableAfter, told}

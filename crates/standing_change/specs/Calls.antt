@@ -18,7 +18,7 @@ use Rattle.calculation.specs.Pads.{State, statementsOf}
 use Rattle.calculation.specs.StandingAnalysis.{begunAgain}
 use Rattle.demands.specs.Outcome.{Given}
 use Rattle.standing_table.specs.StandingTable.{standingWords}
-use Rattle.standing_texts.specs.Held.{heldBy}
+use Rattle.standing_table.specs.Held.{heldBy}
 use Rattle.standing_calls.specs.Calls.{tableShort}
 use Rattle.standing_change.specs.declared.Changed.{Changed}
 use Rattle.standing_change.specs.declared.Changed.the-variants.{WentOn, BegunAgain, Refused}

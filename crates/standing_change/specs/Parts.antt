@@ -10,7 +10,7 @@ use Rattle.reading.specs.Refusal.{Read, read}
 use Rattle.calculation.specs.Pads.{State, statementsOf, placeable}
 use Rattle.calculation.specs.Stored.{Holds}
 use Rattle.standing_table.specs.StandingTable.{padsHeld, analysisHeld}
-use Rattle.standing_runs.specs.Parts.{readUnder}
+use Rattle.standing_change.specs.RunParts.{readUnder}
 use Rattle.standing_change.specs.Calls.{Change, answerOf, tableAfter}
 
 -- ---- the state that a table holds, whatever its numbers are

@@ -2,16 +2,20 @@
 //
 // Open to others: `change`; the type `Changed`. It has no condition on its input; specs/Calls.antt says what it answers and
 // leaves, specs/Promise.antt what that means of a standing analysis.
+//
+// Module `runs`: the runs of a change, over a standing table.
+mod runs;
+
+use crate::runs::begin_again;
+use crate::runs::go_on_from;
+use crate::runs::read_again;
 use library_growth::grown_at;
-use library_lines::read_lines;
+use library_text::lines::read_lines;
 use reading::Refusal;
 use reading::TABLE_SHORT;
 use reading::TEXT_LONG;
 use reading::Verdict;
-use standing_runs::begin_again;
-use standing_runs::go_on_from;
-use standing_runs::read_again;
-use standing_texts::read_held;
+use standing_table::texts::read_held;
 ghost use mathlib.Core.List.{List};
 ghost use Prim.Native.Nat.{_≤_};
 ghost use lib.ListN.{length};
@@ -20,7 +24,7 @@ ghost use Rattle.library_table.specs.Cells.{Cell};
 ghost use Rattle.calculation.specs.Pads.{State};
 ghost use Rattle.library_growth.specs.Held.{HoldsCells, SomeCells};
 ghost use Rattle.demands.specs.Outcome.{givenTexts};
-ghost use Rattle.standing_runs.specs.Parts.{readUnder};
+ghost use Rattle.standing_change.specs.RunParts.{readUnder};
 ghost use Rattle.standing_change.specs.Calls.{changedRead, changed, changedBy};
 ghost use Rattle.standing_change.specs.Parts.{StateHeld, SomeState, Changes};
 ghost use Rattle.standing_change.specs.Promise.{ChangePromised};

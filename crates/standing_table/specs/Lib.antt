@@ -1,1 +1,3 @@
 pub mod StandingTable
+pub mod Held
+pub mod Parts

@@ -3,6 +3,10 @@
 // For the crates above, each with what it asks and leaves: `observe`, CO and SO run again over the values that stand;
 // `hand_observed`, which lays them into an answer; `put_standing`, which lays an analysis into a standing table; `put_pad`,
 // which makes one pad more stand.
+//
+// Module `texts`: both texts and the pads, read into tables.
+pub mod texts;
+
 use calculation::Counts;
 use sweep_reruns::observe_anew;
 use sweep_runs::Sweeps;

@@ -1,1 +1,4 @@
 pub mod Lines
+mod Bits
+mod Turns
+mod AwakeLines

@@ -2,7 +2,9 @@
 // it, and which gates have pins that are tied.
 //
 // For the crates above, each with what it asks (specs/Lines.antt): `link`, which makes them, in one
-// array, and `is_tied`, which reads one. Crate `sweep_awake` wakes gates by them.
+// array, and `is_tied`, which reads one. Module `awake` wakes gates by them.
+pub mod awake;
+
 use netlist_table::gates::unchecked;
 use sweep_groups::cell_place;
 use sweep_sums::kinds::wide;

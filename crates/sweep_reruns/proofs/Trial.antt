@@ -22,10 +22,10 @@ use Rattle.calculation.specs.Ways.{observingVisits}
 use Rattle.calculation.specs.Stored.{Holds}
 use Rattle.calculation.proofs.Laws.{node-inside}
 use Rattle.sweep_links.specs.Lines.{Driven}
-use Rattle.sweep_awake.specs.Turns.{bitAt}
-use Rattle.sweep_awake.specs.Lines.{DriverWoken}
+use Rattle.sweep_links.specs.Turns.{bitAt}
+use Rattle.sweep_links.specs.AwakeLines.{DriverWoken}
 use Rattle.sweep_groups.specs.Tables.{byRole}
-use Rattle.sweep_visits.specs.Order.{turnVisits, gateVisits}
+use Rattle.sweep_turns.specs.Order.{turnVisits, gateVisits}
 use Rattle.sweep_runs.specs.Order.{sweepVisits}
 use Rattle.sweep_runs.specs.Asleep.{Resting}
 use Rattle.sweep_runs.specs.Fits.{RunFits, FreshFits}

@@ -6,8 +6,8 @@
 use calculation::Counts;
 use cost::NEVER;
 use netlist_table::gates::unchecked;
-use sweep_awake::wake_driver;
 use sweep_groups::turns::OBSERVING;
+use sweep_links::awake::wake_driver;
 use sweep_links::link;
 use sweep_runs::Sweeps;
 use sweep_runs::observe_lines;

@@ -13,9 +13,9 @@ use Rattle.plans.specs.Idle.{Idles, inTurn, Skipped}
 use Rattle.plans.proofs.Laws.{made-watched, asleep-skipped, skipped-sweep}
 use Rattle.calculation.specs.Changes.{changes}
 use Rattle.calculation.proofs.Sweeps.{same-alters, changes-append}
-use Rattle.sweep_awake.specs.Turns.{AllAwake, Rested, NextAwake}
-use Rattle.sweep_visits.specs.Order.{turnVisits}
-use Rattle.sweep_visits.specs.Renewed.{Swept}
+use Rattle.sweep_links.specs.Turns.{AllAwake, Rested, NextAwake}
+use Rattle.sweep_turns.specs.Order.{turnVisits}
+use Rattle.sweep_turns.specs.Renewed.{Swept}
 use Rattle.sweep_turns.specs.Wakes.{ChangesWoken}
 use Rattle.sweep_runs.specs.Order.{firstGates}
 use Rattle.sweep_runs.specs.Asleep.{Resting}

@@ -32,7 +32,7 @@ use Rattle.calculation.specs.Acceptance.{BothSound}
 use Rattle.sweep_groups.specs.Tables.{byRole, gateVisit}
 use Rattle.sweep_groups.proofs.Bridge.{pins-number, visit-is}
 use Rattle.sweep_start.specs.Start.{startNumber, priceWord, linePrice, lineStart, linesStart}
-use Rattle.sweep_visits.specs.Order.{gateVisits}
+use Rattle.sweep_turns.specs.Order.{gateVisits}
 use Rattle.sweep_runs.specs.Order.{sweepVisits}
 use Rattle.plans.specs.Idle.{inTurn}
 

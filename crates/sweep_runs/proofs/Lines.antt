@@ -30,7 +30,7 @@ use Rattle.calculation.proofs.Visits.{getD-listed, Sets, value-from, pins-from,
 use Rattle.sweep_groups.specs.Tables.{byRole, gatePins, visitPlace, gateVisit}
 use Rattle.sweep_groups.proofs.Bridge.{pins-number}
 use Rattle.sweep_groups.proofs.Named.{set-node, observe-node}
-use Rattle.sweep_visits.specs.Order.{gateVisits}
+use Rattle.sweep_turns.specs.Order.{gateVisits}
 use Rattle.sweep_turns.specs.Wakes.{NeedsLine, visitLine, NeedsByLine}
 use Rattle.sweep_turns.specs.Wakes as Table
 use Rattle.sweep_runs.proofs.Bridge.{values-are, pin-visit, pins-are}

@@ -8,7 +8,7 @@ use native.Mathlib.Omega.{arith}
 use Rattle.plans.specs.System.{Visit}
 use Rattle.plans.specs.Sweep.{lower, Settles}
 use Rattle.calculation.specs.Changes.{Going}
-use Rattle.sweep_visits.specs.Renewed.{Swept}
+use Rattle.sweep_turns.specs.Renewed.{Swept}
 use Rattle.sweep_runs.specs.Runs.{Runs}
 use Rattle.calculation.proofs.Sweeps.{changes-lower, going-first, going-on, going-ends, going-within}
 

@@ -7,7 +7,7 @@ use lib.ListN.{length, getD}
 use Rattle.sizes.specs.Sizes as Size
 use Rattle.plans.specs.Sweep.{lower}
 use Rattle.plans.specs.Idle.{Watched}
-use Rattle.sweep_visits.specs.Order.{turnVisits}
+use Rattle.sweep_turns.specs.Order.{turnVisits}
 use Rattle.sweep_turns.specs.Wakes.{Asleep}
 
 module _ (role kind : ℕ) (library netlist : List ℕ) where

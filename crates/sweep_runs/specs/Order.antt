@@ -6,7 +6,7 @@ use Prim.Native.Nat.{ℕ}
 use lib.ListN.{getD}
 use Rattle.plans.specs.System.{Visit}
 use Rattle.plans.specs.Idle.{inTurn}
-use Rattle.sweep_visits.specs.Order.{turnVisits}
+use Rattle.sweep_turns.specs.Order.{turnVisits}
 
 module _ (role kind : ℕ) (library netlist : List ℕ) where
   -- The visits of the gates of the first `count` turns.

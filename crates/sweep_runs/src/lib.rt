@@ -10,7 +10,7 @@
 // function tests a bound, here or in crate `sweep_turns`: what each asks of the tables (specs/Fits.antt) is
 // shown once, for the halves.
 //
-// A sweep goes from one awake gate to the next (crate `sweep_awake`), and makes the visits of each (crate
+// A sweep goes from one awake gate to the next (module `sweep_links::awake`), and makes the visits of each (crate
 // `sweep_turns`): a gate that is not awake is one whose visits change nothing, so that numbers and counts are
 // those of the whole sweep (specs/Asleep.antt). A run begins with at least those gates awake that are
 // not idle; `run_all` begins with all.
@@ -19,17 +19,17 @@
 // 0 combinational (CC, CO) and 1 sequential (SC, SO).
 use calculation::Counts;
 use netlist_table::gates::unchecked;
-use sweep_awake::all_awake;
-use sweep_awake::next_awake;
-use sweep_awake::rest;
 use sweep_groups::turns::OBSERVING;
 use sweep_groups::turns::SETTING;
+use sweep_links::awake::all_awake;
+use sweep_links::awake::next_awake;
+use sweep_links::awake::rest;
 use sweep_links::link;
 use sweep_start::start;
 use sweep_sums::kinds::COMBINATIONAL;
 use sweep_sums::kinds::SEQUENTIAL;
 use sweep_turns::visit_gate;
-use sweep_visits::either;
+use sweep_turns::visits::either;
 ghost use mathlib.Core.Path.{_≡_};
 ghost use mathlib.Core.List.{List, _++_};
 ghost use Prim.Native.Nat.{_≤_, _<_};
@@ -41,8 +41,8 @@ ghost use Rattle.netlist_table.specs.Netlist.{Statement, gatesOf};
 ghost use Rattle.calculation.specs.Calculation.{analysedAt};
 ghost use Rattle.calculation.specs.Prices.{pricesAt};
 ghost use Rattle.calculation.specs.Runs.{settingStages, observingStages};
-ghost use Rattle.sweep_visits.specs.Order.{gateOfTurn};
-ghost use Rattle.sweep_visits.specs.Renewed.{Swept};
+ghost use Rattle.sweep_turns.specs.Order.{gateOfTurn};
+ghost use Rattle.sweep_turns.specs.Renewed.{Swept};
 ghost use Rattle.sweep_runs.specs.Fits.{SweepFits, RunFits, FreshFits};
 ghost use Rattle.sweep_runs.specs.Halves.{HalfFits, Ran};
 ghost use Rattle.sweep_runs.specs.Order.{sweepVisits};

@@ -15,7 +15,7 @@ use Rattle.netlist_table.specs.Gates.{gateCell, gateLines}
 use Rattle.sweep_groups.specs.Tables.{readRow, groupColumns, gatePins, byRole, roleColumns, visitGroup, visitPlace, gateTied, visitWired, groupVisit, gateVisit}
 use Rattle.sweep_groups.specs.Fits.{LinesFit, Gathered, GatherFits, GroupFits, GateFits, LeastFits}
 use Rattle.sweep_groups.proofs.Gathered.{group-same, group-wider, read-narrow}
-use Rattle.sweep_visits.proofs.Visits.{visit-is}
+use Rattle.sweep_turns.proofs.VisitsLaws.{visit-is}
 use Rattle.sweep_turns.proofs.Turns.{gather-first, rows-same}
 
 module _ (kind : ℕ) (kind-fits : kind ≤ 1) (library netlist : List ℕ) (g e : ℕ) (gate-fits : GateFits library netlist g) (value : e ≤ 1)

@@ -1,3 +1,4 @@
 pub mod Wakes
-pub mod Turns
+mod Turns
 pub mod Groups
+pub mod VisitsLaws

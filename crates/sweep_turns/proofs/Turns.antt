@@ -20,12 +20,12 @@ use Rattle.sweep_groups.specs.Fits.{LinesFit, Gathered, GatherFits, GroupFits, 
 use Rattle.sweep_groups.proofs.Gathered.{group-wider}
 use Rattle.sweep_groups.proofs.Rows.{line-column, observe-column}
 use Rattle.sweep_groups.proofs.Roles.{role-set, role-observed}
-use Rattle.sweep_visits.specs.Fits.{VisitFits, CostsOf}
+use Rattle.sweep_turns.specs.VisitFits.{VisitFits, CostsOf}
 use Rattle.sweep_turns.specs.Fits.{TurnFits, GateVisitsFit, GateReadFits}
-use Rattle.sweep_visits.specs.Order.{turnGroup, readVisit, gateVisits}
-use Rattle.sweep_visits.specs.Renewed.{Led, Renewed, Swept}
+use Rattle.sweep_turns.specs.Order.{turnGroup, readVisit, gateVisits}
+use Rattle.sweep_turns.specs.Renewed.{Led, Renewed, Swept}
 use Rattle.sweep_turns.specs.Wakes.{OwnUnread, ChangesWoken}
-use Rattle.sweep_visits.proofs.Visits.{visit-keeps, visit-is}
+use Rattle.sweep_turns.proofs.VisitsLaws.{visit-keeps, visit-is}
 
 columns-few : (role : ℕ) {lines : List ℕ} {pins : ℕ} → LinesFit lines pins → roleColumns role pins ≤ Size.columns
 columns-few role {lines} {pins} f = go (ℕ-discrete role 0)

@@ -13,16 +13,16 @@ use Rattle.plans.specs.System.{Visit}
 use Rattle.plans.specs.Sweep.{at}
 use Rattle.plans.specs.Idle.{Needs}
 use Rattle.reading.specs.Choice.{pick}
-use Rattle.sweep_awake.specs.Turns.{bitAt}
+use Rattle.sweep_links.specs.Turns.{bitAt}
 use Rattle.netlist_table.specs.Gates.{gateLine, gateLines}
-use Rattle.sweep_awake.specs.Lines.{ReadersWoken, DriverWoken}
+use Rattle.sweep_links.specs.AwakeLines.{ReadersWoken, DriverWoken}
 use Rattle.sweep_groups.specs.Tables.{byRole, groupVisit, gatePins, visitCount, visitPlace, gateVisit}
 use Rattle.sweep_links.specs.Lines.{Chained, Driven}
 use Rattle.sweep_turns.specs.Fits.{WakeFits, GateReadFits}
-use Rattle.sweep_visits.specs.Order.{gateOfTurn, turnVisits}
-use Rattle.sweep_visits.specs.Renewed.{Renewed}
+use Rattle.sweep_turns.specs.Order.{gateOfTurn, turnVisits}
+use Rattle.sweep_turns.specs.Renewed.{Renewed}
 use Rattle.sweep_turns.specs.Wakes.{Asleep, visitLine, OwnUnread, DrivenOnce, NeedsByLine, LineWoken, ChangesWoken}
-use Rattle.sweep_visits.proofs.Visits.{visit-keeps, turn-inside}
+use Rattle.sweep_turns.proofs.VisitsLaws.{visit-keeps, turn-inside}
 
 -- ---- whether a pin reads the gate's own line
 

@@ -1,4 +1,4 @@
--- What the visits of a gate ask of the tables, the links and the numbers (specs/Fits.antt of crate `sweep_visits`).
+-- What the visits of a gate ask of the tables, the links and the numbers (specs/VisitFits.antt).
 -- Assumes nothing.
 use mathlib.Core.Bool.{Bool, true}
 use mathlib.Core.List.{List}
@@ -11,7 +11,7 @@ use Rattle.netlist_table.specs.Gates.{gateCell}
 use Rattle.sweep_links.specs.Lines.{Chained, Driven, Links}
 use Rattle.sweep_groups.specs.Tables.{gatePins, roleColumns, visitCount}
 use Rattle.sweep_groups.specs.Fits.{LinesFit, Gathered, GroupFits, TablesFit}
-use Rattle.sweep_visits.specs.Order.{turnGroup}
+use Rattle.sweep_turns.specs.Order.{turnGroup}
 use Rattle.sweep_turns.specs.Wakes.{NeedsByLine}
 
 -- Visit i of a gate, out of what was read of it, over the costs of its columns.

@@ -1,2 +1,5 @@
 pub mod Wakes
 pub mod Fits
+pub mod Order
+pub mod Renewed
+pub mod VisitFits

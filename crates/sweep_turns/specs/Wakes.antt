@@ -11,10 +11,10 @@ use Rattle.sizes.specs.Places.{observingPlace}
 use Rattle.plans.specs.System.{Way, Visit}
 use Rattle.plans.specs.Sweep.{at}
 use Rattle.plans.specs.Idle.{Needs}
-use Rattle.sweep_awake.specs.Turns.{bitAt}
+use Rattle.sweep_links.specs.Turns.{bitAt}
 use Rattle.netlist_table.specs.Gates.{gateLine, gateLines}
 use Rattle.sweep_groups.specs.Tables.{byRole, gatePins, visitCount, visitPlace, gateVisit}
-use Rattle.sweep_visits.specs.Order.{gateOfTurn, gateVisits, turnVisits}
+use Rattle.sweep_turns.specs.Order.{gateOfTurn, gateVisits, turnVisits}
 
 -- The turn is not awake.
 abbrev pub Asleep : List ℕ → ℕ → Type 0

@@ -2,23 +2,25 @@
 // number, and the gates that a changed number wakes.
 //
 // For the crates above: `visit_gate`, with what it asks of the tables (specs/Fits.antt), since the loop of the sweeps
-// tests no bounds. A visit itself is made by crate `sweep_visits`.
+// tests no bounds. A visit itself is made by module `visits`.
 //
 // All goes by a role's number, 0 setting (CC, SC) and 1 observing (CO, SO), and by a kind's number,
 // 0 combinational (CC, CO) and 1 sequential (SC, SO).
+pub mod visits;
+
+use crate::visits::either;
+use crate::visits::visit;
 use netlist_table::gates::unchecked;
-use sweep_awake::wake_driver;
-use sweep_awake::wake_readers;
 use sweep_groups::cell_place;
 use sweep_groups::gather::column_costs;
 use sweep_groups::turns::OBSERVING;
 use sweep_groups::turns::SETTING;
 use sweep_groups::turns::visit_group;
 use sweep_groups::turns::visit_place;
+use sweep_links::awake::wake_driver;
+use sweep_links::awake::wake_readers;
 use sweep_links::is_tied;
 use sweep_sums::kinds::wide;
-use sweep_visits::either;
-use sweep_visits::visit;
 ghost use mathlib.Core.Path.{_≡_};
 ghost use mathlib.Core.Bool.{true, false};
 ghost use mathlib.Core.List.{List};
@@ -27,8 +29,8 @@ ghost use lib.ListN.{getD};
 ghost use Rattle.sizes.specs.Sizes as Size;
 ghost use Rattle.sweep_links.specs.Lines.{Chained, Driven};
 ghost use Rattle.sweep_turns.specs.Fits.{TurnFits, WakeFits, GateVisitsFit, GateReadFits};
-ghost use Rattle.sweep_visits.specs.Order.{readVisit, gateVisits};
-ghost use Rattle.sweep_visits.specs.Renewed.{Led, Renewed, Swept};
+ghost use Rattle.sweep_turns.specs.Order.{readVisit, gateVisits};
+ghost use Rattle.sweep_turns.specs.Renewed.{Led, Renewed, Swept};
 ghost use Rattle.sweep_turns.specs.Wakes.{OwnUnread, LineWoken, ChangesWoken, DrivenOnce};
 
 // Where a number of a line changed, wakes the gates that need it: where lines are set those that read

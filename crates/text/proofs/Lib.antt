@@ -1,3 +1,5 @@
 pub mod Cursors
 pub mod Laws
-pub mod Steps
+mod Steps
+pub mod FieldLaws
+mod FieldSteps

@@ -1,8 +1,10 @@
 // The text layer: classes of bytes, lines and fields of a lent text, and whether two strings of bytes are the same. What a
-// field says is in crate `text_fields`.
+// field says is in module `fields`.
 //
 // Open to other crates, each for every input: `line`, `field`, `after`, `is_last`, `same`. For the crates above: `class_of`,
 // and the type `Class`.
+pub mod fields;
+
 ghost use mathlib.Core.Path.{_≡_};
 ghost use mathlib.Core.Bool.{_&&_};
 ghost use Prim.Native.Nat.{_+_, _≤_};

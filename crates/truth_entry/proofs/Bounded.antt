@@ -15,7 +15,7 @@ use Rattle.reading.specs.Numbers as No
 use Rattle.reading.specs.Refusal.{Read, refused, read, _>>=_, _>>_, weigh, form}
 use Rattle.reading.proofs.Laws.{by-test, and-left, refused-read}
 use Rattle.text.specs.Lines.{lines}
-use Rattle.text_fields.specs.Numeral.{decimal, nameForm}
+use Rattle.text.specs.Numeral.{decimal, nameForm}
 use Rattle.library_table.specs.Library.{Fields}
 use Rattle.writer.specs.declared.Written.{Written}
 use Rattle.writer.specs.Buffer.{textWithin, lengthRead, writtenRead, Writes}

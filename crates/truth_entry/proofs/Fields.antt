@@ -12,7 +12,7 @@ use Rattle.reading.specs.Choice.{pick}
 use Rattle.reading.specs.Numbers as No
 use Rattle.reading.specs.Refusal.{Read, refused, _>>=_, _>>_, weigh, form}
 use Rattle.reading.proofs.Laws.{by-test, and-right}
-use Rattle.text_fields.specs.Numeral.{decimal, nameForm}
+use Rattle.text.specs.Numeral.{decimal, nameForm}
 use Rattle.writer.specs.Buffer.{textWithin}
 use Rattle.truth_tables.specs.Entries.{cellOf, entryBytes}
 use Rattle.truth_tables.specs.Tables.{allOf}

@@ -11,7 +11,7 @@ use Rattle.reading.specs.Choice.{pick}
 use Rattle.reading.specs.Numbers as No
 use Rattle.reading.specs.Refusal.{Read, read, _>>=_, _>>_, weigh, form, refusal-open}
 use Rattle.text.specs.Lines.{lines, lines-open}
-use Rattle.text_fields.specs.Numeral.{decimal, nameForm, numeral-open}
+use Rattle.text.specs.Numeral.{decimal, nameForm, numeral-open}
 use Rattle.writer.specs.Buffer.{textWithin}
 use Rattle.library_table.specs.Library.{Fields}
 use Rattle.truth_tables.specs.Entries.{cellOf, entryBytes, entries-open}

@@ -2,23 +2,27 @@
 //
 // Open to others: `put_entry` and `put_printed`. They have no condition on their input; specs/Generated.antt says what a text
 // comes to, `writer` what is answered, left and printed of it. What that is, in rows, is said by crate `truth_tables`.
+//
+// Module `printed`: the six lines of an entry.
+mod printed;
+
+use crate::printed::put_cell;
 use reading::Refusal;
 use text::after;
 use text::field;
+use text::fields::Numeral;
+use text::fields::decimal;
+use text::fields::is_name;
 use text::is_last;
 use text::line;
-use text_fields::Numeral;
-use text_fields::decimal;
-use text_fields::is_name;
 use truth_rows::masks::power;
-use truth_text::put_cell;
 use writer::Written;
 ghost use mathlib.Core.Bool.{_&&_, true};
 ghost use mathlib.Core.Path.{_≡_};
 ghost use mathlib.Core.Option.{none};
 ghost use lib.ListN.{length};
 ghost use Rattle.reading.specs.Choice.{pick};
-ghost use Rattle.text_fields.specs.Numeral.{decimal, nameForm, numeralRead};
+ghost use Rattle.text.specs.Numeral.{decimal, nameForm, numeralRead};
 ghost use Rattle.truth_tables.specs.Tables.{allOf};
 ghost use Rattle.truth_rows.specs.Masks.{isBit};
 ghost use Rattle.writer.specs.Buffer.{leftBy, shown, writtenRead, Writes, Prints};

@@ -12,7 +12,7 @@ use Rattle.reading.specs.Numbers as No
 use Rattle.reading.specs.Refusal.{refused, read, _>>=_}
 use Rattle.reading.proofs.Laws.{by-test, refused-read}
 use Rattle.text.specs.Bytes.{text, bytes-open}
-use Rattle.writer_bytes.specs.Put.{Put}
+use Rattle.writer.specs.Put.{Put}
 use Rattle.writer.specs.Buffer.{textWithin, lengthRead, writtenRead, Writes, Closes, LineBelow}
 use Rattle.writer.specs.declared.Written.{Written}
 use Rattle.writer.proofs.Buffer.{text-fits, text-long, text-line, put-closed}

@@ -3,7 +3,7 @@
 //
 // Open to others: `put_built_in`, which has no condition.
 use writer::Written;
-use writer_bytes::put_bytes;
+use writer::bytes::put_bytes;
 ghost use mathlib.Core.Logic.{_↔_};
 ghost use mathlib.Core.Path.{_≡_};
 ghost use Prim.Native.Nat.{_<_};

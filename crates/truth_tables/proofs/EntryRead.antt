@@ -18,12 +18,12 @@ use Rattle.reading.proofs.Laws.{by-test, and-left, and-right, or-cases}
 use Rattle.text.specs.Bytes.{bytes}
 use Rattle.text.specs.Class.{between}
 use Rattle.text.specs.Lines.{lines, fields, sameBytes, lines-open}
-use Rattle.text_fields.specs.Numeral.{digitBelow, allDigits, value, decimal, nameByte, allName, nameForm, numeral-open}
+use Rattle.text.specs.Numeral.{digitBelow, allDigits, value, decimal, nameByte, allName, nameForm, numeral-open}
 use Rattle.text.proofs.Laws.{fields-join, lines-join, split-whole, sameBytes-refl, sameBytes-true}
-use Rattle.text_fields.proofs.Laws.{digit-high, digits-free}
-use Rattle.writer_bytes.specs.Decimal.{decimalBytes, decimal-open}
-use Rattle.writer_bytes.specs.Octal.{octalBytes}
-use Rattle.writer_bytes.proofs.Octal.{octal-digits, octal-value, octal-read}
+use Rattle.text.proofs.FieldLaws.{digit-high, digits-free}
+use Rattle.writer.specs.Decimal.{decimalBytes, decimal-open}
+use Rattle.writer.specs.Octal.{octalBytes}
+use Rattle.writer.proofs.Octal.{octal-digits, octal-value, octal-read}
 use Rattle.library_table.specs.Cells.{plain, Row, rowOf, depthBits, Group, Cell}
 use Rattle.library_table.specs.declared.Word.{Word}
 use Rattle.library_table.specs.declared.Word.the-variants.{CC, CO, SC, SO}

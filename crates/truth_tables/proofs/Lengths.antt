@@ -9,11 +9,11 @@ use native.Mathlib.Omega.{arith}
 use lib.ListN.{length, length-append, length-map}
 use Rattle.reading.specs.Each.{Each}
 use Rattle.text.specs.Bytes.{bytes}
-use Rattle.text_fields.specs.Numeral.{nameForm}
-use Rattle.text_fields.proofs.Laws.{nameForm-length}
-use Rattle.writer_bytes.specs.Octal.{octalBytes}
-use Rattle.writer_bytes.proofs.Decimal.{decimal-length}
-use Rattle.writer_bytes.proofs.Octal.{octal-most}
+use Rattle.text.specs.Numeral.{nameForm}
+use Rattle.text.proofs.FieldLaws.{nameForm-length}
+use Rattle.writer.specs.Octal.{octalBytes}
+use Rattle.writer.proofs.Decimal.{decimal-length}
+use Rattle.writer.proofs.Octal.{octal-most}
 use Rattle.library_table.specs.Cells.{Group}
 use Rattle.truth_tables.specs.Entries.{settingRow, observingRow, settingGroup, observingGroup, settingGroups, groupsFrom, observingGroups, cellOf, rowNumber, rowBytes, groupBytes, groupsBytes, lineBytes, nameBytes, entryBytes}
 use Rattle.truth_tables.specs.Tables.{primes, gives, putIn, changes, observing}

@@ -6,8 +6,8 @@ use mathlib.Core.Option.{Option, none, some}
 use Prim.Native.Nat.{ℕ, zero, suc, _+_, _*_, _^_}
 use lib.ListN.{length}
 use Rattle.text.specs.Bytes.{bytes, bytes-open}
-use Rattle.writer_bytes.specs.Decimal.{decimalBytes, decimal-open}
-use Rattle.writer_bytes.specs.Octal.{octalBytes, octal-open}
+use Rattle.writer.specs.Decimal.{decimalBytes, decimal-open}
+use Rattle.writer.specs.Octal.{octalBytes, octal-open}
 use Rattle.library_table.specs.Cells.{plain, Row, Group, Cell}
 use Rattle.truth_tables.specs.Tables.{Term, primes, gives, observing, tables-open}
 

@@ -5,7 +5,7 @@ use mathlib.Core.List.{List, [], _∷_, map}
 use mathlib.Core.Path.{_≡_}
 use Prim.Native.Nat.{ℕ, _≤_}
 use Rattle.reading.specs.Refusal.{read}
-use Rattle.text_fields.specs.Numeral.{nameForm}
+use Rattle.text.specs.Numeral.{nameForm}
 use Rattle.library_table.specs.Cells.{Cell}
 use Rattle.library_table.specs.Library.{library}
 use Rattle.truth_tables.specs.Tables.{Descends}

@@ -18,11 +18,11 @@ use Rattle.reading.proofs.Laws.{by-test, refused-read}
 use Rattle.text.specs.Bytes.{bytes}
 use Rattle.writer.specs.declared.Written.{Written}
 use Rattle.writer.specs.declared.Written.the-variants.{Length}
-use Rattle.writer_bytes.specs.Put.{Put}
+use Rattle.writer.specs.Put.{Put}
 use Rattle.writer.specs.Refused.{refusalBytes}
 use Rattle.writer.specs.Buffer.{textWithin, lengthRead, leftBy, writtenRead, Writes, Refuses, Closes, codeLines, refusalCode, Decoded, LineBelow, shown, ShownBy, Prints}
-use Rattle.writer_bytes.proofs.Decimal.{decimal-length}
-use Rattle.writer_bytes.proofs.Steps.{put-front}
+use Rattle.writer.proofs.Decimal.{decimal-length}
+use Rattle.writer.proofs.Steps.{put-front}
 
 -- ---- the end of a text
 

@@ -11,7 +11,7 @@ use Rattle.sizes.specs.Sizes as Size
 use Rattle.reading.specs.Choice.{pick}
 use Rattle.reading.specs.Numbers as No
 use Rattle.reading.specs.Refusal.{Read, refused, read, _>>_, weigh}
-use Rattle.writer_bytes.specs.Put.{Put}
+use Rattle.writer.specs.Put.{Put}
 use Rattle.writer.specs.Refused.{refusalBytes}
 use Rattle.writer.specs.declared.Written.{Written}
 use Rattle.writer.specs.declared.Written.the-variants.{Length, Refused}

@@ -3,7 +3,7 @@
 use mathlib.Core.List.{List, [], _∷_, _++_}
 use Prim.Native.Nat.{ℕ}
 use Rattle.text.specs.Bytes.{bytes}
-use Rattle.writer_bytes.specs.Decimal.{decimalBytes}
+use Rattle.writer.specs.Decimal.{decimalBytes}
 
 -- "On refusal the program prints `refused,number,line`"; "Every printed line ends with byte 10."
 unfoldable pub refusalBytes : ℕ → ℕ → List ℕ

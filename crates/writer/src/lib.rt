@@ -1,17 +1,19 @@
 // A text in a lent buffer, or a refusal: the end of every call that writes a text, with what is printed and the number
-// for C. The bytes are put by crate `writer_bytes`.
+// for C. The bytes are put by module `bytes`.
 //
 // specs/Refused.antt says what is printed of a refusal, specs/Buffer.antt what a text in a buffer, or a refusal, comes to.
 //
 // Open to others: the type `Written`. For the crates above: `put_refusal`, `refuse`, `close` and `show`, which have no
 // condition; `refusal_code` and `code`, which ask that a refusal's line is below `codeLines`.
+pub mod bytes;
+
+use crate::bytes::put_byte;
+use crate::bytes::put_bytes;
+use crate::bytes::put_digits;
 use reading::Refusal;
-use writer_bytes::put_byte;
-use writer_bytes::put_bytes;
-use writer_bytes::put_digits;
 ghost use mathlib.Core.Path.{_≡_};
 ghost use Prim.Native.Nat.{_<_};
-ghost use Rattle.writer_bytes.specs.Put.{Put};
+ghost use Rattle.writer.specs.Put.{Put};
 ghost use Rattle.writer.specs.Refused.{refusalBytes};
 ghost use Rattle.writer.specs.Buffer.{writtenRead, Refuses, Closes, codeLines, refusalCode, codeOf, LineBelow, ShownBy};
 

@@ -4,7 +4,7 @@ use Rattle.demands.specs.Answer.{lentOf}
 use Rattle.demands.specs.Outcome.{Given, Lent, givenTexts}
 use Rattle.demands.proofs.Given.{texts-checked}
 use Rattle.analysis_texts.proofs.Reached.{texts-reached, texts-ready}
-use Rattle.analysis_end.proofs.Promise.{promised}
+use Rattle.analysis_call.proofs.Promise.{promised}
 use borrow.Author.Needs.{needs}
 use Rattle.analysis_call.proofs.analyse_into.Statement.{statement}
 use Rattle.analysis_call.proofs.analyse_into.Tie as tie

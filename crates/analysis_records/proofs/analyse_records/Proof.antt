@@ -44,17 +44,17 @@ use denote.Exit.{yes}
 use denote.Signature.{plain}
 use borrow.Rule.Slice.Reshare.{keptS}
 use Rattle.demands.specs.Answer.{answerRead, lentOf}
-use Rattle.analysis_end.specs.Finished.{Finished}
+use Rattle.analysis_call.specs.Finished.{Finished}
 use Rattle.analysis_records.specs.Outcome.{RecordsPromised, Prepared}
 use Rattle.analysis_records.specs.Walk.{declaredProgress, Walked}
-use Rattle.netlist_records.specs.declared.Record.{Record}
+use Rattle.analysis_records.specs.declared.record.Record.{Record}
 use Rattle.analysis_texts.specs.declared.Progress.{Progress}
 use Rattle.demands.specs.declared.Answer.{Answer}
 use Rattle.demands.proofs.Answer as Ans
 use Rattle.demands.proofs.Answer.Laws as Ans′
 use Rattle.analysis_texts.proofs.Progress as S
 use Rattle.analysis_texts.proofs.Progress.Laws as S′
-use Rattle.netlist_records.proofs.Record as R
+use Rattle.analysis_records.proofs.record.Record as R
 use Rattle.analysis_records.proofs.Call.{ready-then, promised-then}
 use Rattle.analysis_records.proofs.Lent.{Withheld, hand-on, take-back}
 use Rattle.analysis_records.proofs.Shared.{lends-shared, shared-back}

@@ -3,7 +3,7 @@ use mathlib.Core.Path.{_≡_, sym, _∙_, subst}
 use denote.Ref.{now}
 use Rattle.analysis_texts.specs.declared.Progress.{Progress}
 use Rattle.demands.specs.Answer.{answerRead, lentOf}
-use Rattle.analysis_end.specs.Finished.{Finished}
+use Rattle.analysis_call.specs.Finished.{Finished}
 use borrow.Author.Needs.{needs}
 use Rattle.analysis_records.proofs.close.Statement.{statement}
 use Rattle.analysis_records.proofs.close.Tie as tie

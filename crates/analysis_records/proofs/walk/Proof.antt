@@ -53,21 +53,21 @@ use denote.Triple.Table.{entered, cited}
 use denote.Triple.Walked.{says, Stays, stay-slice, stay-none-slice, stay-none, walkOf, goes-slice, goes-none-slice, goes-none, Walks, ends-at, walked, walk-meets}
 use denote.Exit.{yes}
 use denote.Signature.{plain}
-use Rattle.netlist_records.specs.Steps.{Stepped}
-use Rattle.netlist_records.specs.declared.Record.{Record}
+use Rattle.analysis_records.specs.Steps.{Stepped}
+use Rattle.analysis_records.specs.declared.record.Record.{Record}
 use Rattle.analysis_records.specs.Walk.{Walked}
 use Rattle.analysis_records.proofs.Laws.{walked-start, walked-more}
 use Rattle.analysis_texts.specs.declared.Progress.{Progress}
-use Rattle.netlist_records.proofs.Record as R
-use Rattle.netlist_records.proofs.Record.Laws as R′
+use Rattle.analysis_records.proofs.record.Record as R
+use Rattle.analysis_records.proofs.record.Record.Laws as R′
 use Rattle.analysis_texts.proofs.Progress as S
 use Rattle.analysis_texts.proofs.Progress.Laws as S′
 use Rattle.analysis_records.proofs.Tested.{holds, fails, either}
 use Rattle.analysis_records.proofs.Lent.{Withheld, hand-on, take-back}
-use Rattle.netlist_records.proofs.step as step
-use Rattle.netlist_records.proofs.step.Symbol as step-def
-use Rattle.netlist_records.proofs.step.Symbol.{name as #netlist_records·step}
-use Rattle.netlist_records.proofs.step.Met as step-thm
+use Rattle.analysis_records.proofs.record.step as step
+use Rattle.analysis_records.proofs.record.step.Symbol as step-def
+use Rattle.analysis_records.proofs.record.step.Symbol.{name as #analysis_records·record·step}
+use Rattle.analysis_records.proofs.record.step.Met as step-thm
 use Rattle.analysis_records.proofs.walk.Key.{name as #analysis_records·walk}
 use Rattle.analysis_records.proofs.walk as walk
 use Rattle.analysis_records.proofs.walk.Statement as stated
@@ -194,7 +194,7 @@ module _ {M : Type 1} (𝓤 : URA M) (H : Heap 𝓤) (A : Atoms 𝓤) (W : Given
       move ! (1 ∷ []) $ rewrite ! 0 (λ (m : ℕ). ‵ (Table κ₀ γ (t .ts) m)) (t .same) refl $ fjoin ! $ frame ! $
       owned ! S.the-row (Is S.the-row) (EL.makes S.the-type S′.the-plain 𝓤 H A) (t .s) _ (t .is) $ done !
 
-  module _ (𝓣 : Tables 𝓤 H) (fm : FmC 𝓤 H (W .laws) (𝓣 .C)) (known : Triple 𝓤 (𝓣 .C #netlist_records·step) (Step 𝓤 H A at-mem run)) (room : Room u32 (length ts₀)) (room₁ : Room u32 (length (lib .now))) (room₂ : Room R.the-row n)
+  module _ (𝓣 : Tables 𝓤 H) (fm : FmC 𝓤 H (W .laws) (𝓣 .C)) (known : Triple 𝓤 (𝓣 .C #analysis_records·record·step) (Step 𝓤 H A at-mem run)) (room : Room u32 (length ts₀)) (room₁ : Room u32 (length (lib .now))) (room₂ : Room R.the-row n)
       (l₀ l₁ l₂ l₃ l₄ l₅ l₆ l₇ l₈ l₉ l₁₀ l₁₁ l₁₂ : ℕ) where
     abbrev C : Calls 𝓤 H
     C = 𝓣 .C
@@ -357,7 +357,7 @@ module _ {M : Type 1} (𝓤 : URA M) (H : Heap 𝓤) (A : Atoms 𝓤) (W : Given
     looped : (t : St) → Sq W (At t) (runs C Λ En pieces.t-2 (atRet En Post))
     looped t = first ! $ blocks ! $ loops ! 𝓣 Nearer Nearer-wf At turns t
 
-  module _ (𝓣 : Tables 𝓤 H) (fm : FmC 𝓤 H (W .laws) (𝓣 .C)) (known : Triple 𝓤 (𝓣 .C #netlist_records·step) (Step 𝓤 H A at-mem run)) where
+  module _ (𝓣 : Tables 𝓤 H) (fm : FmC 𝓤 H (W .laws) (𝓣 .C)) (known : Triple 𝓤 (𝓣 .C #analysis_records·record·step) (Step 𝓤 H A at-mem run)) where
     -- the MIR up to the loop
     walks : Room u32 (length ts₀) → Room u32 (length (lib .now)) → Room R.the-row n
         → ent 𝓤 (onEntry 𝓤 H A walk.signature (κ₀, (κ₁, (κ₂, tt))) (q₀, (q₁, (q₂, tt))) a vals) (WpFn 𝓤 H (𝓣 .C) (𝓣 .Λ) code.function (v₀ (length ts₀) ∷ v₁ ∷ v₂ ∷ S′.lowered s₀ ∷ []) Post)
@@ -377,14 +377,14 @@ module _ {M : Type 1} (𝓤 : URA M) (H : Heap 𝓤) (A : Atoms 𝓤) (W : Given
         looped 𝓣 fm known room room₁ room₂ l₀ l₁ l₂ l₃ l₄ l₅ l₆ l₇ l₈ l₉ l₁₀ l₁₁ l₁₂ begins)))))))))))))
 
 module _ {M : Type 1} (𝓤 : URA M) (H : Heap 𝓤) (A : Atoms 𝓤) (W : Given 𝓤 H A) (mem : Memory → SProp 𝓤) (run : Routine → Fun 𝓤) where
-  walk-walks : (𝓣 : Tables 𝓤 H) → Triple 𝓤 (𝓣 .C #netlist_records·step) (Step 𝓤 H A mem run) → Walks 𝓤 H A walk.ended stayed (WpFn 𝓤 H (𝓣 .C) (𝓣 .Λ) code.function) (walk.clauses 𝓤 H A mem run)
+  walk-walks : (𝓣 : Tables 𝓤 H) → Triple 𝓤 (𝓣 .C #analysis_records·record·step) (Step 𝓤 H A mem run) → Walks 𝓤 H A walk.ended stayed (WpFn 𝓤 H (𝓣 .C) (𝓣 .Λ) code.function) (walk.clauses 𝓤 H A mem run)
   walk-walks 𝓣 known = walked 𝓤 H A walk.ended stayed (walk.clauses 𝓤 H A mem run) (WpFn 𝓤 H (𝓣 .C) (𝓣 .Λ) code.function) (λ κs. (slice-vals, (slice-vals, (slice-vals, ((λ d. S′.lowered d ∷ []), tt)))))
       (λ κs. (mut-slice-tells (named 0) (κs .0) u32, (shr-slice-tells (named 1) (κs .1 .0) u32, (shr-slice-tells (named 2) (κs .1 .1 .0) R.the-row, (S′.lowers .val-is, tt)))))
       (λ κs qs bounds a g are. via 𝓤 _ (fst∗ 𝓤 _ (emp 𝓤))
       (walks 𝓤 H A W mem run (κs .0) (κs .1 .0) (κs .1 .1 .0) (qs .0) (qs .1 .0) (qs .1 .1 .0) (a .0 .ptr .0) (a .0 .ptr .1) (a .0 .name) (a .0 .now) (a .1 .0) (a .1 .1 .0 .ptr .0) (a .1 .1 .0 .ptr .1) (a .1 .1 .0 .name) (a .1 .1 .0 .now) (a .1 .1 .1 .0) (are .1 .1 .1 .0)
       𝓣 (fmOf 𝓤 H (W .laws) 𝓣) known (are .0 .0 .1) (are .1 .0 .0 .1) (are .1 .1 .0 .0 .1)))
 
-walk-meets-it : {M : Type 1} (𝓤 : URA M) (H : Heap 𝓤) (A : Atoms 𝓤) → Given 𝓤 H A → (mem : Memory → SProp 𝓤) (run : Routine → Fun 𝓤) (𝓣 : Tables 𝓤 H) → Triple 𝓤 (𝓣 .C #netlist_records·step) (Step 𝓤 H A mem run)
+walk-meets-it : {M : Type 1} (𝓤 : URA M) (H : Heap 𝓤) (A : Atoms 𝓤) → Given 𝓤 H A → (mem : Memory → SProp 𝓤) (run : Routine → Fun 𝓤) (𝓣 : Tables 𝓤 H) → Triple 𝓤 (𝓣 .C #analysis_records·record·step) (Step 𝓤 H A mem run)
     → Meets 𝓤 H A walk.signature (WpFn 𝓤 H (𝓣 .C) (𝓣 .Λ) code.function) (walk.spec 𝓤 H A mem run)
 walk-meets-it 𝓤 H A W mem run 𝓣 known =
     walk-meets 𝓤 H A walk.ended stayed W (goes-slice 𝓤 H A W 3 0 tt (plain (λ _. u32)), (goes-none-slice 𝓤 H A W 3 (1 ∷ []) tt (plain (λ _. u32)) yes, (goes-none-slice 𝓤 H A W 3 (2 ∷ []) tt (plain (λ _. R.the-row)) yes, (goes-none 𝓤 H A W 3 (λ _. S.the-row) yes (λ κs x f. refl), tt)))) (walk.clauses 𝓤 H A mem run)
@@ -396,4 +396,4 @@ walk-spec 𝓤 H 𝓜 𝓖 𝓡 =
     entered 𝓤 H (tripleOf 𝓤 H (𝓖 .A) walk.signature (walk.spec 𝓤 H (𝓖 .A) (𝓜 .mem) (𝓡 .run)))
     (tables 𝓤 H 𝓜 𝓡 code.env .C) (tables 𝓤 H 𝓜 𝓡 code.env .Λ) #analysis_records·walk code.function (code.unfolded 𝓤 H 𝓜 𝓡)
     (walk-meets-it 𝓤 H (𝓖 .A) (givenOf 𝓤 H 𝓜 𝓖) (𝓜 .mem) (𝓡 .run) (tablesOf 𝓤 H 𝓜 (tables 𝓤 H 𝓜 𝓡 code.env))
-    (cited 𝓤 H (Step 𝓤 H (𝓖 .A) (𝓜 .mem) (𝓡 .run)) 𝓜 𝓡 code.env #netlist_records·step step-def.routine code.calls-netlist-records·step (step-thm.met 𝓤 H 𝓜 𝓖 𝓡)))
+    (cited 𝓤 H (Step 𝓤 H (𝓖 .A) (𝓜 .mem) (𝓡 .run)) 𝓜 𝓡 code.env #analysis_records·record·step step-def.routine code.calls-analysis-records·record·step (step-thm.met 𝓤 H 𝓜 𝓖 𝓡)))

@@ -9,8 +9,8 @@ use Rattle.reading.specs.Refusal.{read}
 use Rattle.library_table.specs.Cells.{Cell}
 use Rattle.library_table.specs.Library.{library}
 use Rattle.library_table.specs.Layout.{libraryWords}
-use Rattle.library_lines.specs.Walk.{NoCells}
-use Rattle.library_lines.proofs.Walks.{cleared-past, cleared-none}
+use Rattle.library_text.specs.Walk.{NoCells}
+use Rattle.library_text.proofs.Walks.{cleared-past, cleared-none}
 use Rattle.demands.proofs.EntryChecks.{Entered}
 use Rattle.analysis_texts.proofs.EntryChecks.{begun-entry, fits, begun-later, begun-unrefused}
 use borrow.Author.Needs.{needs}

@@ -52,10 +52,10 @@ use denote.Signature.{plain}
 use Rattle.sizes.specs.Sizes as Size
 use Rattle.demands.specs.Answer.{answerRead, lentOf}
 use Rattle.analysis_records.specs.Outcome.{RecordsPromised}
-use Rattle.netlist_records.specs.declared.Record.{Record}
+use Rattle.analysis_records.specs.declared.record.Record.{Record}
 use Rattle.demands.specs.declared.Answer.{Answer}
-use Rattle.netlist_records.proofs.Record as R
-use Rattle.netlist_records.proofs.Record.Laws as R′
+use Rattle.analysis_records.proofs.record.Record as R
+use Rattle.analysis_records.proofs.record.Record.Laws as R′
 use Rattle.demands.proofs.Answer as Ans
 use Rattle.demands.proofs.Answer.Laws as Ans′
 use Rattle.analysis_records.proofs.analyse_records as callee

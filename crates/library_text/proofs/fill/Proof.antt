@@ -8,8 +8,8 @@ use Rattle.reading.specs.Verdict.{verdictRead, doneRead}
 use Rattle.reading.proofs.Laws.{done-read, done-refused}
 use Rattle.library_table.specs.Library.{library}
 use Rattle.library_table.specs.Layout.{libraryAfter}
-use Rattle.library_lines.specs.Walk.{NoCells}
-use Rattle.library_lines.proofs.Walks.{cleared-past, cleared-none}
+use Rattle.library_text.specs.Walk.{NoCells}
+use Rattle.library_text.proofs.Walks.{cleared-past, cleared-none}
 use borrow.Author.Needs.{needs}
 use Rattle.library_text.proofs.fill.Statement.{statement}
 use Rattle.library_text.proofs.fill.Tie as tie

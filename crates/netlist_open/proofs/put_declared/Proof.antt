@@ -1,5 +1,5 @@
 -- `put_declared` stores the netlist, and the open lines behind it. Assumes nothing.
-use Rattle.writer_bytes.proofs.Steps.{put-then}
+use Rattle.writer.proofs.Steps.{put-then}
 use borrow.Author.Needs.{needs}
 use Rattle.netlist_open.proofs.put_declared.Statement.{statement}
 use Rattle.netlist_open.proofs.put_declared.Tie as tie

@@ -2,7 +2,7 @@
 use mathlib.Core.Path.{_≡_, sym, _∙_}
 use native.Mathlib.Omega.{arith}
 use Rattle.reading.specs.Choice.{pick}
-use Rattle.writer_bytes.proofs.Steps.{put-none}
+use Rattle.writer.proofs.Steps.{put-none}
 use borrow.Author.Needs.{needs}
 use Rattle.netlist_open.proofs.put_one.Statement.{statement}
 use Rattle.netlist_open.proofs.put_one.Tie as tie

@@ -1,7 +1,7 @@
 -- `put_open` stores the word, the line and the line's end, one behind the other. Assumes nothing.
 use Rattle.text.specs.Bytes.{bytes}
-use Rattle.writer_bytes.proofs.Steps.{put-then}
-use Rattle.netlist_copy.specs.Copy.{openLine}
+use Rattle.writer.proofs.Steps.{put-then}
+use Rattle.netlist_open.specs.Copy.{openLine}
 use borrow.Author.Needs.{needs}
 use Rattle.netlist_open.proofs.put_open.Statement.{statement}
 use Rattle.netlist_open.proofs.put_open.Tie as tie

@@ -6,11 +6,11 @@ use native.Mathlib.Omega.{arith}
 use borrow.Author.Needs.{needs}
 use lib.ListN.{length}
 use Rattle.sizes.specs.Sizes as Size
-use Rattle.writer_bytes.specs.Put.{Put}
-use Rattle.writer_bytes.proofs.Steps.{put-none, put-then}
+use Rattle.writer.specs.Put.{Put}
+use Rattle.writer.proofs.Steps.{put-none, put-then}
 use Rattle.netlist_table.specs.Netlist.{linesWhere}
 use Rattle.netlist_table.specs.Admission.{wordsUndeclared}
-use Rattle.netlist_copy.specs.Copy.{openLines}
+use Rattle.netlist_open.specs.Copy.{openLines}
 use Rattle.netlist_open.proofs.Opens.{opens-more}
 use Rattle.netlist_open.proofs.put_opens.Statement.{statement}
 use Rattle.netlist_open.proofs.put_opens.Tie as tie

@@ -9,13 +9,13 @@ use Rattle.sizes.specs.Sizes as Size
 use Rattle.reading.specs.Choice.{pick}
 use Rattle.plans.specs.Idle.{inTurn}
 use Rattle.sweep_groups.specs.Tables.{byRole}
-use Rattle.sweep_visits.specs.Order.{turnVisits}
-use Rattle.sweep_visits.proofs.Visits.{swept-length}
+use Rattle.sweep_turns.specs.Order.{turnVisits}
+use Rattle.sweep_turns.proofs.VisitsLaws.{swept-length}
 use Rattle.sweep_runs.specs.Asleep.{Resting}
 use Rattle.sweep_runs.specs.Order.{firstGates}
 use Rattle.sweep_runs.proofs.Asleep.{come, skipped, rests-on}
-use Rattle.plan_visits.specs.Visits.{Traced}
-use Rattle.plan_visits.proofs.Turns.{swept-bounded, traced-next}
+use Rattle.plan_marks.specs.Visits.{Traced}
+use Rattle.plan_marks.proofs.Turns.{swept-bounded, traced-next}
 use Rattle.plan_marks.proofs.Sweeps.{traced-none, traced-skipped, gates-length}
 use Rattle.plan_marks.proofs.one_sweep.Statement.{statement}
 use Rattle.plan_marks.proofs.one_sweep.Tie as tie

@@ -8,13 +8,13 @@ use borrow.Author.Needs.{needs}
 use borrow.Author.Tests.{not-true}
 use Rattle.sizes.specs.Sizes as Size
 use Rattle.plans.specs.Sweep.{Bounded}
-use Rattle.sweep_visits.proofs.Visits.{swept-length}
+use Rattle.sweep_turns.proofs.VisitsLaws.{swept-length}
 use Rattle.sweep_runs.specs.Asleep.{Resting}
 use Rattle.sweep_runs.proofs.Asleep.{all-rest}
 use Rattle.sweep_runs.proofs.FourRuns.{room, link-fits}
 use Rattle.sweep_start.proofs.StartLines.{laid-length}
-use Rattle.plan_visits.specs.Marks.{Stands}
-use Rattle.plan_visits.proofs.Turns.{swept-still, swept-bounded}
+use Rattle.plan_marks.specs.Marks.{Stands}
+use Rattle.plan_marks.proofs.Turns.{swept-still, swept-bounded}
 use Rattle.plan_marks.proofs.Run.{links-fit, after, begins, starts-bounded, one-more, few-gates, ends-all, ends-early}
 use Rattle.plan_marks.proofs.trace.Statement.{statement}
 use Rattle.plan_marks.proofs.trace.Tie as tie

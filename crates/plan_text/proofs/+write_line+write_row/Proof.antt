@@ -9,7 +9,7 @@ use lib.ListN.{length}
 use borrow.Author.Needs.{needs}
 use borrow.Fn.Kinds.{In}
 use borrow.Fn.PlainCycle.{Measures, is, falls, and}
-use Rattle.writer_bytes.proofs.Steps.{put-none}
+use Rattle.writer.proofs.Steps.{put-none}
 use Rattle.sweep_sums.proofs.Columns.{rest-fewer}
 use Rattle.plan_text.specs.Writers.{goalAt}
 use Rattle.plan_text.proofs.Writers.{put-past, line-none, line-put, Puts, puts-more, puts-all}

@@ -1,6 +1,6 @@
 -- `put_node` puts the parts of a line one behind the other. Assumes nothing.
 use borrow.Author.Needs.{needs}
-use Rattle.writer_bytes.proofs.Steps.{put-then}
+use Rattle.writer.proofs.Steps.{put-then}
 use Rattle.plan_text.specs.PlanText.{nodeLine}
 use Rattle.plan_text.proofs.put_node.Statement.{statement}
 use Rattle.plan_text.proofs.put_node.Tie as tie

@@ -6,9 +6,9 @@ use native.Mathlib.Omega.{arith}
 use borrow.Author.Needs.{needs}
 use lib.ListN.{length}
 use Rattle.sizes.specs.Sizes as Size
-use Rattle.writer_bytes.specs.Put.{Put}
+use Rattle.writer.specs.Put.{Put}
 use Rattle.report_text.specs.Report.{costsFrom}
-use Rattle.writer_bytes.proofs.Steps.{put-none, put-then}
+use Rattle.writer.proofs.Steps.{put-none, put-then}
 use Rattle.report_text.proofs.Steps.{costs-more}
 use Rattle.report_text.proofs.put_costs.Statement.{statement}
 use Rattle.report_text.proofs.put_costs.Tie as tie

@@ -1,5 +1,5 @@
 -- `put_count` stores a number and a byte. Assumes nothing.
-use Rattle.writer_bytes.proofs.Steps.{put-then}
+use Rattle.writer.proofs.Steps.{put-then}
 use borrow.Author.Needs.{needs}
 use Rattle.report_text.proofs.put_count.Statement.{statement}
 use Rattle.report_text.proofs.put_count.Tie as tie

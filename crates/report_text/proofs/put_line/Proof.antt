@@ -3,7 +3,7 @@ use mathlib.Core.Path.{_≡_}
 use Prim.Native.Nat.{_+_, _-_}
 use native.Mathlib.Omega.{arith}
 use Rattle.report_text.specs.Report.{lineBytes}
-use Rattle.writer_bytes.proofs.Steps.{put-then}
+use Rattle.writer.proofs.Steps.{put-then}
 use borrow.Author.Needs.{needs}
 use Rattle.report_text.proofs.put_line.Statement.{statement}
 use Rattle.report_text.proofs.put_line.Tie as tie

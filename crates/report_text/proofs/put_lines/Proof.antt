@@ -12,9 +12,9 @@ use Rattle.sizes.specs.Sizes as Size
 use Rattle.netlist_table.specs.Lines.{highestMentioned}
 use Rattle.netlist_table.proofs.HeldLines.{past-highest, highest-few}
 use Rattle.report_text.specs.Arguments.{marked}
-use Rattle.writer_bytes.specs.Put.{Put}
+use Rattle.writer.specs.Put.{Put}
 use Rattle.report_text.specs.Report.{linesBytes}
-use Rattle.writer_bytes.proofs.Steps.{put-none, put-then}
+use Rattle.writer.proofs.Steps.{put-none, put-then}
 use Rattle.report_text.proofs.Steps.{lines-more, lines-all}
 use Rattle.report_text.proofs.put_lines.Statement.{statement}
 use Rattle.report_text.proofs.put_lines.Tie as tie

@@ -1,7 +1,7 @@
 -- `put_report` stores the header, the lines and the sweeps. Assumes nothing.
 use Rattle.text.specs.Bytes.{bytes}
 use Rattle.report_text.specs.Report.{header, reportBytes}
-use Rattle.writer_bytes.proofs.Steps.{put-then}
+use Rattle.writer.proofs.Steps.{put-then}
 use borrow.Author.Needs.{needs}
 use Rattle.report_text.proofs.put_report.Statement.{statement}
 use Rattle.report_text.proofs.put_report.Tie as tie

@@ -2,7 +2,7 @@
 use mathlib.Core.List.{append-assoc}
 use Rattle.text.specs.Bytes.{bytes}
 use Rattle.report_text.specs.Report.{sweepsBytes}
-use Rattle.writer_bytes.proofs.Steps.{put-then}
+use Rattle.writer.proofs.Steps.{put-then}
 use borrow.Author.Needs.{needs}
 use Rattle.report_text.proofs.put_sweeps.Statement.{statement}
 use Rattle.report_text.proofs.put_sweeps.Tie as tie

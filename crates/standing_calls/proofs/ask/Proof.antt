@@ -11,10 +11,10 @@ use Rattle.calculation.specs.Stored.{Ready}
 use Rattle.demands.specs.Outcome.{Given, givenTexts}
 use Rattle.demands.proofs.Given.{texts-checked}
 use Rattle.standing_calls.specs.Calls.{tableShort, answerShort, padsRead}
-use Rattle.standing_texts.specs.Parts.{PadRead}
+use Rattle.standing_table.specs.Parts.{PadRead}
 use Rattle.standing_calls.specs.Promise.{AskPromised}
 use Rattle.standing_calls.proofs.Calls.{both-long, ready, ask-short, ask-stopped, ask-answered}
-use Rattle.standing_texts.proofs.Texts.{accepted-is, refused-is}
+use Rattle.standing_table.proofs.TextsLaws.{accepted-is, refused-is}
 use Rattle.standing_table.proofs.Lengths.{anew-length}
 use Rattle.standing_calls.proofs.ask.Statement.{statement}
 use Rattle.standing_calls.proofs.ask.Tie as tie

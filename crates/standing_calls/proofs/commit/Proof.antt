@@ -13,10 +13,10 @@ use Rattle.demands.specs.Outcome.{Given, givenTexts}
 use Rattle.demands.proofs.Given.{texts-checked}
 use Rattle.standing_calls.specs.Calls.{tableShort, padsRead}
 use Rattle.standing_table.specs.StandingTable.{StoresPad}
-use Rattle.standing_texts.specs.Parts.{PadRead}
+use Rattle.standing_table.specs.Parts.{PadRead}
 use Rattle.standing_calls.specs.Promise.{CommitPromised}
 use Rattle.standing_calls.proofs.Calls.{is-short, is-long, ready, in-range, room, commit-short, commit-stopped, commit-stored}
-use Rattle.standing_texts.proofs.Texts.{accepted-is, refused-is}
+use Rattle.standing_table.proofs.TextsLaws.{accepted-is, refused-is}
 use Rattle.standing_calls.proofs.commit.Statement.{statement}
 use Rattle.standing_calls.proofs.commit.Tie as tie
 

@@ -8,8 +8,8 @@ use borrow.Author.Needs.{needs}
 use Rattle.sizes.specs.Sizes as Size
 use Rattle.reading.specs.Refusal.{read}
 use Rattle.demands.specs.Outcome.{Given, givenTexts}
-use Rattle.standing_texts.specs.Parts.{HeldRead}
-use Rattle.standing_texts.proofs.Texts.{accepted-is, refused-is}
+use Rattle.standing_table.specs.Parts.{HeldRead}
+use Rattle.standing_table.proofs.TextsLaws.{accepted-is, refused-is}
 use Rattle.standing_change.specs.Calls.{changedRead}
 use Rattle.standing_change.proofs.Call.{change-short, change-long, held-stopped, some-state, held-changed}
 use Rattle.standing_change.proofs.change.Statement.{statement}

@@ -4,7 +4,7 @@ use lib.ListN.{replicate}
 use denote.Ref.{now}
 use borrow.Author.Needs.{needs}
 use Rattle.sizes.specs.Sizes as Size
-use Rattle.library_lines.proofs.Walks.{zeros-none}
+use Rattle.library_text.proofs.Walks.{zeros-none}
 use Rattle.standing_change.specs.Calls.{changedRead}
 use Rattle.standing_change.proofs.Call.{new-refused, new-read, new-changed}
 use Rattle.standing_change.proofs.change_held.Statement.{statement}

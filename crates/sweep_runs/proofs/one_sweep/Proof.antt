@@ -6,9 +6,9 @@ use native.Mathlib.Omega.{arith}
 use lib.ListN.{getD}
 use borrow.Author.Needs.{needs}
 use Rattle.plans.specs.Idle.{inTurn}
-use Rattle.sweep_visits.specs.Order.{gateOfTurn, turnVisits}
-use Rattle.sweep_visits.specs.Renewed.{Swept}
-use Rattle.sweep_visits.proofs.Visits.{swept-none, swept-length, next-turn, turn-inside}
+use Rattle.sweep_turns.specs.Order.{gateOfTurn, turnVisits}
+use Rattle.sweep_turns.specs.Renewed.{Swept}
+use Rattle.sweep_turns.proofs.VisitsLaws.{swept-none, swept-length, next-turn, turn-inside}
 use Rattle.sweep_runs.specs.Order.{firstGates}
 use Rattle.sweep_runs.specs.Asleep.{Resting}
 use Rattle.sweep_runs.proofs.Asleep.{come, skips, rests-on}

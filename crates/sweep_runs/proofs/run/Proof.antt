@@ -6,7 +6,7 @@ use Prim.Native.Nat.{_-_, _^_}
 use native.Mathlib.Omega.{arith}
 use lib.ListN.{length}
 use Rattle.sizes.specs.Sizes as Size
-use Rattle.sweep_visits.proofs.Visits.{swept-length}
+use Rattle.sweep_turns.proofs.VisitsLaws.{swept-length}
 use Rattle.sweep_runs.specs.Order.{sweepVisits}
 use Rattle.sweep_runs.specs.Asleep.{Resting}
 use Rattle.sweep_runs.proofs.Runs.{Before, run-first, run-on, run-fits, run-ends}

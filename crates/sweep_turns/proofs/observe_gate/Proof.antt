@@ -11,12 +11,12 @@ use Rattle.reading.specs.Choice.{pick}
 use Rattle.plans.specs.Idle.{inTurn}
 use Rattle.sweep_groups.specs.Tables.{gatePins, byRole, visitCount, visitWired, gateVisit}
 use Rattle.sweep_groups.specs.Fits.{GatherFits}
-use Rattle.sweep_visits.specs.Order.{firstVisits}
-use Rattle.sweep_visits.specs.Renewed.{Renewed, Swept}
+use Rattle.sweep_turns.specs.Order.{firstVisits}
+use Rattle.sweep_turns.specs.Renewed.{Renewed, Swept}
 use Rattle.sweep_turns.specs.Wakes.{ChangesWoken}
 use Rattle.sweep_turns.proofs.Turns.{gather-first, gather-next, observed-apart, gate-fits, lines-fit, turn-fits, turn-made}
 use Rattle.sweep_turns.proofs.Wakes.{wake-fits, line-woken, changes-none, changes-on}
-use Rattle.sweep_visits.proofs.Visits.{swept-none, swept-one, swept-length, next-turn}
+use Rattle.sweep_turns.proofs.VisitsLaws.{swept-none, swept-one, swept-length, next-turn}
 use Rattle.sweep_turns.proofs.observe_gate.Statement.{statement}
 use Rattle.sweep_turns.proofs.observe_gate.Tie as tie
 

@@ -12,12 +12,12 @@ use Rattle.plans.specs.Idle.{inTurn}
 use Rattle.netlist_table.specs.Gates.{gateLines}
 use Rattle.sweep_groups.specs.Tables.{byRole, visitCount, visitWired, gateVisit}
 use Rattle.sweep_groups.specs.Fits.{GatherFits}
-use Rattle.sweep_visits.specs.Order.{firstVisits}
-use Rattle.sweep_visits.specs.Renewed.{Renewed, Swept}
+use Rattle.sweep_turns.specs.Order.{firstVisits}
+use Rattle.sweep_turns.specs.Renewed.{Renewed, Swept}
 use Rattle.sweep_turns.specs.Wakes.{LineWoken, ChangesWoken}
 use Rattle.sweep_turns.proofs.Turns.{gather-first, gather-next, set-apart, gate-fits, lines-fit, turn-fits, turn-made}
 use Rattle.sweep_turns.proofs.Wakes.{wake-fits, line-woken, changes-first, changes-later}
-use Rattle.sweep_visits.proofs.Visits.{swept-none, swept-one, swept-length, next-turn}
+use Rattle.sweep_turns.proofs.VisitsLaws.{swept-none, swept-one, swept-length, next-turn}
 use Rattle.sweep_turns.proofs.set_gate.Statement.{statement}
 use Rattle.sweep_turns.proofs.set_gate.Tie as tie
 

@@ -7,7 +7,7 @@ use Rattle.sizes.specs.Sizes as Size
 use Rattle.sweep_groups.specs.Tables.{groupVisit, roleColumns}
 use Rattle.sweep_groups.specs.Fits.{GroupFits}
 use Rattle.sweep_groups.proofs.Roles.{visit-low, group-low, place-inside, place-kind}
-use Rattle.sweep_visits.specs.Order.{turnGroup}
+use Rattle.sweep_turns.specs.Order.{turnGroup}
 use Rattle.sweep_turns.proofs.Turns.{visit-fits, costs-of, renewed-same}
 use Rattle.sweep_turns.proofs.visit_in_turn.Statement.{statement}
 use Rattle.sweep_turns.proofs.visit_in_turn.Tie as tie

@@ -5,7 +5,7 @@ use native.Mathlib.Omega.{arith}
 use lib.ListN.{length}
 use borrow.Author.Needs.{needs}
 use Rattle.reading.specs.Numbers as No
-use Rattle.text_fields.specs.Numeral.{numeralRead}
+use Rattle.text.specs.Numeral.{numeralRead}
 use Rattle.writer.proofs.Buffer.{refuses-writes, put-closed}
 use Rattle.truth_entry.proofs.Fields.{linePins, comes-bad, comes-many, comes-wrong, comes-made, line-bits}
 use Rattle.truth_entry.proofs.generate.Statement.{statement}

@@ -4,7 +4,7 @@ use mathlib.Core.Path.{_≡_, sym, ap, _∙_}
 use borrow.Author.Needs.{needs}
 use borrow.Author.Tests.{not-true, not-false}
 use Rattle.reading.specs.Choice.{pick}
-use Rattle.text_fields.specs.Numeral.{nameForm, numeralRead}
+use Rattle.text.specs.Numeral.{nameForm, numeralRead}
 use Rattle.truth_tables.specs.Tables.{allOf}
 use Rattle.truth_rows.specs.Masks.{isBit}
 use Rattle.truth_entry.proofs.pins_in.Statement.{statement}

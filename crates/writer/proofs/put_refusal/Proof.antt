@@ -1,7 +1,7 @@
 -- `put_refusal` stores the word, the number and the line, one behind the other. Assumes nothing.
 use Rattle.text.specs.Bytes.{bytes}
 use Rattle.writer.specs.Refused.{refusalBytes}
-use Rattle.writer_bytes.proofs.Steps.{put-then}
+use Rattle.writer.proofs.Steps.{put-then}
 use borrow.Author.Needs.{needs}
 use Rattle.writer.proofs.put_refusal.Statement.{statement}
 use Rattle.writer.proofs.put_refusal.Tie as tie

@@ -1,5 +1,0 @@
-pub mod Lines
-mod PadCosts
-mod Changes
-pub mod Ranks
-mod Candidate

@@ -1,0 +1,4 @@
+mod Told
+mod EndLaws
+pub mod Promise
+mod PrintedLaws

@@ -1,3 +1,0 @@
-pub mod Told
-pub mod End
-pub mod Promise

@@ -1,4 +1,0 @@
-pub mod Entries
-pub mod Headers
-pub mod Stores
-pub mod Walks

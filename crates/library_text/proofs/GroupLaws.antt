@@ -1,0 +1,11 @@
+-- A heading by its number.
+-- Assumes nothing.
+use mathlib.Core.Path.{_≡_, refl}
+use Prim.Native.Nat.{ℕ, zero, suc}
+use Rattle.library_table.specs.Cells.{deep}
+use Rattle.library_text.specs.Groups.{numberHeading}
+
+pub other-deep : (k : ℕ) → (k ≡ 0 → ⊥) → numberHeading k ≡ deep
+unfolding numberHeading
+other-deep zero h = absurd (h refl)
+other-deep (suc k) h = refl

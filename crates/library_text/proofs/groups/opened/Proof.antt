@@ -1,0 +1,13 @@
+-- `opened` meets its contract. Assumes nothing.
+use mathlib.Core.Path.{refl}
+use Rattle.library_text.specs.Groups.{opened}
+use borrow.Author.Needs.{needs}
+use Rattle.library_text.proofs.groups.opened.Statement.{statement}
+use Rattle.library_text.proofs.groups.opened.Tie as tie
+
+returns : tie.Need-returns
+unfolding opened
+returns c = refl
+
+pub opened-spec : {M : Type 1} → statement M
+opened-spec = tie.close (tie.spec (λ c. search needs) (λ c. search needs) (λ c. search needs) (λ c. search needs) returns)

@@ -1,3 +1,0 @@
-pub mod Copy
-pub mod Split
-pub mod Pads

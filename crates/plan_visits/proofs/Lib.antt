@@ -1,5 +1,0 @@
-pub mod Remembered
-pub mod Marks
-pub mod Visits
-pub mod Turns
-pub mod Wakes

@@ -1,1 +1,0 @@
-// No code: changes of library, by computation over the definitions (specs/Changes.antt).

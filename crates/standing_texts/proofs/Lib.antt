@@ -1,2 +1,0 @@
-pub mod Pads
-pub mod Texts

@@ -1,8 +1,0 @@
--- `word` reads a word. Assumes nothing.
-use native.Mathlib.Omega.{arith}
-use borrow.Author.Needs.{needs}
-use Rattle.sweep_awake.proofs.word.Statement.{statement}
-use Rattle.sweep_awake.proofs.word.Tie as tie
-
-pub word-spec : {M : Type 1} → statement M
-word-spec = tie.close (tie.spec (λ c. search needs) (λ c. omega arith) (λ c. search needs))

@@ -1,3 +1,0 @@
-pub mod Order
-pub mod Renewed
-pub mod Fits

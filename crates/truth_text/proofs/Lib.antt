@@ -1,3 +1,0 @@
-mod GroupRows
-mod Groups
-mod EntryLines

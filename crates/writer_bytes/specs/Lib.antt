@@ -1,4 +1,0 @@
-pub mod Put
-pub mod Digits
-pub mod Decimal
-pub mod Octal
