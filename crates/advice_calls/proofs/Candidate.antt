@@ -1,12 +1,6 @@
 -- One line more, by whether it may be padded.
 -- Assumes nothing.
-use mathlib.Core.Bool.{Bool, true, false}
-use mathlib.Core.List.{List}
-use mathlib.Core.Path.{_≡_, sym, _∙_, ap}
-use Prim.Native.Nat.{ℕ, _+_, _*_, _-_}
-use native.Mathlib.Numerals.{add-one}
-use lib.ListN.{length}
-use lib.Seq.{sets}
+use Rattle.common_laws.proofs.Base.{Bool, true, false, List, _≡_, sym, _∙_, ap, ℕ, _+_, _*_, _-_, add-one, length, sets}
 use Rattle.sizes.specs.Sizes as Size
 use Rattle.reading.specs.Choice.{pick}
 use Rattle.cost.specs.Cost.{never}

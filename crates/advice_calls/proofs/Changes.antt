@@ -1,17 +1,8 @@
 -- What a pad on trial changed: CO alone, of lines that are reached from the pad's through lines that changed. So a walk back from
 -- it finds all.
 -- Assumes nothing.
-use mathlib.Core.Bool.{true, false}
-use mathlib.Core.List.{List, List·Memᴰ}
-use mathlib.Core.Logic.{_⊎_, inl, inr}
-use mathlib.Core.Path.{_≡_, refl, sym, _∙_, ap, subst}
-use Prim.Native.Nat.{ℕ, suc, _+_, _*_, _-_, _/_, _%_, _≤_, _<_}
-use native.Mathlib.Decide.{ℕ-discrete, decLt}
-use native.Mathlib.Omega.{arith}
-use borrow.Author.Tests.{eqb-true}
-use lib.Dec.{eqb}
-use lib.ListN.{length, getD, set, length-set, List·getD-eq-default}
-use lib.Seq.{getD-set-other}
+use Rattle.common_laws.proofs.Base.{true, false, List, List·Memᴰ, _⊎_, inl, inr, _≡_, refl, sym, _∙_, ap, subst, ℕ, suc, _+_, _*_, _-_, _/_, _%_, _≤_, _<_, ℕ-discrete, decLt}
+use Rattle.common_laws.proofs.Base.{arith, eqb-true, eqb, length, getD, set, length-set, List·getD-eq-default, getD-set-other}
 use Rattle.sizes.specs.Sizes as Size
 use Rattle.sizes.specs.Places.{observingPlace}
 use Rattle.reading.proofs.Laws.{clash, or-cases}

@@ -1,15 +1,7 @@
 -- The lines from the highest down, and which of them may be padded.
 -- Assumes nothing.
-use mathlib.Core.Bool.{Bool, true, false, not, _&&_, _||_}
-use mathlib.Core.List.{List, [], _∷_}
-use mathlib.Core.Path.{_≡_, refl, sym, _∙_, ap}
-use Prim.Native.Nat.{ℕ, zero, suc, _-_, _≤_, _<_}
-use native.Mathlib.Decide.{ℕ-discrete}
-use native.Mathlib.Omega.{arith}
-use borrow.Author.Tests.{eq-eqb, ne-eqb}
-use lib.Dec.{eqb}
-use lib.ListN.{length, getD, drop, set, replicate, length-replicate, length-set, getD-replicate}
-use lib.Seq.{drop-cons, drop-length, getD-set-same, getD-set-other}
+use Rattle.common_laws.proofs.Base.{Bool, true, false, not, _&&_, _||_, List, [], _∷_, _≡_, refl, sym, _∙_, ap, ℕ, zero, suc, _-_, _≤_, _<_, ℕ-discrete, arith, eq-eqb, ne-eqb, eqb}
+use Rattle.common_laws.proofs.Base.{length, getD, drop, set, replicate, length-replicate, length-set, getD-replicate, drop-cons, drop-length, getD-set-same, getD-set-other}
 use Rattle.sizes.specs.Sizes as Size
 use Rattle.sizes.specs.Places.{outputPlace}
 use Rattle.reading.specs.Choice.{pick}

@@ -1,15 +1,7 @@
 -- What a pad leaves: the costs of the mentioned lines, one after the other, and the trial that comes to them.
 -- Assumes nothing.
-use mathlib.Core.Bool.{Bool, true, false}
-use mathlib.Core.List.{List, [], _∷_, _++_, map, append-nil}
-use mathlib.Core.Path.{_≡_, refl, sym, _∙_, ap, ap₂}
-use Prim.Native.Nat.{ℕ, zero, suc, _+_, _*_, _-_, _≤_, _<_, max}
-use native.Mathlib.Nat.{le-of-eq}
-use native.Mathlib.Numerals.{add-one}
-use native.Mathlib.Omega.{arith}
-use borrow.Author.Tests.{le-leb, lt-leb, eq-eqb, ne-eqb}
-use lib.Dec.{leb}
-use lib.ListN.{length, getD, drop, length-map, length-set, drop-of-length-le}
+use Rattle.common_laws.proofs.Base.{Bool, true, false, List, [], _∷_, _++_, map, append-nil, _≡_, refl, sym, _∙_, ap, ap₂, ℕ, zero, suc, _+_, _*_, _-_, _≤_, _<_, max, le-of-eq}
+use Rattle.common_laws.proofs.Base.{add-one, arith, le-leb, lt-leb, eq-eqb, ne-eqb, leb, length, getD, drop, length-map, length-set, drop-of-length-le}
 use Rattle.sizes.specs.Sizes as Size
 use Rattle.sizes.specs.Places.{observingPlace}
 use Rattle.reading.specs.Choice.{pick}

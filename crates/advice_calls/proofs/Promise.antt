@@ -1,12 +1,7 @@
 -- From the parts of the two calls to their promises.
 -- Assumes nothing.
-use mathlib.Core.Bool.{true, false}
-use mathlib.Core.List.{List, [], _∷_, _++_}
-use mathlib.Core.Path.{_≡_, refl, sym, _∙_, ap, subst}
-use Prim.Native.Nat.{ℕ, _+_, _*_, _-_, _≤_, _<_}
-use native.Mathlib.Omega.{arith}
-use lib.ListN.{length, getD, set, drop}
-use lib.Seq.{getD-set-same, getD-set-other}
+use Rattle.common_laws.proofs.Base.{true, false, List, [], _∷_, _++_, _≡_, refl, sym, _∙_, ap, subst, ℕ, _+_, _*_, _-_, _≤_, _<_, arith, length, getD, set, drop, getD-set-same}
+use Rattle.common_laws.proofs.Base.{getD-set-other}
 use Rattle.sizes.specs.Sizes as Size
 use Rattle.reading.specs.Choice.{pick}
 use Rattle.reading.specs.Numbers as No

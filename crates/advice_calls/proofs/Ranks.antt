@@ -1,11 +1,8 @@
 -- The table of ranks, from the highest line down.
 -- Assumes nothing.
-use mathlib.Core.List.{List, [], _∷_, _++_, append-assoc}
-use mathlib.Core.Path.{_≡_, refl, sym, _∙_, ap}
-use Prim.Native.Nat.{ℕ, zero, suc, _+_, _*_, _-_, _≤_, _<_}
-use native.Mathlib.Omega.{arith}
-use lib.ListN.{length, getD, take, drop, set, length-append, List·getD-append}
-use lib.Seq.{sets, sets-eq, take-append-le, take-take, drop-at, length-take-le, getD-append-add, getD-drop}
+use Rattle.common_laws.proofs.Base.{List, [], _∷_, _++_, append-assoc, _≡_, refl, sym, _∙_, ap, ℕ, zero, suc, _+_, _*_, _-_, _≤_, _<_, arith, length, getD, take, drop, set}
+use Rattle.common_laws.proofs.Base.{length-append, List·getD-append, sets, sets-eq, take-take, drop-at, length-take-le, getD-append-add, getD-drop}
+use lib.Seq.{take-append-le}
 use Rattle.sizes.specs.Sizes as Size
 use Rattle.reading.specs.Choice.{pick}
 use Rattle.reading.proofs.Laws.{by-test}

@@ -1,9 +1,6 @@
 -- The end of a call, from what `conclude` and `clear_all` do.
 -- Assumes nothing.
-use mathlib.Core.List.{List, _++_}
-use mathlib.Core.Path.{_≡_, refl, sym, _∙_}
-use Prim.Native.Nat.{ℕ}
-use lib.ListN.{length, drop, replicate}
+use Rattle.common_laws.proofs.Base.{List, _++_, _≡_, refl, sym, _∙_, ℕ, length, drop, replicate}
 use Rattle.reading.specs.Numbers as No
 use Rattle.reading.specs.Refusal.{Read, refused, read}
 use Rattle.reading.specs.declared.Refusal.{Refusal}

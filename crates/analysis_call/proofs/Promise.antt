@@ -1,10 +1,6 @@
 -- From where reading left a call, and its end, to its promise.
 -- Assumes nothing.
-use mathlib.Core.List.{List, _++_}
-use mathlib.Core.Path.{_≡_, refl, sym, ap, _∙_}
-use Prim.Native.Nat.{ℕ}
-use lib.Dec.{ltb}
-use lib.ListN.{length, drop}
+use Rattle.common_laws.proofs.Base.{List, _++_, _≡_, refl, sym, ap, _∙_, ℕ, ltb, length, drop}
 use Rattle.sizes.specs.Sizes as Size
 use Rattle.reading.specs.Choice.{pick}
 use Rattle.reading.specs.Numbers as No

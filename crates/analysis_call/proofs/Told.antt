@@ -1,11 +1,6 @@
 -- The report that the code writes from the tables is that of the definitions.
 -- Assumes nothing.
-use mathlib.Core.Bool.{Bool, true, false}
-use mathlib.Core.List.{List, [], _++_}
-use mathlib.Core.Path.{_≡_, refl, sym, ap, _∙_}
-use Prim.Native.Nat.{ℕ, _+_, _≤_}
-use lib.Dec.{ltb}
-use lib.ListN.{length, drop, List·getD-append}
+use Rattle.common_laws.proofs.Base.{Bool, true, false, List, [], _++_, _≡_, refl, sym, ap, _∙_, ℕ, _+_, _≤_, ltb, length, drop, List·getD-append}
 use Rattle.sizes.specs.Sizes as Size
 use Rattle.reading.specs.Choice.{pick}
 use Rattle.reading.specs.Numbers as No

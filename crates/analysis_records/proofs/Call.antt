@@ -1,12 +1,6 @@
 -- The call over records: what comes before the walk, the walk, and the end make the promise.
 -- Assumes nothing.
-use mathlib.Core.Bool.{Bool, or-false, _&&_}
-use mathlib.Core.List.{List, [], _∷_}
-use mathlib.Core.Path.{_≡_, refl, sym, ap, subst, _∙_}
-use Prim.Native.Nat.{ℕ, _+_, _≤_}
-use native.Mathlib.Omega.{arith}
-use lib.Dec.{ltb}
-use lib.ListN.{length, drop}
+use Rattle.common_laws.proofs.Base.{Bool, or-false, _&&_, List, [], _∷_, _≡_, refl, sym, ap, subst, _∙_, ℕ, _+_, _≤_, arith, ltb, length, drop}
 use Rattle.sizes.specs.Sizes as Size
 use Rattle.table.specs.Blocks.{cleared}
 use Rattle.reading.specs.Choice.{pick}

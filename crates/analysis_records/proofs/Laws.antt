@@ -1,14 +1,7 @@
 -- What the proofs of this crate and of its callers cite of the definitions.
 -- Assumes nothing.
-use mathlib.Core.Bool.{true, false}
-use mathlib.Core.List.{List, [], _∷_, _++_, append-nil, append-assoc, flatMap}
-use mathlib.Core.Option.{none}
-use mathlib.Core.Path.{_≡_, refl, sym, ap, _∙_}
-use Prim.Native.Nat.{ℕ, suc, _+_}
-use native.Mathlib.Omega.{arith}
-use lib.Dec.{eqb}
-use lib.ListN.{length, length-append}
-use borrow.Author.Tests.{eqb-true, eqb-false}
+use Rattle.common_laws.proofs.Base.{true, false, List, [], _∷_, _++_, append-nil, append-assoc, flatMap, none, _≡_, refl, sym, ap, _∙_, ℕ, suc, _+_, arith, eqb, length}
+use Rattle.common_laws.proofs.Base.{length-append, eqb-true, eqb-false}
 use Rattle.reading.specs.Choice.{pick}
 use Rattle.reading.specs.Numbers as No
 use Rattle.reading.specs.Refusal.{Read, refused, read, _>>=_, _>>_, weigh}

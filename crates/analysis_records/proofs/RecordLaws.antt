@@ -1,17 +1,7 @@
 -- What the proofs of this crate cite of the definitions.
 -- Assumes nothing.
-use mathlib.Core.Bool.{Bool, true, false, _&&_}
-use mathlib.Core.List.{List, [], _∷_, _++_}
-use mathlib.Core.Logic.{inl}
-use mathlib.Core.Option.{Option}
-use mathlib.Core.Path.{_≡_, refl, sym, ap, _∙_}
-use Prim.Native.Nat.{ℕ, _+_, _≤_, _<_}
-use native.Mathlib.Numerals.{add-one}
-use native.Mathlib.Omega.{arith}
-use lib.Dec.{eqb, ltb}
-use lib.ListN.{length, getD, drop, drop-of-length-le}
-use lib.Seq.{drop-cons}
-use borrow.Author.Tests.{ne-eqb, le-ltb, eqb-true, eqb-false}
+use Rattle.common_laws.proofs.Base.{Bool, true, false, _&&_, List, [], _∷_, _++_, inl, Option, _≡_, refl, sym, ap, _∙_, ℕ, _+_, _≤_, _<_, add-one, arith, eqb, ltb, length, getD}
+use Rattle.common_laws.proofs.Base.{drop, drop-of-length-le, drop-cons, ne-eqb, le-ltb, eqb-true, eqb-false}
 use Rattle.sizes.specs.Sizes as Size
 use Rattle.table.specs.Blocks.{fitted}
 use Rattle.reading.specs.Choice.{pick}

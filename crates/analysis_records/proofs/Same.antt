@@ -1,14 +1,7 @@
 -- The two callers tied: where the records say the same as a netlist text, statement by statement, the call over records and
 -- the call over texts answer and leave the same.
 -- Assumes nothing.
-use mathlib.Core.Bool.{Bool, or-false}
-use mathlib.Core.List.{List, [], _∷_}
-use mathlib.Core.Option.{Option}
-use mathlib.Core.Path.{_≡_, refl, sym, ap, _∙_}
-use Prim.Native.Nat.{ℕ, _≤_}
-use lib.Dec.{ltb}
-use lib.ListN.{length}
-use borrow.Author.Tests.{le-ltb}
+use Rattle.common_laws.proofs.Base.{Bool, or-false, List, [], _∷_, Option, _≡_, refl, sym, ap, _∙_, ℕ, _≤_, ltb, length, le-ltb}
 use Rattle.sizes.specs.Sizes as Size
 use Rattle.reading.specs.Numbers as No
 use Rattle.text.specs.Bytes.{bytes}

@@ -1,10 +1,6 @@
 -- A call over two texts that is lent one answer, from where reading left it: its promise, refused or accepted.
 -- Assumes nothing.
-use mathlib.Core.Bool.{_||_}
-use mathlib.Core.List.{List, [], _∷_}
-use mathlib.Core.Path.{_≡_, refl, sym, ap, subst, _∙_}
-use Prim.Native.Nat.{ℕ, _≤_, _<_}
-use lib.ListN.{length, replicate}
+use Rattle.common_laws.proofs.Base.{_||_, List, [], _∷_, _≡_, refl, sym, ap, subst, _∙_, ℕ, _≤_, _<_, length, replicate}
 use Rattle.sizes.specs.Sizes as Size
 use Rattle.reading.specs.Numbers as No
 use Rattle.reading.specs.Refusal.{Read, refused, read, weigh}

@@ -1,9 +1,6 @@
 -- What `begin` does: the entry, and the library text behind it.
 -- Assumes nothing.
-use mathlib.Core.List.{List, _++_}
-use mathlib.Core.Path.{_≡_, sym}
-use Prim.Native.Nat.{ℕ}
-use lib.ListN.{length, drop}
+use Rattle.common_laws.proofs.Base.{List, _++_, _≡_, sym, ℕ, length, drop}
 use Rattle.sizes.specs.Sizes as Size
 use Rattle.reading.specs.Refusal.{refused, read}
 use Rattle.reading.specs.Verdict.{verdictRead, doneRead}

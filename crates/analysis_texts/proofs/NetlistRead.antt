@@ -1,9 +1,6 @@
 -- Reading the netlist text, from what the reader of crate `netlist_text` says of it.
 -- Assumes nothing.
-use mathlib.Core.List.{List, _++_}
-use mathlib.Core.Path.{_≡_, refl, ap, _∙_}
-use Prim.Native.Nat.{ℕ}
-use lib.ListN.{drop}
+use Rattle.common_laws.proofs.Base.{List, _++_, _≡_, refl, ap, _∙_, ℕ, drop}
 use Rattle.sizes.specs.Sizes as Size
 use Rattle.reading.specs.Verdict.{verdictRead}
 use Rattle.reading.specs.declared.Refusal.{Refusal}

@@ -1,9 +1,6 @@
 -- A call's own tables are zero before they are read into.
 -- Assumes nothing.
-use mathlib.Core.List.{List}
-use mathlib.Core.Path.{_≡_, sym, subst}
-use Prim.Native.Nat.{ℕ}
-use lib.ListN.{replicate, length-replicate}
+use Rattle.common_laws.proofs.Base.{List, _≡_, sym, subst, ℕ, replicate, length-replicate}
 use Rattle.table.specs.Blocks.{cleared}
 use Rattle.table.proofs.Places.{cleared-all}
 use Rattle.analysis_texts.specs.declared.Tables.{Tables}

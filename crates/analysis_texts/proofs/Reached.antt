@@ -1,10 +1,6 @@
 -- Where a call stands behind its entry, the library and the netlist, however the netlist was given.
 -- Assumes nothing.
-use mathlib.Core.List.{List, _++_}
-use mathlib.Core.Path.{_≡_, refl, sym, ap, subst, _∙_}
-use Prim.Native.Nat.{ℕ, _≤_}
-use native.Mathlib.Omega.{arith}
-use lib.ListN.{length, drop, replicate}
+use Rattle.common_laws.proofs.Base.{List, _++_, _≡_, refl, sym, ap, subst, _∙_, ℕ, _≤_, arith, length, drop, replicate}
 use Rattle.sizes.specs.Sizes as Size
 use Rattle.reading.specs.Refusal.{Read, refused, read, _>>=_}
 use Rattle.reading.specs.declared.Refusal.{Refusal}

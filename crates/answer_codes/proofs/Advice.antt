@@ -1,11 +1,6 @@
 -- The numbers of the calls for C of the pad adviser, from the answers of the calls in Rattle.
 -- Assumes nothing.
-use mathlib.Core.List.{List}
-use mathlib.Core.Logic.{_↔_}
-use mathlib.Core.Path.{_≡_, refl, sym, ap, subst, _∙_}
-use Prim.Native.Nat.{ℕ, _≤_}
-use native.Mathlib.Omega.{arith}
-use borrow.Author.Tests.{leb-true}
+use Rattle.common_laws.proofs.Base.{List, _↔_, _≡_, refl, sym, ap, subst, _∙_, ℕ, _≤_, arith, leb-true}
 use Rattle.sizes.specs.Sizes as Size
 use Rattle.reading.specs.Refusal.{Read, refused, read, _>>=_}
 use Rattle.reading.proofs.Bounds.{Within, anyNumber}

@@ -1,9 +1,6 @@
 -- The number of `scoap_best`, from the answer of `best_within`.
 -- Assumes nothing.
-use mathlib.Core.List.{List}
-use mathlib.Core.Path.{_≡_, sym, _∙_}
-use Prim.Native.Nat.{ℕ}
-use native.Mathlib.Omega.{arith}
+use Rattle.common_laws.proofs.Base.{List, _≡_, sym, _∙_, ℕ, arith}
 use Rattle.sizes.specs.Sizes as Size
 use Rattle.reading.specs.Numbers as No
 use Rattle.reading.specs.Refusal.{read}

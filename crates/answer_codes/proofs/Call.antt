@@ -1,7 +1,6 @@
 -- The number of a call, from what the call keeps.
 -- Assumes nothing.
-use mathlib.Core.Path.{_≡_}
-use Prim.Native.Nat.{ℕ}
+use Rattle.common_laws.proofs.Base.{_≡_, ℕ}
 use Rattle.reading.specs.Refusal.{Read, refused}
 use Rattle.demands.specs.Call.{Call, Kept}
 use Rattle.answer_codes.specs.Number.{Tells}

@@ -1,12 +1,6 @@
 -- The numbers that the generator's and the built-in library's calls for C answer.
 -- Assumes nothing.
-use mathlib.Core.List.{List}
-use mathlib.Core.Path.{_≡_, sym, ap, _∙_}
-use Prim.Native.Nat.{ℕ, _≤_, _<_}
-use native.Mathlib.Omega.{arith}
-use borrow.Author.Tests.{le-leb, ltb-true, ltb-false}
-use lib.Dec.{ltb}
-use lib.ListN.{length}
+use Rattle.common_laws.proofs.Base.{List, _≡_, sym, ap, _∙_, ℕ, _≤_, _<_, arith, le-leb, ltb-true, ltb-false, ltb, length}
 use Rattle.reading.specs.Numbers as No
 use Rattle.reading.specs.Refusal.{Read, refused, read}
 use Rattle.reading.proofs.Bounds.{Within, anyNumber}

@@ -1,10 +1,6 @@
 -- The number of the call for C that changes a library, from the answer of the call in Rattle.
 -- Assumes nothing.
-use mathlib.Core.Bool.{Bool, true, false}
-use mathlib.Core.List.{List}
-use mathlib.Core.Path.{_≡_, ap}
-use Prim.Native.Nat.{ℕ, _≤_}
-use native.Mathlib.Omega.{arith}
+use Rattle.common_laws.proofs.Base.{Bool, true, false, List, _≡_, ap, ℕ, _≤_, arith}
 use Rattle.reading.specs.Choice.{pick}
 use Rattle.reading.proofs.Bounds.{Within, anyNumber}
 use Rattle.reading.proofs.Laws.{one-most}

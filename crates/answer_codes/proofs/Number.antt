@@ -1,11 +1,7 @@
 -- The laws of the one number, for every call alike: from what a call comes to and what its code answered to what the number
 -- tells, and back from the number to the refusal.
 -- Assumes nothing.
-use mathlib.Core.Bool.{true, true≢false}
-use mathlib.Core.Path.{_≡_, refl, sym, ap, _∙_}
-use Prim.Native.Nat.{ℕ, zero, suc, _/_, _%_, _≤_, _<_}
-use native.Mathlib.Omega.{arith}
-use borrow.Author.Tests.{leb-true, le-leb}
+use Rattle.common_laws.proofs.Base.{true, true≢false, _≡_, refl, sym, ap, _∙_, ℕ, zero, suc, _/_, _%_, _≤_, _<_, arith, leb-true, le-leb}
 use Rattle.reading.specs.Numbers as No
 use Rattle.reading.specs.Refusal.{Read, refused, read, _>>=_}
 use Rattle.reading.specs.declared.Refusal.{Refusal}

@@ -1,14 +1,7 @@
 -- The number of a plan's call for C, from the answer of `write_plan`.
 -- Assumes nothing.
-use mathlib.Core.Bool.{false, true≢false}
-use mathlib.Core.List.{List}
-use mathlib.Core.Logic.{_⊎_, inl, inr}
-use mathlib.Core.Path.{_≡_, refl, sym, ap, subst, _∙_}
-use Prim.Native.Nat.{ℕ, _/_, _≤_, _<_}
-use native.Mathlib.Omega.{arith}
-use lib.Dec.{leb}
-use lib.ListN.{length, replicate}
-use borrow.Author.Tests.{le-leb, lt-leb, leb-true, leb-false}
+use Rattle.common_laws.proofs.Base.{false, true≢false, List, _⊎_, inl, inr, _≡_, refl, sym, ap, subst, _∙_, ℕ, _/_, _≤_, _<_, arith, leb, length, replicate, le-leb, lt-leb}
+use Rattle.common_laws.proofs.Base.{leb-true, leb-false}
 use Rattle.reading.specs.Choice.{pick}
 use Rattle.reading.specs.Numbers as No
 use Rattle.reading.specs.Refusal.{Read, refused, read, _>>=_, weigh}

@@ -1,12 +1,7 @@
 -- The number of `scoap_qualifies`, from where reading the two texts left it.
 -- Assumes nothing.
-use mathlib.Core.Bool.{true≢false, _&&_}
-use mathlib.Core.List.{List, [], _++_, append-nil}
-use mathlib.Core.Path.{_≡_, refl, sym, ap, subst, _∙_}
-use Prim.Native.Nat.{ℕ, _≤_, _<_}
-use native.Mathlib.Omega.{arith}
-use lib.ListN.{length, drop, replicate, length-replicate}
-use lib.Seq.{drop-length}
+use Rattle.common_laws.proofs.Base.{true≢false, _&&_, List, [], _++_, append-nil, _≡_, refl, sym, ap, subst, _∙_, ℕ, _≤_, _<_, arith, length, drop, replicate, length-replicate}
+use Rattle.common_laws.proofs.Base.{drop-length}
 use Rattle.sizes.specs.Sizes as Size
 use Rattle.reading.specs.Numbers as No
 use Rattle.reading.specs.Refusal.{Read, refused, read, _>>_}

@@ -1,11 +1,6 @@
 -- The C entry's number, from the answer of the analysis.
 -- Assumes nothing.
-use mathlib.Core.Bool.{true≢false}
-use mathlib.Core.List.{List}
-use mathlib.Core.Path.{_≡_, refl, sym, ap, _∙_}
-use Prim.Native.Nat.{ℕ, _/_, _≤_, _<_}
-use native.Mathlib.Omega.{arith}
-use lib.ListN.{length}
+use Rattle.common_laws.proofs.Base.{true≢false, List, _≡_, refl, sym, ap, _∙_, ℕ, _/_, _≤_, _<_, arith, length}
 use Rattle.reading.specs.Numbers as No
 use Rattle.reading.specs.Refusal.{Read, refused, read}
 use Rattle.reading.proofs.Bounds.{Within, anyNumber}

@@ -1,10 +1,6 @@
 -- The numbers of the calls for C of a standing analysis, from the answers of the calls in Rattle.
 -- Assumes nothing.
-use mathlib.Core.Bool.{_||_}
-use mathlib.Core.List.{List}
-use mathlib.Core.Path.{_≡_, sym, _∙_}
-use Prim.Native.Nat.{ℕ}
-use native.Mathlib.Omega.{arith}
+use Rattle.common_laws.proofs.Base.{_||_, List, _≡_, sym, _∙_, ℕ, arith}
 use Rattle.reading.proofs.Bounds.{Within, anyNumber}
 use Rattle.calculation.specs.Pads.{ask, commit}
 use Rattle.writer.specs.Buffer.{codeOf, LineBelow}

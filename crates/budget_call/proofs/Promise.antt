@@ -1,9 +1,6 @@
 -- From the parts of the call to its promise.
 -- Assumes nothing.
-use mathlib.Core.List.{List, _++_}
-use mathlib.Core.Path.{_≡_, refl}
-use Prim.Native.Nat.{ℕ, _≤_, _<_}
-use lib.ListN.{length, drop, replicate}
+use Rattle.common_laws.proofs.Base.{List, _++_, _≡_, refl, ℕ, _≤_, _<_, length, drop, replicate}
 use Rattle.sizes.specs.Sizes as Size
 use Rattle.reading.specs.Numbers as No
 use Rattle.reading.specs.Refusal.{Read, refused, read}

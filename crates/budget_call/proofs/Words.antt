@@ -1,15 +1,7 @@
 -- The words of all values, one value after the other.
 -- Assumes nothing.
-use mathlib.Core.Bool.{Bool, true, false}
-use mathlib.Core.List.{List, _++_}
-use mathlib.Core.Path.{_≡_, refl, sym, ap, _∙_}
-use Prim.Native.Nat.{ℕ, _+_, _-_, _/_, _%_, _≤_, _<_}
-use native.Mathlib.Decide.{ℕ-discrete, decLe}
-use native.Mathlib.Omega.{arith}
-use borrow.Author.Tests.{lt-ltb, le-ltb}
-use lib.Dec.{ltb}
-use lib.ListN.{length, getD, set, drop, length-set, length-append, length-drop}
-use lib.Seq.{ext-getD, getD-set-same, getD-set-other, getD-drop, getD-append-add}
+use Rattle.common_laws.proofs.Base.{Bool, true, false, List, _++_, _≡_, refl, sym, ap, _∙_, ℕ, _+_, _-_, _/_, _%_, _≤_, _<_, ℕ-discrete, decLe, arith, lt-ltb, le-ltb, ltb, length}
+use Rattle.common_laws.proofs.Base.{getD, set, drop, length-set, length-append, length-drop, ext-getD, getD-set-same, getD-set-other, getD-drop, getD-append-add}
 use Rattle.sizes.specs.Sizes as Size
 use Rattle.sizes.specs.Places.{leafPlace, flagPlace}
 use Rattle.reading.specs.Choice.{pick}

@@ -1,13 +1,7 @@
 -- The tree of a queue: what a store leaves of it, and what its root tells.
 -- Assumes nothing.
-use mathlib.Core.List.{List}
-use mathlib.Core.Path.{_≡_, refl, _∙_, ap}
-use Prim.Native.Nat.{ℕ, zero, suc, _+_, _*_, _-_, _/_, _%_, _≤_, _<_, min}
-use native.Mathlib.Decide.{ℕ-discrete, decLe}
-use native.Mathlib.Nat.{le-refl, le-trans, le-of-eq}
-use native.Mathlib.Omega.{arith}
-use lib.ListN.{length, getD, set, replicate, length-replicate, getD-replicate}
-use lib.Seq.{getD-set-same, getD-set-other}
+use Rattle.common_laws.proofs.Base.{List, _≡_, refl, _∙_, ap, ℕ, zero, suc, _+_, _*_, _-_, _/_, _%_, _≤_, _<_, min, ℕ-discrete, decLe, le-refl, le-trans, le-of-eq, arith, length}
+use Rattle.common_laws.proofs.Base.{getD, set, replicate, length-replicate, getD-replicate, getD-set-same, getD-set-other}
 use Rattle.sizes.specs.Sizes as Size
 use Rattle.cost.specs.Cost.{never}
 use Rattle.budget_queue.specs.Queue.{key, costAt, leafAt, Least, Queue, Empty, Put, PutFits, Front}

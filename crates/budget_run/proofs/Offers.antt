@@ -1,15 +1,7 @@
 -- The offer of a gate out of the tables, from what the parts of `offer_of` read.
 -- Assumes nothing.
-use mathlib.Core.Bool.{Bool, true}
-use mathlib.Core.List.{List}
-use mathlib.Core.Logic.{_⊎_, inl, inr}
-use mathlib.Core.Path.{_≡_, refl, sym, ap, ap₂, subst, _∙_}
-use Prim.Native.Nat.{ℕ, zero, suc, _+_, _*_, _-_, _%_, _≤_, _<_}
-use native.Mathlib.Decide.{ℕ-discrete}
-use native.Mathlib.Nat.{le-refl}
-use native.Mathlib.Omega.{arith}
-use borrow.Author.Tests.{lt-ltb, le-ltb}
-use lib.ListN.{length, getD}
+use Rattle.common_laws.proofs.Base.{Bool, true, List, _⊎_, inl, inr, _≡_, refl, sym, ap, ap₂, subst, _∙_, ℕ, zero, suc, _+_, _*_, _-_, _%_, _≤_, _<_, ℕ-discrete, le-refl, arith}
+use Rattle.common_laws.proofs.Base.{lt-ltb, le-ltb, length, getD}
 use Rattle.sizes.specs.Sizes as Size
 use Rattle.sizes.specs.Places.{groupPlace, leafOf, leafPlace}
 use Rattle.reading.specs.Choice.{pick}

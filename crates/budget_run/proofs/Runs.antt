@@ -1,14 +1,7 @@
 -- The start of a run, and its steps one after the other.
 -- Assumes nothing.
-use mathlib.Core.Bool.{false}
-use mathlib.Core.List.{List}
-use mathlib.Core.Logic.{_⊎_, inl, inr}
-use mathlib.Core.Path.{_≡_, refl, sym, ap, _∙_, subst}
-use Prim.Native.Nat.{ℕ, suc, _+_, _/_, _%_, _≤_, _<_}
-use native.Mathlib.Decide.{ℕ-discrete, decLt}
-use native.Mathlib.Numerals.{add-one}
-use native.Mathlib.Omega.{arith}
-use lib.ListN.{length, getD, replicate, length-replicate, List·getD-eq-default}
+use Rattle.common_laws.proofs.Base.{false, List, _⊎_, inl, inr, _≡_, refl, sym, ap, _∙_, subst, ℕ, suc, _+_, _/_, _%_, _≤_, _<_, ℕ-discrete, decLt, add-one, arith, length, getD}
+use Rattle.common_laws.proofs.Base.{replicate, length-replicate, List·getD-eq-default}
 use Rattle.sizes.specs.Sizes as Size
 use Rattle.sizes.specs.Places.{leafPlace}
 use Rattle.reading.specs.Choice.{pick}

@@ -1,10 +1,6 @@
 -- One step: what the front of the queue, the store, the readers and the fresh offers come to.
 -- Assumes nothing.
-use mathlib.Core.List.{List}
-use mathlib.Core.Path.{_≡_, refl, ap, _∙_}
-use Prim.Native.Nat.{ℕ, suc, _+_, _/_, _≤_, _<_}
-use native.Mathlib.Omega.{arith}
-use lib.ListN.{length, set, length-set}
+use Rattle.common_laws.proofs.Base.{List, _≡_, refl, ap, _∙_, ℕ, suc, _+_, _/_, _≤_, _<_, arith, length, set, length-set}
 use Rattle.sizes.specs.Sizes as Size
 use Rattle.sizes.specs.Places.{leafPlace}
 use Rattle.cost.specs.Cost.{never}

@@ -1,11 +1,6 @@
 -- What acceptance gives of each gate, line and row: the readers' facts by membership.
 -- Assumes nothing.
-use mathlib.Core.Bool.{true}
-use mathlib.Core.List.{List, [], _∷_, List·Memᴰ, List·Memᴰ·not-nil}
-use mathlib.Core.Path.{_≡_, refl}
-use Prim.Native.Nat.{ℕ, zero, suc, _-_, _≤_, _<_}
-use native.Mathlib.Omega.{arith}
-use lib.ListN.{length, getD}
+use Rattle.common_laws.proofs.Base.{true, List, [], _∷_, List·Memᴰ, List·Memᴰ·not-nil, _≡_, refl, ℕ, zero, suc, _-_, _≤_, _<_, arith, length, getD}
 use Rattle.reading.proofs.Laws.{each-at, each-member}
 use Rattle.cost.specs.Cost.{most}
 use Rattle.library_table.specs.Cells.{Row, Group, Cell}

@@ -1,14 +1,7 @@
 -- The adviser's answer is what document 02, K13, asks for.
 -- Assumes nothing.
-use mathlib.Core.Bool.{Bool, true, false, not}
-use mathlib.Core.List.{List, [], _∷_, map, List·Memᴰ, List·Memᴰ·head, List·Memᴰ·tail, List·Memᴰ·not-nil}
-use mathlib.Core.Path.{_≡_, refl, sym, _∙_, ap, fun-ext}
-use Prim.Native.Nat.{ℕ, zero, suc, _+_, _≤_, _<_}
-use native.Mathlib.Decide.{ℕ-discrete}
-use native.Mathlib.Nat.{le-trans, le-of-eq}
-use native.Mathlib.Omega.{arith}
-use borrow.Author.Tests.{leb-true, leb-false, not-true}
-use lib.Dec.{leb}
+use Rattle.common_laws.proofs.Base.{Bool, true, false, not, List, [], _∷_, map, List·Memᴰ, List·Memᴰ·head, List·Memᴰ·tail, List·Memᴰ·not-nil, _≡_, refl, sym, _∙_, ap, fun-ext, ℕ}
+use Rattle.common_laws.proofs.Base.{zero, suc, _+_, _≤_, _<_, ℕ-discrete, le-trans, le-of-eq, arith, leb-true, leb-false, not-true, leb}
 use Rattle.sizes.specs.Sizes as Size
 use Rattle.reading.specs.Refusal.{Read, read}
 use Rattle.reading.specs.Choice.{pick}

@@ -1,12 +1,7 @@
 -- The runs from any numbers that are costs: by keeping the lesser they settle, all four to `lesserRuns`, those of CO and SO to
 -- `lastRuns`.
 -- Assumes nothing.
-use mathlib.Core.List.{List, map, Memᴰ·map}
-use mathlib.Core.Path.{_≡_, refl, _∙_, ap}
-use Prim.Native.Nat.{ℕ, _+_, _*_}
-use native.Mathlib.Omega.{arith}
-use native.Mathlib.Nat.{le-trans, le-of-eq}
-use lib.ListN.{length, getD, length-map}
+use Rattle.common_laws.proofs.Base.{List, map, Memᴰ·map, _≡_, refl, _∙_, ap, ℕ, _+_, _*_, arith, le-trans, le-of-eq, length, getD, length-map}
 use Rattle.sizes.specs.Sizes as Size
 use Rattle.plans.specs.System.{Visit}
 use Rattle.plans.specs.Sweep.{at, lower, Settles, run, Bounded}

@@ -1,12 +1,7 @@
 -- The calculation at whatever prices within the ranges. A plan is one at any prices, and where no input costs more neither
 -- does the plan; the runs of SC and SO look at no number that has to do with prices.
 -- Assumes nothing.
-use mathlib.Core.Bool.{true}
-use mathlib.Core.List.{List, List·Memᴰ}
-use mathlib.Core.Path.{_≡_, refl, sym, _∙_}
-use Prim.Native.Nat.{ℕ, _≤_}
-use native.Mathlib.Nat.{le-refl, le-antisymm}
-use native.Mathlib.Omega.{arith}
+use Rattle.common_laws.proofs.Base.{true, List, List·Memᴰ, _≡_, refl, sym, _∙_, ℕ, _≤_, le-refl, le-antisymm, arith}
 use Rattle.sizes.specs.Sizes as Size
 use Rattle.plans.specs.System.{Visit}
 use Rattle.plans.specs.Sweep.{at, Rule, renew, lower, Settles, Visited}

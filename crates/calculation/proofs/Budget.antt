@@ -1,14 +1,7 @@
 -- Document 02, K12: what a run within a budget is worth, from the theorems of crate `plans`.
 -- Assumes nothing.
-use mathlib.Core.List.{List, [], _∷_, _++_, append-nil, List·Memᴰ, List·Memᴰ·head, List·Memᴰ·tail}
-use mathlib.Core.Logic.{_⊎_, inl, inr}
-use mathlib.Core.Path.{_≡_, refl, sym, _∙_, ap, ap₂, subst}
-use Prim.Native.Nat.{ℕ, zero, suc, _+_, _*_, _-_, _/_, _%_, _≤_, _<_}
-use native.Mathlib.Decide.{ℕ-discrete, decLt}
-use native.Mathlib.Omega.{arith}
-use borrow.Author.Tests.{lt-ltb, le-ltb}
-use lib.Dec.{ltb}
-use lib.ListN.{length, getD, drop}
+use Rattle.common_laws.proofs.Base.{List, [], _∷_, _++_, append-nil, List·Memᴰ, List·Memᴰ·head, List·Memᴰ·tail, _⊎_, inl, inr, _≡_, refl, sym, _∙_, ap, ap₂, subst, ℕ, zero, suc}
+use Rattle.common_laws.proofs.Base.{_+_, _*_, _-_, _/_, _%_, _≤_, _<_, ℕ-discrete, decLt, arith, lt-ltb, le-ltb, ltb, length, getD, drop}
 use Rattle.sizes.specs.Sizes as Size
 use Rattle.sizes.specs.Places.{leafOf, leafPlace, flagPlace}
 use Rattle.reading.specs.Choice.{pick}

@@ -1,15 +1,8 @@
 -- A pad, and its line as the only output: what falls with the pad, and what falls at no prices within the ranges. No code cites
 -- this page yet: request E3 is to (D198).
 -- Assumes nothing.
-use mathlib.Core.Bool.{Bool, true, false, _||_, or-false, or-true}
-use mathlib.Core.List.{List, [], _∷_, _++_, flatMap}
-use mathlib.Core.Logic.{_⊎_, inl, inr, ⊎-elim}
-use mathlib.Core.Path.{_≡_, refl, sym, _∙_, ap, subst}
-use Prim.Native.Nat.{ℕ, _≤_, _<_, min}
-use native.Mathlib.Nat.{le-refl, le-antisymm, le-of-eq}
-use native.Mathlib.Omega.{arith}
-use lib.Dec.{eqb, ltb}
-use borrow.Author.Tests.{lt-ltb, le-ltb, ltb-true, ltb-false}
+use Rattle.common_laws.proofs.Base.{Bool, true, false, _||_, or-false, or-true, List, [], _∷_, _++_, flatMap, _⊎_, inl, inr, ⊎-elim, _≡_, refl, sym, _∙_, ap, subst, ℕ, _≤_, _<_}
+use Rattle.common_laws.proofs.Base.{min, le-refl, le-antisymm, le-of-eq, arith, eqb, ltb, lt-ltb, le-ltb, ltb-true, ltb-false}
 use Rattle.reading.specs.Choice.{pick}
 use Rattle.reading.specs.Each.{Each}
 use Rattle.reading.proofs.Laws.{by-test, clash, each-map, or-left, or-right, or-cases}

@@ -1,12 +1,7 @@
 -- Demand 3 for every number of an analysis: each is what document 01's plans make it.
 -- Assumes nothing.
-use mathlib.Core.Bool.{false, true, true≢false}
-use mathlib.Core.List.{List, List·Memᴰ·head, List·Memᴰ·tail}
-use mathlib.Core.Path.{_≡_, refl, sym, _∙_}
-use Prim.Native.Nat.{ℕ, _-_, _≤_, _<_}
-use native.Mathlib.Decide.{decLt}
-use native.Mathlib.Omega.{arith}
-use lib.ListN.{length, getD, List·getD-eq-default}
+use Rattle.common_laws.proofs.Base.{false, true, true≢false, List, List·Memᴰ·head, List·Memᴰ·tail, _≡_, refl, sym, _∙_, ℕ, _-_, _≤_, _<_, decLt, arith, length, getD}
+use Rattle.common_laws.proofs.Base.{List·getD-eq-default}
 use Rattle.cost.specs.Cost.{never}
 use Rattle.plans.specs.System as General
 use Rattle.plans.specs.Sweep.{at}

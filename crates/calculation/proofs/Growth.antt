@@ -1,15 +1,8 @@
 -- A library that differs from another only by rows added to groups: to a netlist its entries are the same, and at each gate
 -- rows were added, so that what proofs/Rows.antt says holds of it. Document 02, K14.
 -- Assumes nothing.
-use mathlib.Core.Bool.{Bool, true, false, not, _&&_, _||_}
-use mathlib.Core.List.{List, [], _∷_, _++_, List·Memᴰ, List·Memᴰ·head, List·Memᴰ·tail, List·Memᴰ·not-nil}
-use mathlib.Core.Logic.{_⊎_, inl, inr, ⊎-elim}
-use mathlib.Core.Path.{_≡_, refl, sym, _∙_, ap}
-use Prim.Native.Nat.{ℕ, zero, suc, _<_}
-use native.Mathlib.Omega.{arith}
-use borrow.Author.Tests.{eqb-true, eq-eqb, not-false}
-use lib.Dec.{eqb}
-use lib.ListN.{length, getD}
+use Rattle.common_laws.proofs.Base.{Bool, true, false, not, _&&_, _||_, List, [], _∷_, _++_, List·Memᴰ, List·Memᴰ·head, List·Memᴰ·tail, List·Memᴰ·not-nil, _⊎_, inl, inr, ⊎-elim}
+use Rattle.common_laws.proofs.Base.{_≡_, refl, sym, _∙_, ap, ℕ, zero, suc, _<_, arith, eqb-true, eq-eqb, not-false, eqb, length, getD}
 use Rattle.reading.specs.Choice.{pick}
 use Rattle.reading.proofs.Laws.{by-test, clash, and-left, and-right, or-cases}
 use Rattle.text.specs.Lines.{sameBytes}

@@ -1,12 +1,6 @@
 -- Another library under a standing analysis: whatever asks, commits and changes of library leave is a standing analysis.
 -- Document 02, K14. Assumes nothing.
-use mathlib.Core.Bool.{true}
-use mathlib.Core.List.{List, [], _∷_, _++_}
-use mathlib.Core.Path.{_≡_, refl, sym, _∙_, ap}
-use Prim.Native.Nat.{ℕ, zero, suc, _<_}
-use native.Mathlib.Nat.{le-of-eq, le-trans, le-antisymm}
-use native.Mathlib.Omega.{arith}
-use lib.ListN.{length, getD}
+use Rattle.common_laws.proofs.Base.{true, List, [], _∷_, _++_, _≡_, refl, sym, _∙_, ap, ℕ, zero, suc, _<_, le-of-eq, le-trans, le-antisymm, arith, length, getD}
 use Rattle.sizes.specs.Sizes as Size
 use Rattle.reading.specs.Choice.{pick}
 use Rattle.reading.specs.Refusal.{Read, refused, read}

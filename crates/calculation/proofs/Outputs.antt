@@ -1,15 +1,8 @@
 -- Outputs added to a netlist: CC, SC and their counts are what they were, CO and SO run again come to the new analysis, and no
 -- number is higher.
 -- Assumes nothing.
-use mathlib.Core.Bool.{Bool, true, false}
-use mathlib.Core.List.{List, [], _∷_}
-use mathlib.Core.Path.{_≡_, refl, sym, _∙_, ap, subst}
-use Prim.Native.Nat.{ℕ, zero, suc, _+_, _%_, _≤_, _<_}
-use native.Mathlib.Decide.{ℕ-discrete, decLt}
-use native.Mathlib.Nat.{le-refl, le-of-eq}
-use native.Mathlib.Omega.{arith}
-use borrow.Author.Tests.{lt-ltb, le-ltb}
-use lib.ListN.{length, set, length-set}
+use Rattle.common_laws.proofs.Base.{Bool, true, false, List, [], _∷_, _≡_, refl, sym, _∙_, ap, subst, ℕ, zero, suc, _+_, _%_, _≤_, _<_, ℕ-discrete, decLt, le-refl, le-of-eq, arith}
+use Rattle.common_laws.proofs.Base.{lt-ltb, le-ltb, length, set, length-set}
 use Rattle.sizes.specs.Sizes as Size
 use Rattle.reading.specs.Choice.{pick}
 use Rattle.reading.proofs.Laws.{by-test}

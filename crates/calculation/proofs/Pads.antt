@@ -1,11 +1,7 @@
 -- One pad more: CC, SC and their counts are what they were, CO and SO run again come to the new analysis, and none is higher.
 -- Document 02, K11. Assumes nothing.
-use mathlib.Core.Bool.{true, false, not, _&&_, _||_, and-assoc}
-use mathlib.Core.List.{List, [], _∷_, _++_, map, map-append, append-nil, append-assoc}
-use mathlib.Core.Path.{_≡_, sym, _∙_, ap, subst}
-use Prim.Native.Nat.{ℕ, _≤_}
-use native.Mathlib.Omega.{arith}
-use borrow.Author.Tests.{not-true, not-false}
+use Rattle.common_laws.proofs.Base.{true, false, not, _&&_, _||_, and-assoc, List, [], _∷_, _++_, map, map-append, append-nil, append-assoc, _≡_, sym, _∙_, ap, subst, ℕ, _≤_}
+use Rattle.common_laws.proofs.Base.{arith, not-true, not-false}
 use Rattle.reading.specs.Choice.{pick}
 use Rattle.reading.proofs.Laws.{by-test, and-left, and-right, or-left, or-right}
 use Rattle.plans.specs.Sweep.{at}

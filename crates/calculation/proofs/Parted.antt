@@ -1,12 +1,8 @@
 -- Outputs of two netlists together: a plan that observes goes to one output, which is one of the first or one of the second. So
 -- each CO and SO is the lesser of the two, at any prices.
 -- Assumes nothing.
-use mathlib.Core.Bool.{Bool, true, false}
-use mathlib.Core.List.{List, [], _∷_, _++_, List·Memᴰ, List·Memᴰ·head, List·Memᴰ·tail, cons≢nil}
-use mathlib.Core.Logic.{_⊎_, inl, inr, ⊎-elim}
-use mathlib.Core.Path.{_≡_, refl, sym, _∙_, ap, subst}
-use Prim.Native.Nat.{ℕ, zero, suc, _+_, _≤_, min}
-use native.Mathlib.Nat.{le-of-eq}
+use Rattle.common_laws.proofs.Base.{Bool, true, false, List, [], _∷_, _++_, List·Memᴰ, List·Memᴰ·head, List·Memᴰ·tail, cons≢nil, _⊎_, inl, inr, ⊎-elim, _≡_, refl, sym, _∙_, ap}
+use Rattle.common_laws.proofs.Base.{subst, ℕ, zero, suc, _+_, _≤_, min, le-of-eq}
 use Rattle.reading.specs.Choice.{pick}
 use Rattle.reading.proofs.Laws.{by-test}
 use Rattle.plans.proofs.Laws.{stands-lesser}

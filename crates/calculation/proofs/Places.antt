@@ -1,13 +1,7 @@
 -- Where numbers stand: each purpose in each kind has a place of its own in the table, and what stands there at the start.
 -- Assumes nothing.
-use mathlib.Core.Bool.{Bool, true, false}
-use mathlib.Core.List.{List, _++_}
-use mathlib.Core.Path.{_≡_, refl, _∙_, ap, ap₂}
-use Prim.Native.Nat.{ℕ, zero, suc, _+_, _*_, _-_, _%_, _≤_, _<_}
-use native.Mathlib.Nat.{le-refl}
-use native.Mathlib.Omega.{arith}
-use lib.ListN.{length, getD, List·getD-append}
-use lib.Seq.{getD-append-add}
+use Rattle.common_laws.proofs.Base.{Bool, true, false, List, _++_, _≡_, refl, _∙_, ap, ap₂, ℕ, zero, suc, _+_, _*_, _-_, _%_, _≤_, _<_, le-refl, arith, length, getD}
+use Rattle.common_laws.proofs.Base.{List·getD-append, getD-append-add}
 use Rattle.sizes.specs.Sizes as Size
 use Rattle.sizes.specs.Places.{linePlace}
 use Rattle.reading.specs.Choice.{pick}

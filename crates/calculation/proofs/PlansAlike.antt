@@ -1,14 +1,8 @@
 -- Document 01's plans over cells and statements are the plans of crate `plans` over the ways and visits of the netlist: each
 -- gives the other at the same cost.
 -- Assumes nothing.
-use mathlib.Core.Bool.{Bool, true, false}
-use mathlib.Core.List.{List, [], _∷_, List·Memᴰ, List·Memᴰ·head, List·Memᴰ·tail, Memᴰ·map, nil≢cons, cons≢nil, head-eq-of-cons-eq, tail-eq-of-cons-eq}
-use mathlib.Core.Option.{Option, none, some}
-use mathlib.Core.Path.{_≡_, refl, sym, _∙_, ap, ap₂}
-use Prim.Native.Nat.{ℕ, _+_, _≤_}
-use native.Mathlib.Omega.{arith}
-use borrow.Author.Tests.{eqb-true, eqb-false, ne-eqb}
-use lib.Dec.{eqb}
+use Rattle.common_laws.proofs.Base.{Bool, true, false, List, [], _∷_, List·Memᴰ, List·Memᴰ·head, List·Memᴰ·tail, Memᴰ·map, nil≢cons, cons≢nil, head-eq-of-cons-eq}
+use Rattle.common_laws.proofs.Base.{tail-eq-of-cons-eq, Option, none, some, _≡_, refl, sym, _∙_, ap, ap₂, ℕ, _+_, _≤_, arith, eqb-true, eqb-false, ne-eqb, eqb}
 use Rattle.reading.specs.Choice.{pick}
 use Rattle.cost.specs.Cost.{most, never, capped}
 use Rattle.plans.specs.System.{Way, Offers}

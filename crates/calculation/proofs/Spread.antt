@@ -1,13 +1,7 @@
 -- Where the effect of more outputs spreads: a line's CO or SO falls only behind one that falls, back from a new output.
 -- Assumes nothing.
-use mathlib.Core.Bool.{Bool, true, false}
-use mathlib.Core.List.{List, [], _∷_, List·Memᴰ, cons≢nil}
-use mathlib.Core.Logic.{_⊎_, inl, inr, ⊎-elim}
-use mathlib.Core.Path.{_≡_, refl, sym, _∙_, ap}
-use Prim.Native.Nat.{ℕ, _+_, _≤_, _<_}
-use native.Mathlib.Decide.{decLt}
-use native.Mathlib.Nat.{le-refl, le-of-eq}
-use native.Mathlib.Omega.{arith}
+use Rattle.common_laws.proofs.Base.{Bool, true, false, List, [], _∷_, List·Memᴰ, cons≢nil, _⊎_, inl, inr, ⊎-elim, _≡_, refl, sym, _∙_, ap, ℕ, _+_, _≤_, _<_, decLt, le-refl}
+use Rattle.common_laws.proofs.Base.{le-of-eq, arith}
 use Rattle.reading.proofs.Laws.{by-test}
 use Rattle.cost.specs.Cost.{never, capped}
 use Rattle.plans.specs.Exact.{AttainedBy}

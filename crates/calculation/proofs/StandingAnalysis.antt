@@ -1,12 +1,6 @@
 -- What asks and commits leave of a standing analysis is a standing analysis, and no number is higher. Document 02, K11.
 -- Assumes nothing.
-use mathlib.Core.Bool.{false, _||_}
-use mathlib.Core.List.{List, [], _∷_, _++_, map, flatMap, append-nil}
-use mathlib.Core.Path.{_≡_, refl, _∙_, ap}
-use Prim.Native.Nat.{ℕ, _≤_}
-use native.Mathlib.Nat.{le-refl, le-trans}
-use native.Mathlib.Omega.{arith}
-use lib.ListN.{length, length-append}
+use Rattle.common_laws.proofs.Base.{false, _||_, List, [], _∷_, _++_, map, flatMap, append-nil, _≡_, refl, _∙_, ap, ℕ, _≤_, le-refl, le-trans, arith, length, length-append}
 use Rattle.common_laws.proofs.Lists.{flatMap-append}
 use Rattle.sizes.specs.Sizes as Size
 use Rattle.reading.specs.Choice.{pick}

@@ -1,18 +1,8 @@
 -- A sweep's flag: it is false exactly where the sweep leaves the numbers as they were. So a loop that sweeps until the flag is
 -- false settles, and comes to the numbers and the count of `run`.
 -- Assumes nothing.
-use mathlib.Core.Bool.{true, false, not, _||_, true≢false, or-assoc}
-use mathlib.Core.List.{List, [], _∷_, _++_, List·Memᴰ·head, List·Memᴰ·tail}
-use mathlib.Core.Logic.{_↔_}
-use mathlib.Core.Path.{_≡_, refl, sym, _∙_, ap}
-use Prim.Native.Nat.{ℕ, zero, suc, _≤_, _<_}
-use native.Mathlib.Decide.{decLt}
-use native.Mathlib.Nat.{le-antisymm, le-trans, le-of-eq}
-use native.Mathlib.Omega.{arith}
-use borrow.Author.Tests.{eqb-true, eq-eqb, not-false}
-use lib.Dec.{eqb}
-use lib.ListN.{length, set}
-use lib.Seq.{set-out, set-getD}
+use Rattle.common_laws.proofs.Base.{true, false, not, _||_, true≢false, or-assoc, List, [], _∷_, _++_, List·Memᴰ·head, List·Memᴰ·tail, _↔_, _≡_, refl, sym, _∙_, ap, ℕ, zero, suc}
+use Rattle.common_laws.proofs.Base.{_≤_, _<_, decLt, le-antisymm, le-trans, le-of-eq, arith, eqb-true, eq-eqb, not-false, eqb, length, set, set-out, set-getD}
 use Rattle.reading.proofs.Laws.{or-left, or-right}
 use Rattle.cost.specs.Cost.{never, lesser}
 use Rattle.plans.specs.System.{Visit}

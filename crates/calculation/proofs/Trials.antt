@@ -1,12 +1,6 @@
 -- A pad on trial: CO rests at the numbers that stand, and a run of it with just the pad's number lowered leaves the CO of the
 -- new analysis. Document 02, K13. Assumes nothing.
-use mathlib.Core.Bool.{true, false, or-false, or-true}
-use mathlib.Core.List.{List}
-use mathlib.Core.Path.{_≡_, refl, sym, _∙_, subst}
-use Prim.Native.Nat.{ℕ, zero, suc, _+_, _*_, _-_, _≤_}
-use native.Mathlib.Omega.{arith}
-use borrow.Author.Tests.{eq-eqb, ne-eqb}
-use lib.ListN.{set}
+use Rattle.common_laws.proofs.Base.{true, false, or-false, or-true, List, _≡_, refl, sym, _∙_, subst, ℕ, zero, suc, _+_, _*_, _-_, _≤_, arith, eq-eqb, ne-eqb, set}
 use Rattle.sizes.specs.Sizes as Size
 use Rattle.reading.specs.Choice.{pick}
 use Rattle.plans.specs.Sweep.{at, lower, Rests, Settles}

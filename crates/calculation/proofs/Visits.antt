@@ -1,13 +1,8 @@
 -- The visits of a sweep: each is one to a gate in a role that its cell has, and what its ways need is what columns ask for.
 -- Assumes nothing.
-use mathlib.Core.Bool.{Bool, true, false}
-use mathlib.Core.List.{List, [], _∷_, _++_, map, map-append, List·Memᴰ, List·Memᴰ·head, List·Memᴰ·tail, List·Memᴰ·not-nil, List·Memᴰ·append-cases, Memᴰ·append-left, Memᴰ·append-right, Memᴰ·map, Memᴰ·of-map}
-use mathlib.Core.Logic.{⊎-elim}
-use mathlib.Core.Path.{_≡_, refl, sym, _∙_, ap, ap₂}
-use Prim.Native.Nat.{ℕ, zero, suc, _+_, _*_, _≤_, _<_}
-use native.Mathlib.Decide.{ℕ-discrete}
-use native.Mathlib.Omega.{arith}
-use lib.ListN.{length, getD}
+use Rattle.common_laws.proofs.Base.{Bool, true, false, List, [], _∷_, _++_, map, map-append, List·Memᴰ, List·Memᴰ·head, List·Memᴰ·tail, List·Memᴰ·not-nil, List·Memᴰ·append-cases}
+use Rattle.common_laws.proofs.Base.{Memᴰ·append-left, Memᴰ·append-right, Memᴰ·map, Memᴰ·of-map, ⊎-elim, _≡_, refl, sym, _∙_, ap, ap₂, ℕ, zero, suc, _+_, _*_, _≤_, _<_, ℕ-discrete}
+use Rattle.common_laws.proofs.Base.{arith, length, getD}
 use Rattle.reading.specs.Choice.{pick}
 use Rattle.plans.specs.System.{Way, Visit, Offers}
 use Rattle.library_table.specs.Cells.{Row, Group, Cell, Column, pin, output, observe, bitOf, pinColumns, settingColumns, observingColumns, bit, named}

@@ -1,12 +1,7 @@
 -- Cells that are judged, one gate after another.
 -- Assumes nothing.
-use mathlib.Core.Bool.{Bool, true, false, not, _&&_}
-use mathlib.Core.List.{List, []}
-use mathlib.Core.Path.{_≡_, refl, sym, ap, _∙_}
-use Prim.Native.Nat.{ℕ, zero, suc, _+_, _-_, _≤_, _<_}
-use native.Mathlib.Decide.{ℕ-discrete}
-use lib.ListN.{getD, set, replicate}
-use lib.Seq.{getD-set-other}
+use Rattle.common_laws.proofs.Base.{Bool, true, false, not, _&&_, List, [], _≡_, refl, sym, ap, _∙_, ℕ, zero, suc, _+_, _-_, _≤_, _<_, ℕ-discrete, getD, set, replicate}
+use Rattle.common_laws.proofs.Base.{getD-set-other}
 use Rattle.reading.specs.Choice.{pick}
 use Rattle.reading.proofs.Laws.{by-test, clash}
 use Rattle.truth_cells.specs.Words.{generatedAt}

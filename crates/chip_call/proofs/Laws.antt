@@ -1,11 +1,7 @@
 -- What the answer says of the cells and statements that were read, and of every accepted analysis.
 -- Assumes nothing.
-use mathlib.Core.Bool.{Bool, true, false, _&&_}
-use mathlib.Core.List.{List, [], _∷_, _++_, List·Memᴰ, List·Memᴰ·head, List·Memᴰ·tail, append-nil}
-use mathlib.Core.Logic.{_↔_}
-use mathlib.Core.Path.{_≡_, refl, sym, ap, subst, _∙_}
-use Prim.Native.Nat.{ℕ, _≤_}
-use native.Mathlib.Omega.{arith}
+use Rattle.common_laws.proofs.Base.{Bool, true, false, _&&_, List, [], _∷_, _++_, List·Memᴰ, List·Memᴰ·head, List·Memᴰ·tail, append-nil, _↔_, _≡_, refl, sym, ap, subst, _∙_, ℕ}
+use Rattle.common_laws.proofs.Base.{_≤_, arith}
 use Rattle.reading.specs.Choice.{pick}
 use Rattle.reading.specs.Each.{Each}
 use Rattle.reading.specs.Refusal.{Read, read}

@@ -1,14 +1,6 @@
 -- What the two calls say of the statements that were read.
 -- Assumes nothing.
-use mathlib.Core.Bool.{true, false}
-use mathlib.Core.List.{List, [], _∷_, flatMap}
-use mathlib.Core.Logic.{_↔_, ⊎-elim}
-use mathlib.Core.Path.{_≡_, refl}
-use Prim.Native.Nat.{ℕ}
-use native.Mathlib.Omega.{arith}
-use lib.Dec.{eqb}
-use lib.ListN.{length-replicate}
-use borrow.Author.Tests.{eqb-true}
+use Rattle.common_laws.proofs.Base.{true, false, List, [], _∷_, flatMap, _↔_, ⊎-elim, _≡_, refl, ℕ, arith, eqb, length-replicate, eqb-true}
 use Rattle.sizes.specs.Sizes as Size
 use Rattle.reading.specs.Each.{Each}
 use Rattle.reading.proofs.Laws.{by-test, clash}

@@ -1,16 +1,8 @@
 -- What passes over the gates level, without any table: a line that is levelled has a driver and does not lead to itself; and
 -- without loops or open lines every line that is mentioned is levelled.
 -- Assumes nothing.
-use mathlib.Core.Bool.{Bool, true, false, not}
-use mathlib.Core.List.{List, [], _∷_, List·Memᴰ, List·Memᴰ·head, List·Memᴰ·tail}
-use mathlib.Core.Logic.{_⊎_, inl, inr, ⊎-elim}
-use mathlib.Core.Path.{_≡_, refl, sym, subst, _∙_}
-use Prim.Native.Nat.{ℕ, zero, suc, _+_, _≤_, _<_}
-use native.Mathlib.Decide.{decLt}
-use native.Mathlib.Omega.{arith}
-use lib.Dec.{eqb}
-use lib.ListN.{length, set, length-replicate}
-use lib.Seq.{set-out}
+use Rattle.common_laws.proofs.Base.{Bool, true, false, not, List, [], _∷_, List·Memᴰ, List·Memᴰ·head, List·Memᴰ·tail, _⊎_, inl, inr, ⊎-elim, _≡_, refl, sym, subst, _∙_, ℕ, zero}
+use Rattle.common_laws.proofs.Base.{suc, _+_, _≤_, _<_, decLt, arith, eqb, length, set, length-replicate, set-out}
 use Rattle.sizes.specs.Sizes as Size
 use Rattle.reading.specs.Choice.{pick}
 use Rattle.reading.proofs.Laws.{by-test, clash, and-right}

@@ -1,14 +1,7 @@
 -- Marks: which lines are marked when one more is, and of those that a test tells.
 -- Assumes nothing.
-use mathlib.Core.Bool.{Bool, true, false}
-use mathlib.Core.List.{List, [], _∷_, List·Memᴰ, List·Memᴰ·head, List·Memᴰ·tail}
-use mathlib.Core.Logic.{_⊎_, inl, inr, ⊎-elim}
-use mathlib.Core.Path.{_≡_, refl, sym, _∙_}
-use Prim.Native.Nat.{ℕ, zero, suc, _+_, _≤_, _<_}
-use native.Mathlib.Decide.{ℕ-discrete, decLt}
-use native.Mathlib.Omega.{arith}
-use lib.ListN.{length, set, replicate, length-set}
-use lib.Seq.{getD-set-same, getD-set-other, set-out}
+use Rattle.common_laws.proofs.Base.{Bool, true, false, List, [], _∷_, List·Memᴰ, List·Memᴰ·head, List·Memᴰ·tail, _⊎_, inl, inr, ⊎-elim, _≡_, refl, sym, _∙_, ℕ, zero, suc, _+_, _≤_}
+use Rattle.common_laws.proofs.Base.{_<_, ℕ-discrete, decLt, arith, length, set, replicate, length-set, getD-set-same, getD-set-other, set-out}
 use Rattle.reading.specs.Choice.{pick}
 use Rattle.reading.proofs.Laws.{and-left, and-right}
 use Rattle.netlist_table.specs.Netlist.{linesWhere}

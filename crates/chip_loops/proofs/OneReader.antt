@@ -1,12 +1,6 @@
 -- Lines stand once where marks tell so.
 -- Assumes nothing.
-use mathlib.Core.Bool.{true, false}
-use mathlib.Core.List.{List, [], _∷_}
-use mathlib.Core.Path.{_≡_, refl, sym, _∙_}
-use Prim.Native.Nat.{ℕ, _<_}
-use lib.Dec.{eqb}
-use lib.ListN.{length, set, length-set}
-use borrow.Author.Tests.{eq-eqb, eqb-true, eqb-false}
+use Rattle.common_laws.proofs.Base.{true, false, List, [], _∷_, _≡_, refl, sym, _∙_, ℕ, _<_, eqb, length, set, length-set, eq-eqb, eqb-true, eqb-false}
 use Rattle.reading.proofs.Laws.{by-test, clash}
 use Rattle.netlist_table.specs.Netlist.{member}
 use Rattle.netlist_table.specs.Sound.{Apart}

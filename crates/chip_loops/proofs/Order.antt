@@ -1,14 +1,7 @@
 -- The order in which gates are levelled does not matter: what passes come to is the same from marks that are ahead of others.
 -- Assumes nothing.
-use mathlib.Core.Bool.{Bool, true, false, not}
-use mathlib.Core.List.{List, [], _∷_, List·Memᴰ, List·Memᴰ·head, List·Memᴰ·tail}
-use mathlib.Core.Logic.{⊎-elim}
-use mathlib.Core.Path.{_≡_, refl, sym, ap, subst, _∙_}
-use Prim.Native.Nat.{ℕ, zero, suc, _+_, _<_}
-use native.Mathlib.Decide.{decLt}
-use native.Mathlib.Omega.{arith}
-use lib.ListN.{length, set, length-replicate}
-use lib.Seq.{set-out}
+use Rattle.common_laws.proofs.Base.{Bool, true, false, not, List, [], _∷_, List·Memᴰ, List·Memᴰ·head, List·Memᴰ·tail, ⊎-elim, _≡_, refl, sym, ap, subst, _∙_, ℕ, zero, suc, _+_}
+use Rattle.common_laws.proofs.Base.{_<_, decLt, arith, length, set, length-replicate, set-out}
 use Rattle.sizes.specs.Sizes as Size
 use Rattle.reading.specs.Choice.{pick}
 use Rattle.reading.proofs.Laws.{by-test, and-right}

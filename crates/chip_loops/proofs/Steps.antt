@@ -1,13 +1,7 @@
 -- One step of each loop: what is left of the lines, pins or gates is the next and what is left behind it.
 -- Assumes nothing.
-use mathlib.Core.Bool.{Bool, true, false, not, _&&_, _||_}
-use mathlib.Core.List.{List, [], _∷_, _++_, flatMap}
-use mathlib.Core.Path.{_≡_, refl, sym, ap, _∙_}
-use Prim.Native.Nat.{ℕ, zero, suc, _+_, _-_, _≤_, _<_}
-use native.Mathlib.Omega.{arith}
-use lib.Dec.{eqb, ltb, leb}
-use lib.ListN.{length, set, length-set}
-use borrow.Author.Tests.{ne-eqb, ltb-true, leb-true}
+use Rattle.common_laws.proofs.Base.{Bool, true, false, not, _&&_, _||_, List, [], _∷_, _++_, flatMap, _≡_, refl, sym, ap, _∙_, ℕ, zero, suc, _+_, _-_, _≤_, _<_, arith, eqb, ltb}
+use Rattle.common_laws.proofs.Base.{leb, length, set, length-set, ne-eqb, ltb-true, leb-true}
 use Rattle.sizes.specs.Sizes as Size
 use Rattle.reading.specs.Choice.{pick}
 use Rattle.reading.proofs.Laws.{by-test, clash, and-left, and-right, or-left, or-right}

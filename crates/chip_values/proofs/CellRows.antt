@@ -1,10 +1,6 @@
 -- What the rows of a cell tell of its truth table, in the form that the two theorems need.
 -- Assumes nothing.
-use mathlib.Core.Bool.{Bool, true, false}
-use mathlib.Core.List.{List, List·Memᴰ}
-use mathlib.Core.Path.{_≡_}
-use Prim.Native.Nat.{ℕ, _-_}
-use lib.ListN.{length, getD}
+use Rattle.common_laws.proofs.Base.{Bool, true, false, List, List·Memᴰ, _≡_, ℕ, _-_, length, getD}
 use Rattle.library_table.specs.Cells.{Row, Cell, Column, pin}
 use Rattle.calculation.specs.Nodes.{combinational}
 use Rattle.calculation.specs.Ways.{setting, groupOf, namedBy}

@@ -1,14 +1,8 @@
 -- A figure is no promise that a setting exists once a line is read twice: the second theorem does not hold without its
 -- condition.
 -- Assumes nothing.
-use mathlib.Core.Bool.{Bool, true, false, _||_}
-use mathlib.Core.List.{List, [], _∷_, map, List·Memᴰ, List·Memᴰ·head, List·Memᴰ·tail, List·Memᴰ·not-nil, flatMap}
-use mathlib.Core.Logic.{_↔_}
-use mathlib.Core.Path.{_≡_, refl, sym, subst, ap, _∙_}
-use Prim.Native.Nat.{ℕ, _<_}
-use native.Mathlib.Omega.{arith}
-use lib.Dec.{eqb}
-use borrow.Author.Tests.{eqb-true}
+use Rattle.common_laws.proofs.Base.{Bool, true, false, _||_, List, [], _∷_, map, List·Memᴰ, List·Memᴰ·head, List·Memᴰ·tail, List·Memᴰ·not-nil, flatMap, _↔_, _≡_, refl, sym, subst}
+use Rattle.common_laws.proofs.Base.{ap, _∙_, ℕ, _<_, arith, eqb, eqb-true}
 use Rattle.reading.specs.Each.{Each}
 use Rattle.reading.proofs.Laws.{by-test, clash, each-member}
 use Rattle.cost.specs.Cost.{never}

@@ -1,10 +1,7 @@
 -- What "never" says of the chip, of each accepted analysis, at whatever prices within the ranges. `NeverMeans` of
 -- specs/Never.antt is the statement.
 -- Assumes nothing.
-use mathlib.Core.Bool.{Bool, true, false}
-use mathlib.Core.List.{List, List·Memᴰ}
-use mathlib.Core.Path.{_≡_, refl, subst}
-use Prim.Native.Nat.{ℕ}
+use Rattle.common_laws.proofs.Base.{Bool, true, false, List, List·Memᴰ, _≡_, refl, subst, ℕ}
 use Rattle.cost.specs.Cost.{never}
 use Rattle.library_table.specs.Cells.{Cell}
 use Rattle.netlist_table.specs.Netlist.{Gate, Statement, gatesOf, mentioned}

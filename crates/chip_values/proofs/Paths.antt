@@ -1,12 +1,7 @@
 -- Where each line is read by at most one pin, and there are no loops, no line reaches two pins of a gate.
 -- Assumes nothing.
-use mathlib.Core.Bool.{true, false}
-use mathlib.Core.List.{List, [], _∷_, _++_, List·Memᴰ, List·Memᴰ·head, List·Memᴰ·tail, flatMap}
-use mathlib.Core.Logic.{_⊎_, inl, inr}
-use mathlib.Core.Path.{_≡_, refl, sym, subst, ap, _∙_}
-use Prim.Native.Nat.{ℕ, zero, suc, _<_}
-use native.Mathlib.Nat.{not-suc-le-zero, le-of-suc-le-suc}
-use lib.ListN.{length, getD}
+use Rattle.common_laws.proofs.Base.{true, false, List, [], _∷_, _++_, List·Memᴰ, List·Memᴰ·head, List·Memᴰ·tail, flatMap, _⊎_, inl, inr, _≡_, refl, sym, subst, ap, _∙_, ℕ, zero}
+use Rattle.common_laws.proofs.Base.{suc, _<_, not-suc-le-zero, le-of-suc-le-suc, length, getD}
 use Rattle.reading.proofs.Laws.{clash, or-left}
 use Rattle.netlist_table.specs.Netlist.{Gate, Statement, gatesOf, member}
 use Rattle.netlist_table.specs.Sound.{Apart}

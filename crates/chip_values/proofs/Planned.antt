@@ -1,14 +1,8 @@
 -- A value that a setting gives a line has a plan: where the values of a gate's pins meet a row, that row is a way, and each
 -- line that it asks for has the value asked for.
 -- Assumes nothing.
-use mathlib.Core.Bool.{Bool, true, false, not, _&&_}
-use mathlib.Core.List.{List, [], _∷_, map, List·Memᴰ, List·Memᴰ·head, List·Memᴰ·tail, List·Memᴰ·not-nil}
-use mathlib.Core.Path.{_≡_, refl, sym, subst, ap, _∙_}
-use Prim.Native.Nat.{ℕ, _-_, _≤_}
-use native.Mathlib.Omega.{arith}
-use lib.Dec.{eqb}
-use lib.ListN.{length, getD, length-map}
-use borrow.Author.Tests.{eqb-true}
+use Rattle.common_laws.proofs.Base.{Bool, true, false, not, _&&_, List, [], _∷_, map, List·Memᴰ, List·Memᴰ·head, List·Memᴰ·tail, List·Memᴰ·not-nil, _≡_, refl, sym, subst, ap, _∙_}
+use Rattle.common_laws.proofs.Base.{ℕ, _-_, _≤_, arith, eqb, length, getD, length-map, eqb-true}
 use Rattle.common_laws.proofs.Lists.{getD-map}
 use Rattle.reading.proofs.Laws.{by-test}
 use Rattle.library_table.specs.Cells.{Row, Cell, Column, pin, output, observe}

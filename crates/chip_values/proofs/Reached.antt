@@ -1,15 +1,8 @@
 -- Where each line is read by at most one pin, a value that has a plan is given by a setting: the lines that a row asks for are
 -- set one after the other, each by inputs that reach none of the others.
 -- Assumes nothing.
-use mathlib.Core.Bool.{Bool, true, false, _||_}
-use mathlib.Core.List.{List, [], _∷_, map, List·Memᴰ, List·Memᴰ·head, List·Memᴰ·tail, List·Memᴰ·not-nil}
-use mathlib.Core.Logic.{_⊎_, inl, inr}
-use mathlib.Core.Path.{_≡_, refl, sym, subst, ap, ap₂, _∙_}
-use Prim.Native.Nat.{ℕ, zero, suc, _-_, _≤_, _<_}
-use native.Mathlib.Omega.{arith}
-use lib.Dec.{eqb}
-use lib.ListN.{length, getD}
-use borrow.Author.Tests.{eqb-true, eqb-false, eq-eqb, ne-eqb}
+use Rattle.common_laws.proofs.Base.{Bool, true, false, _||_, List, [], _∷_, map, List·Memᴰ, List·Memᴰ·head, List·Memᴰ·tail, List·Memᴰ·not-nil, _⊎_, inl, inr, _≡_, refl, sym, subst}
+use Rattle.common_laws.proofs.Base.{ap, ap₂, _∙_, ℕ, zero, suc, _-_, _≤_, _<_, arith, eqb, length, getD, eqb-true, eqb-false, eq-eqb, ne-eqb}
 use Rattle.reading.specs.Choice.{pick}
 use Rattle.reading.proofs.Laws.{by-test, clash, and-left, and-right}
 use Rattle.library_table.specs.Cells.{Row, Cell, Column, pin, output, observe}

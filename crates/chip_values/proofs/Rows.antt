@@ -1,14 +1,7 @@
 -- What the rows of a generated cell tell of its truth table: the fact of crate `truth_tables`, by the columns that a row names.
 -- Assumes nothing.
-use mathlib.Core.Bool.{Bool, true, false}
-use mathlib.Core.List.{List, _∷_, map, List·Memᴰ, List·Memᴰ·head, Memᴰ·map, Memᴰ·of-map, List·Memᴰ·append-cases}
-use mathlib.Core.Logic.{⊎-elim}
-use mathlib.Core.Option.{Option, none, some}
-use mathlib.Core.Path.{_≡_, refl, sym, subst, ap, _∙_}
-use Prim.Native.Nat.{ℕ, zero, suc, _+_, _*_, _-_, _≤_, _<_}
-use native.Mathlib.Omega.{arith}
-use lib.ListN.{length, getD}
-use borrow.Author.Tests.{eqb-true}
+use Rattle.common_laws.proofs.Base.{Bool, true, false, List, _∷_, map, List·Memᴰ, List·Memᴰ·head, Memᴰ·map, Memᴰ·of-map, List·Memᴰ·append-cases, ⊎-elim, Option, none, some, _≡_}
+use Rattle.common_laws.proofs.Base.{refl, sym, subst, ap, _∙_, ℕ, zero, suc, _+_, _*_, _-_, _≤_, _<_, arith, length, getD, eqb-true}
 use Rattle.reading.proofs.Laws.{clash}
 use Rattle.library_table.specs.Cells.{Row, Cell, pin, bitOf, bit, settingColumns}
 use Rattle.library_table.specs.Library.{wordGroups}

@@ -1,14 +1,7 @@
 -- Without loops a fact that each line has from the lines that feed it holds of all lines: a trail of lines back from one, each
 -- fed by the next, has no line twice, so it is no longer than there are gates.
 -- Assumes nothing.
-use mathlib.Core.Bool.{true, false}
-use mathlib.Core.List.{List, [], _∷_, map, Memᴰ·map}
-use mathlib.Core.Path.{_≡_, refl, subst, _∙_}
-use Prim.Native.Nat.{ℕ, zero, suc, _+_, _≤_, _<_}
-use native.Mathlib.Omega.{arith}
-use lib.Dec.{eqb}
-use lib.ListN.{length, length-map}
-use borrow.Author.Tests.{eqb-true}
+use Rattle.common_laws.proofs.Base.{true, false, List, [], _∷_, map, Memᴰ·map, _≡_, refl, subst, _∙_, ℕ, zero, suc, _+_, _≤_, _<_, arith, eqb, length, length-map, eqb-true}
 use Rattle.reading.proofs.Laws.{by-test, clash}
 use Rattle.netlist_table.specs.Netlist.{Gate, Statement, gatesOf, member}
 use Rattle.netlist_table.specs.Sound.{Apart}

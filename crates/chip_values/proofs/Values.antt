@@ -1,11 +1,8 @@
 -- Without loops and open lines each setting of the inputs gives each line one value, which depends only on the inputs that lead
 -- to the line.
 -- Assumes nothing.
-use mathlib.Core.Bool.{Bool, true, false}
-use mathlib.Core.List.{List, [], _∷_, map, List·Memᴰ, List·Memᴰ·head, List·Memᴰ·tail, nil≢cons, cons≢nil, head-eq-of-cons-eq, tail-eq-of-cons-eq}
-use mathlib.Core.Logic.{_⊎_, inl, inr}
-use mathlib.Core.Path.{_≡_, refl, sym, subst, ap, ap₂, _∙_}
-use Prim.Native.Nat.{ℕ}
+use Rattle.common_laws.proofs.Base.{Bool, true, false, List, [], _∷_, map, List·Memᴰ, List·Memᴰ·head, List·Memᴰ·tail, nil≢cons, cons≢nil, head-eq-of-cons-eq, tail-eq-of-cons-eq}
+use Rattle.common_laws.proofs.Base.{_⊎_, inl, inr, _≡_, refl, sym, subst, ap, ap₂, _∙_, ℕ}
 use Rattle.reading.proofs.Laws.{by-test, clash}
 use Rattle.library_table.specs.Cells.{Cell}
 use Rattle.netlist_table.specs.Netlist.{Gate, Statement, gatesOf, isInput, mentioned}

@@ -1,13 +1,6 @@
 -- The laws of costs that other crates cite. Each holds for every number, also for one above never, unless it says otherwise.
 -- Assumes nothing.
-use mathlib.Core.Bool.{or-true, _||_}
-use mathlib.Core.Logic.{_⊎_, inl, inr}
-use mathlib.Core.Path.{_≡_, sym, _∙_}
-use Prim.Native.Nat.{ℕ, _+_, _≤_, _<_, min, max}
-use native.Mathlib.Decide.{decLe}
-use native.Mathlib.Omega.{arith}
-use lib.Dec.{leb}
-use borrow.Author.Tests.{le-leb, lt-leb, lt-ltb, le-ltb, eq-eqb, ne-eqb}
+use Rattle.common_laws.proofs.Base.{or-true, _||_, _⊎_, inl, inr, _≡_, sym, _∙_, ℕ, _+_, _≤_, _<_, min, max, decLe, arith, leb, le-leb, lt-leb, lt-ltb, le-ltb, eq-eqb, ne-eqb}
 use Rattle.reading.specs.Choice.{pick}
 use Rattle.cost.specs.Order.{order, compared}
 use Rattle.cost.specs.declared.Order.{Order}

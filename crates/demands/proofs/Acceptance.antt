@@ -1,10 +1,6 @@
 -- What an accepted outcome says of what was given.
 -- Assumes nothing.
-use mathlib.Core.List.{List, []}
-use mathlib.Core.Path.{_≡_, refl, subst}
-use Prim.Native.Nat.{ℕ, _≤_}
-use borrow.Author.Tests.{ltb-false}
-use lib.ListN.{length}
+use Rattle.common_laws.proofs.Base.{List, [], _≡_, refl, subst, ℕ, _≤_, ltb-false, length}
 use Rattle.reading.specs.Numbers as No
 use Rattle.reading.specs.Refusal.{read, _>>=_, weigh}
 use Rattle.reading.proofs.Laws.{bind-read, then-read, weigh-one}

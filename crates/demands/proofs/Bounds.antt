@@ -1,11 +1,6 @@
 -- What a refusal can be: none has the number 0, and its line is at most one above the bytes of a text.
 -- Assumes nothing.
-use mathlib.Core.List.{List}
-use mathlib.Core.Path.{_≡_, refl, subst, _∙_}
-use Prim.Native.Nat.{ℕ, _+_, _≤_}
-use native.Mathlib.Omega.{arith}
-use borrow.Author.Tests.{leb-true}
-use lib.ListN.{length}
+use Rattle.common_laws.proofs.Base.{List, _≡_, refl, subst, _∙_, ℕ, _+_, _≤_, arith, leb-true, length}
 use Rattle.sizes.specs.Sizes as Size
 use Rattle.reading.specs.Refusal.{Read, refused, read, _>>_, weigh}
 use Rattle.reading.proofs.Bounds.{Within, anyNumber, within-bind, within-then, within-weigh, within-any}

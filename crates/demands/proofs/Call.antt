@@ -1,13 +1,6 @@
 -- What a call keeps, from where it is refused or accepted.
 -- Assumes nothing.
-use mathlib.Core.Bool.{true, false, true≢false}
-use mathlib.Core.List.{List, [], _∷_}
-use mathlib.Core.Path.{_≡_, refl, sym, ap, subst, _∙_}
-use Prim.Native.Nat.{ℕ, _≤_, _<_}
-use native.Mathlib.Omega.{arith}
-use borrow.Author.Tests.{lt-ltb, le-ltb, ltb-false}
-use lib.Dec.{ltb}
-use lib.ListN.{length, replicate}
+use Rattle.common_laws.proofs.Base.{true, false, true≢false, List, [], _∷_, _≡_, refl, sym, ap, subst, _∙_, ℕ, _≤_, _<_, arith, lt-ltb, le-ltb, ltb-false, ltb, length, replicate}
 use Rattle.sizes.specs.Sizes as Size
 use Rattle.reading.specs.Choice.{pick}
 use Rattle.reading.specs.Numbers as No

@@ -1,13 +1,6 @@
 -- The entry: what its two checks say of the lengths.
 -- Assumes nothing.
-use mathlib.Core.Bool.{Bool, false, _||_}
-use mathlib.Core.List.{List, [], _∷_}
-use mathlib.Core.Path.{_≡_, refl}
-use Prim.Native.Nat.{ℕ, _≤_}
-use borrow.Author.Tests.{ltb-false, le-ltb}
-use lib.Dec.{ltb}
-use native.Mathlib.Omega.{arith}
-use lib.ListN.{length, replicate, length-replicate}
+use Rattle.common_laws.proofs.Base.{Bool, false, _||_, List, [], _∷_, _≡_, refl, ℕ, _≤_, ltb-false, le-ltb, ltb, arith, length, replicate, length-replicate}
 use Rattle.sizes.specs.Sizes as Size
 use Rattle.reading.specs.Numbers as No
 use Rattle.reading.specs.Choice.{pick}

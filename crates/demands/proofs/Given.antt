@@ -1,12 +1,7 @@
 -- What the statements given to a call satisfy, whatever they come from: what is read is sound, and no refusal has a number of
 -- the entry or the report. A netlist text is such.
 -- Assumes nothing.
-use mathlib.Core.Bool.{true}
-use mathlib.Core.List.{List}
-use mathlib.Core.Path.{_≡_, subst}
-use Prim.Native.Nat.{ℕ, _+_}
-use native.Mathlib.Omega.{arith}
-use lib.ListN.{length}
+use Rattle.common_laws.proofs.Base.{true, List, _≡_, subst, ℕ, _+_, arith, length}
 use Rattle.reading.specs.Refusal.{refused, read}
 use Rattle.reading.proofs.Bounds.{Within, textNumber}
 use Rattle.library_table.specs.Cells.{Cell}

@@ -1,9 +1,6 @@
 -- What an accepted call leaves in its tables: an accepted analysis of the cells and statements that were read.
 -- Assumes nothing.
-use mathlib.Core.List.{List, _++_}
-use mathlib.Core.Path.{_≡_, refl, sym, ap, _∙_}
-use Prim.Native.Nat.{ℕ}
-use lib.ListN.{length, drop}
+use Rattle.common_laws.proofs.Base.{List, _++_, _≡_, refl, sym, ap, _∙_, ℕ, length, drop}
 use Rattle.sizes.specs.Sizes as Size
 use Rattle.reading.specs.Refusal.{Read, refused, read}
 use Rattle.reading.proofs.Laws.{refused-read, then-read}

@@ -1,10 +1,6 @@
 -- Demands 2 and 3 of a numbers table that holds the numbers of an accepted analysis.
 -- Assumes nothing.
-use mathlib.Core.List.{List, _++_}
-use mathlib.Core.Path.{_≡_, sym, ap, subst, _∙_}
-use Prim.Native.Nat.{ℕ, _<_}
-use lib.ListN.{getD, take, List·getD-append}
-use lib.Seq.{take-at}
+use Rattle.common_laws.proofs.Base.{List, _++_, _≡_, sym, ap, subst, _∙_, ℕ, _<_, getD, take, List·getD-append, take-at}
 use Rattle.sizes.specs.Sizes as Size
 use Rattle.library_table.specs.Cells.{Cell}
 use Rattle.netlist_table.specs.Netlist.{Statement}

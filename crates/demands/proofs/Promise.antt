@@ -1,12 +1,7 @@
 -- A call that answers and leaves what the outcome says keeps its promise: the three demands follow.
 -- Assumes nothing.
-use mathlib.Core.Bool.{Bool, true, false}
-use mathlib.Core.List.{List, _++_}
-use mathlib.Core.Path.{_≡_, refl, sym, ap, subst, _∙_}
-use Prim.Native.Nat.{ℕ, zero, suc, _+_, _≤_, _<_}
-use native.Mathlib.Omega.{arith}
-use lib.ListN.{length, getD, take, drop, replicate, length-replicate, getD-replicate}
-use lib.Seq.{take-at, drop-at}
+use Rattle.common_laws.proofs.Base.{Bool, true, false, List, _++_, _≡_, refl, sym, ap, subst, _∙_, ℕ, zero, suc, _+_, _≤_, _<_, arith, length, getD, take, drop, replicate}
+use Rattle.common_laws.proofs.Base.{length-replicate, getD-replicate, take-at, drop-at}
 use Rattle.sizes.specs.Places.{linePlace}
 use Rattle.sizes.specs.Sizes as Size
 use Rattle.reading.specs.Numbers as No

@@ -1,15 +1,8 @@
 -- Which calls are accepted, and by which numbers the others are refused: what is read is accepted where the buffer has room
 -- for its report, and 17 needs a shorter one. No report is longer than the longest.
 -- Assumes nothing.
-use mathlib.Core.Bool.{Bool, true, false, true≢false}
-use mathlib.Core.List.{List}
-use mathlib.Core.Logic.{_⊎_, inl, inr, ⊎-elim}
-use mathlib.Core.Path.{_≡_, refl, sym, ap, subst}
-use Prim.Native.Nat.{ℕ, _+_, _≤_, _<_}
-use native.Mathlib.Omega.{arith}
-use borrow.Author.Tests.{le-ltb, ltb-true}
-use lib.Dec.{ltb}
-use lib.ListN.{length, length-append}
+use Rattle.common_laws.proofs.Base.{Bool, true, false, true≢false, List, _⊎_, inl, inr, ⊎-elim, _≡_, refl, sym, ap, subst, ℕ, _+_, _≤_, _<_, arith, le-ltb, ltb-true, ltb, length}
+use Rattle.common_laws.proofs.Base.{length-append}
 use Rattle.reading.specs.Choice.{pick}
 use Rattle.reading.specs.Numbers as No
 use Rattle.reading.specs.Refusal.{Read, refused, read, _>>=_, _>>_, weigh}

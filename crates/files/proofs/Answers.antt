@@ -1,14 +1,7 @@
 -- What a read's answer means, from the tests that the code makes of it.
 -- Assumes nothing.
-use mathlib.Core.Bool.{Bool, true, false, true≢false, _||_}
-use mathlib.Core.List.{List}
-use mathlib.Core.Path.{_≡_, refl}
-use Prim.Native.Nat.{ℕ, _+_, _-_, _≤_, _<_, min}
-use native.Mathlib.Omega.{arith}
-use borrow.Author.Tests.{ltb-true, eqb-false}
-use lib.Dec.{eqb}
+use Rattle.common_laws.proofs.Base.{Bool, true, false, true≢false, _||_, List, _≡_, refl, ℕ, _+_, _-_, _≤_, _<_, min, arith, ltb-true, eqb-false, eqb, length}
 use lib.IntN.{ℤ, pos, negsuc}
-use lib.ListN.{length}
 use lib.Signed.{ltZ}
 use Rattle.io.specs.Counts.{clamped}
 use Rattle.reading.specs.Choice.{pick}

@@ -1,15 +1,6 @@
 -- What is printed of files that were loaded, from what was loaded and what a call puts into a buffer.
 -- Assumes nothing.
-use mathlib.Core.Bool.{Bool, true, false, _||_}
-use mathlib.Core.List.{List, [], _∷_}
-use mathlib.Core.Logic.{_⊎_, inl, inr}
-use mathlib.Core.Path.{_≡_, refl}
-use Prim.Native.Nat.{ℕ, _≤_, _<_}
-use native.Mathlib.Omega.{arith}
-use lib.Dec.{ltb}
-use lib.ListN.{length, take}
-use lib.Seq.{length-take-le}
-use borrow.Author.Tests.{lt-ltb}
+use Rattle.common_laws.proofs.Base.{Bool, true, false, _||_, List, [], _∷_, _⊎_, inl, inr, _≡_, refl, ℕ, _≤_, _<_, arith, ltb, length, take, length-take-le, lt-ltb}
 use Rattle.sizes.specs.Sizes as Size
 use Rattle.reading.specs.Choice.{pick}
 use Rattle.reading.specs.Numbers as No

@@ -1,14 +1,7 @@
 -- What two library tables tell, where they hold accepted cells: whether a cell has grown.
 -- Assumes nothing.
-use mathlib.Core.Bool.{Bool, true, false, not, _&&_, _||_, and-assoc}
-use mathlib.Core.List.{List, [], _∷_, _++_, append-assoc}
-use mathlib.Core.Path.{_≡_, refl, sym, ap, ap₂, _∙_}
-use Prim.Native.Nat.{ℕ, zero, suc, _+_, _*_, _≤_, _<_}
-use native.Mathlib.Nat.{zero-add}
-use native.Mathlib.Omega.{arith}
-use borrow.Author.Tests.{eqb-true, eqb-false}
-use lib.Dec.{eqb}
-use lib.ListN.{length, getD, length-append, List·getD-append}
+use Rattle.common_laws.proofs.Base.{Bool, true, false, not, _&&_, _||_, and-assoc, List, [], _∷_, _++_, append-assoc, _≡_, refl, sym, ap, ap₂, _∙_, ℕ, zero, suc, _+_, _*_, _≤_}
+use Rattle.common_laws.proofs.Base.{_<_, zero-add, arith, eqb-true, eqb-false, eqb, length, getD, length-append, List·getD-append}
 use Rattle.sizes.specs.Places.{cellPlace, pinsPlace, groupPlace}
 use Rattle.sizes.specs.Sizes as Size
 use Rattle.reading.proofs.Laws.{by-test, each-at, and-left, and-right}

@@ -1,13 +1,7 @@
 -- Lists that stand in two tables, compared place by place; and rows looked for one behind the other.
 -- Assumes nothing.
-use mathlib.Core.Bool.{Bool, true, false, _&&_, and-assoc, and-false}
-use mathlib.Core.List.{List, [], _∷_, _++_}
-use mathlib.Core.Path.{_≡_, refl, sym, ap, _∙_}
-use Prim.Native.Nat.{ℕ, zero, suc, _+_, _-_, _≤_, _<_}
-use native.Mathlib.Nat.{add-zero, add-suc, suc-add}
-use native.Mathlib.Numerals.{add-one}
-use native.Mathlib.Omega.{arith}
-use lib.ListN.{length, getD}
+use Rattle.common_laws.proofs.Base.{Bool, true, false, _&&_, and-assoc, and-false, List, [], _∷_, _++_, _≡_, refl, sym, ap, _∙_, ℕ, zero, suc, _+_, _-_, _≤_, _<_, add-zero}
+use Rattle.common_laws.proofs.Base.{add-suc, suc-add, add-one, arith, length, getD}
 use Rattle.reading.specs.Choice.{pick}
 use Rattle.table.specs.Blocks.{fitted}
 use Rattle.library_table.specs.Cells.{Row}

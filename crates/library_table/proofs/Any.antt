@@ -1,8 +1,6 @@
 -- Whether some element of a list passes a test.
 -- Assumes nothing.
-use mathlib.Core.Bool.{Bool, true, _||_, or-true, or-assoc}
-use mathlib.Core.List.{List, [], _∷_, _++_, List·Memᴰ, List·Memᴰ·head, List·Memᴰ·tail}
-use mathlib.Core.Path.{_≡_, refl, sym, ap, _∙_}
+use Rattle.common_laws.proofs.Base.{Bool, true, _||_, or-true, or-assoc, List, [], _∷_, _++_, List·Memᴰ, List·Memᴰ·head, List·Memᴰ·tail, _≡_, refl, sym, ap, _∙_}
 use Rattle.library_table.specs.Library.{anyOf}
 
 module _ {A : Type 0} (p : A → Bool) where

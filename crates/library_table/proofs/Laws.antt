@@ -1,15 +1,7 @@
 -- The facts of every library that was read. What stands at a place of its table is in `Places.antt`.
 -- Assumes nothing.
-use mathlib.Core.Bool.{Bool, true, false, not, _&&_, _||_}
-use mathlib.Core.List.{List, [], _∷_, _++_}
-use mathlib.Core.Option.{Option, none, some, Option·none-ne-some}
-use mathlib.Core.Path.{_≡_, refl, sym, ap, _∙_}
-use Prim.Native.Nat.{ℕ, suc, _+_, _*_, _^_, _≤_, _<_}
-use native.Mathlib.Nat.{mod-lt}
-use native.Mathlib.Omega.{arith}
-use lib.Dec.{leb, eqb}
-use lib.ListN.{length, length-append}
-use borrow.Author.Tests.{ltb-false, leb-false, eqb-true, not-false}
+use Rattle.common_laws.proofs.Base.{Bool, true, false, not, _&&_, _||_, List, [], _∷_, _++_, Option, none, some, Option·none-ne-some, _≡_, refl, sym, ap, _∙_, ℕ, suc, _+_, _*_}
+use Rattle.common_laws.proofs.Base.{_^_, _≤_, _<_, mod-lt, arith, leb, eqb, length, length-append, ltb-false, leb-false, eqb-true, not-false}
 use Rattle.sizes.specs.Sizes as Size
 use Rattle.reading.specs.Choice.{pick}
 use Rattle.reading.specs.Each.{Each}

@@ -1,17 +1,9 @@
 -- What a library table tells of its cells, where it holds them, their count, their pins and headings, and their places by name;
 -- and of which cells any table tells.
 -- Assumes nothing.
-use mathlib.Core.Bool.{true, false, _&&_}
-use mathlib.Core.List.{List, [], _∷_}
-use mathlib.Core.Path.{_≡_, refl, sym, ap, _∙_}
-use Prim.Native.Nat.{ℕ, zero, suc, _+_, _-_, _≤_, _<_}
-use native.Mathlib.Nat.{add-suc, suc-add, add-zero, zero-add, add-assoc}
-use native.Mathlib.Numerals.{add-one, one-add}
-use native.Mathlib.Omega.{arith}
-use lib.Dec.{leb, eqb}
-use lib.ListN.{length, getD, drop, drop-of-length-le, List·getD-append}
-use lib.Seq.{drop-cons}
-use borrow.Author.Tests.{le-leb, lt-leb, leb-true, eq-eqb, ne-eqb, eqb-true, eqb-false}
+use Rattle.common_laws.proofs.Base.{true, false, _&&_, List, [], _∷_, _≡_, refl, sym, ap, _∙_, ℕ, zero, suc, _+_, _-_, _≤_, _<_, add-suc, suc-add, add-zero, zero-add, add-assoc}
+use Rattle.common_laws.proofs.Base.{add-one, one-add, arith, leb, eqb, length, getD, drop, drop-of-length-le, List·getD-append, drop-cons, le-leb, lt-leb, leb-true, eq-eqb, ne-eqb}
+use Rattle.common_laws.proofs.Base.{eqb-true, eqb-false}
 use Rattle.sizes.specs.Sizes as Size
 use Rattle.sizes.specs.Places.{cellPlace, pinsPlace}
 use Rattle.table.specs.Blocks.{fitted, blocks}

@@ -1,14 +1,9 @@
 -- What stands at a place of the library table.
 -- Assumes nothing.
-use mathlib.Core.List.{List, [], _∷_, _++_, append-assoc, append-nil}
-use mathlib.Core.Path.{_≡_, refl, sym, ap, _∙_}
-use Prim.Native.Nat.{ℕ, suc, _+_, _*_, _/_, _%_, _^_, _≤_, _<_}
-use native.Mathlib.Nat.{add-assoc}
-use native.Mathlib.Numerals.{one-add}
-use native.Mathlib.Omega.{arith}
-use lib.ListN.{length, getD, length-append, List·getD-append}
+use Rattle.common_laws.proofs.Base.{List, [], _∷_, _++_, append-assoc, append-nil, _≡_, refl, sym, ap, _∙_, ℕ, suc, _+_, _*_, _/_, _%_, _^_, _≤_, _<_, add-assoc, one-add, arith}
+use Rattle.common_laws.proofs.Base.{length, getD, length-append, List·getD-append, getD-append-add}
 use lib.Pow.{split}
-use lib.Seq.{getD-append-add, getD-at}
+use lib.Seq.{getD-at}
 use Rattle.sizes.specs.Places.{cellPlace, groupPlace}
 use Rattle.sizes.specs.Sizes as Size
 use Rattle.table.specs.Blocks.{fitted, blocks}

@@ -1,13 +1,7 @@
 -- What each line of an entry leaves: the reading behind it and the table that holds it, or its refusal number.
 -- Assumes nothing.
-use mathlib.Core.Bool.{true, false}
-use mathlib.Core.List.{List, [], _∷_, _++_}
-use mathlib.Core.Option.{none, some}
-use mathlib.Core.Path.{_≡_, refl, sym, ap, _∙_}
-use Prim.Native.Nat.{ℕ, zero, suc, _+_, _≤_, _<_}
-use native.Mathlib.Omega.{arith}
-use lib.ListN.{length, getD, set, drop, length-append}
-use borrow.Author.Tests.{eq-eqb, ne-eqb, le-ltb}
+use Rattle.common_laws.proofs.Base.{true, false, List, [], _∷_, _++_, none, some, _≡_, refl, sym, ap, _∙_, ℕ, zero, suc, _+_, _≤_, _<_, arith, length, getD, set, drop}
+use Rattle.common_laws.proofs.Base.{length-append, eq-eqb, ne-eqb, le-ltb}
 use Rattle.sizes.specs.Sizes as Size
 use Rattle.reading.specs.Choice.{pick}
 use Rattle.reading.specs.Each.{Each}

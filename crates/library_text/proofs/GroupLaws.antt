@@ -1,7 +1,6 @@
 -- A heading by its number.
 -- Assumes nothing.
-use mathlib.Core.Path.{_≡_, refl}
-use Prim.Native.Nat.{ℕ, zero, suc}
+use Rattle.common_laws.proofs.Base.{_≡_, refl, ℕ, zero, suc}
 use Rattle.library_table.specs.Cells.{deep}
 use Rattle.library_text.specs.Groups.{numberHeading}
 

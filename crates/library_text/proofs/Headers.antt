@@ -1,15 +1,8 @@
 -- The lines of an entry by their refusal numbers, and the Name line and the End line by their fields, tied to the definitions
 -- of the library text.
 -- Assumes nothing.
-use mathlib.Core.Bool.{Bool, true, false, not, _&&_, _||_}
-use mathlib.Core.List.{List, [], _∷_}
-use mathlib.Core.Option.{Option, none, some, Option·none-ne-some}
-use mathlib.Core.Path.{_≡_, refl, _∙_}
-use Prim.Native.Nat.{ℕ, zero, suc, _<_}
-use native.Mathlib.Omega.{arith}
-use lib.Dec.{leb, ltb, eqb}
-use lib.ListN.{length, getD, drop}
-use borrow.Author.Tests.{ne-eqb, ltb-true}
+use Rattle.common_laws.proofs.Base.{Bool, true, false, not, _&&_, _||_, List, [], _∷_, Option, none, some, Option·none-ne-some, _≡_, refl, _∙_, ℕ, zero, suc, _<_, arith, leb, ltb}
+use Rattle.common_laws.proofs.Base.{eqb, length, getD, drop, ne-eqb, ltb-true}
 use Rattle.sizes.specs.Sizes as Size
 use Rattle.reading.specs.Numbers as No
 use Rattle.text.specs.Bytes.{bytes}

@@ -1,8 +1,6 @@
 -- The entry of the reader, by the lengths of the text and the table.
 -- Assumes nothing.
-use mathlib.Core.Path.{_≡_}
-use Prim.Native.Nat.{ℕ, _≤_, _<_}
-use borrow.Author.Tests.{lt-ltb, le-ltb}
+use Rattle.common_laws.proofs.Base.{_≡_, ℕ, _≤_, _<_, lt-ltb, le-ltb}
 use Rattle.sizes.specs.Sizes as Size
 use Rattle.reading.specs.Choice.{pick}
 use Rattle.reading.specs.Numbers as No

@@ -1,13 +1,7 @@
 -- What the other stores of the reader make of the table: a header behind the cells, the count.
 -- Assumes nothing.
-use mathlib.Core.List.{List, [], _∷_, _++_, append-assoc}
-use mathlib.Core.Path.{_≡_, refl, sym, ap, _∙_}
-use Prim.Native.Nat.{ℕ, zero, suc, _+_, _*_, _≤_, _<_}
-use native.Mathlib.Nat.{add-zero, not-suc-le-zero, le-of-suc-le-suc}
-use native.Mathlib.Numerals.{add-one}
-use native.Mathlib.Omega.{arith}
-use lib.ListN.{length, getD, set, drop, replicate, length-append, drop-of-length-le}
-use lib.Seq.{set-append-seam, set-at, sets, drop-cons}
+use Rattle.common_laws.proofs.Base.{List, [], _∷_, _++_, append-assoc, _≡_, refl, sym, ap, _∙_, ℕ, zero, suc, _+_, _*_, _≤_, _<_, add-zero, not-suc-le-zero, le-of-suc-le-suc}
+use Rattle.common_laws.proofs.Base.{add-one, arith, length, getD, set, drop, replicate, length-append, drop-of-length-le, set-append-seam, set-at, sets, drop-cons}
 use Rattle.sizes.specs.Sizes as Size
 use Rattle.table.specs.Blocks.{fitted, blocks}
 use Rattle.table.proofs.Places.{length-fitted}

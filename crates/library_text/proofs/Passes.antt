@@ -1,17 +1,9 @@
 -- The walk over a row line, tied to the definitions of the library text.
 -- Assumes nothing.
-use mathlib.Core.Bool.{Bool, true, false, not, _&&_, _||_, or-false, or-true, or-assoc}
-use mathlib.Core.List.{List, [], _∷_, _++_, append-assoc}
-use mathlib.Core.Option.{Option, none, some}
-use mathlib.Core.Path.{_≡_, refl, sym, ap, _∙_}
-use Prim.Native.Nat.{ℕ, zero, suc, _+_, _*_, _/_, _%_, _^_, _≤_, _<_, max, min}
-use native.Mathlib.Nat.{pow-suc, pow-le-pow-right, div-lt-iff-lt-mul}
-use native.Mathlib.Numerals.{add-one}
-use native.Mathlib.Omega.{arith}
-use lib.Dec.{leb, ltb, eqb}
-use lib.ListN.{length, getD, drop, length-append}
-use lib.Pow.{pow-pos}
-use borrow.Author.Tests.{ne-eqb, lt-ltb, le-ltb, le-leb, lt-leb, ltb-true, ltb-false, leb-true, leb-false, eqb-true}
+use Rattle.common_laws.proofs.Base.{Bool, true, false, not, _&&_, _||_, or-false, or-true, or-assoc, List, [], _∷_, _++_, append-assoc, Option, none, some, _≡_, refl, sym, ap, _∙_}
+use Rattle.common_laws.proofs.Base.{ℕ, zero, suc, _+_, _*_, _/_, _%_, _^_, _≤_, _<_, max, min, pow-suc, pow-le-pow-right, add-one, arith, leb, ltb, eqb, length, getD, drop}
+use Rattle.common_laws.proofs.Base.{length-append, pow-pos, ne-eqb, lt-ltb, le-ltb, le-leb, lt-leb, ltb-true, ltb-false, leb-true, leb-false, eqb-true}
+use native.Mathlib.Nat.{div-lt-iff-lt-mul}
 use Rattle.sizes.specs.Sizes as Size
 use Rattle.reading.specs.Numbers as No
 use Rattle.reading.specs.Choice.{pick}

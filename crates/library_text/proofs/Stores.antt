@@ -1,14 +1,7 @@
 -- What the stores of a row line make of the table: a row behind those of its group, the groups of the line.
 -- Assumes nothing.
-use mathlib.Core.Bool.{Bool, true, false}
-use mathlib.Core.List.{List, [], _∷_, _++_, append-assoc, append-nil}
-use mathlib.Core.Path.{_≡_, refl, sym, ap, _∙_}
-use Prim.Native.Nat.{ℕ, zero, suc, _+_, _*_, _-_, _≤_, _<_}
-use native.Mathlib.Numerals.{one-add}
-use native.Mathlib.Omega.{arith}
-use lib.ListN.{length, set, replicate, length-append}
-use lib.Seq.{set-append-seam, set-at}
-use borrow.Author.Tests.{ltb-false}
+use Rattle.common_laws.proofs.Base.{Bool, true, false, List, [], _∷_, _++_, append-assoc, append-nil, _≡_, refl, sym, ap, _∙_, ℕ, zero, suc, _+_, _*_, _-_, _≤_, _<_, one-add}
+use Rattle.common_laws.proofs.Base.{arith, length, set, replicate, length-append, set-append-seam, set-at, ltb-false}
 use Rattle.sizes.specs.Sizes as Size
 use Rattle.sizes.specs.Places.{cellPlace, groupPlace}
 use Rattle.table.specs.Blocks.{fitted, blocks}

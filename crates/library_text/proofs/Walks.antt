@@ -1,13 +1,7 @@
 -- The walk over the lines of a library text: what each line and the text's end make of the reading so far.
 -- Assumes nothing.
-use mathlib.Core.List.{List, [], _∷_, _++_}
-use mathlib.Core.Path.{_≡_, refl, sym, ap, subst, _∙_}
-use Prim.Native.Nat.{ℕ, zero, suc, _+_, _*_, _≤_, _<_, min}
-use native.Mathlib.Nat.{le-of-eq}
-use native.Mathlib.Numerals.{add-one}
-use native.Mathlib.Omega.{arith}
-use lib.ListN.{length, drop, replicate, length-replicate}
-use lib.Seq.{drop-at}
+use Rattle.common_laws.proofs.Base.{List, [], _∷_, _++_, _≡_, refl, sym, ap, subst, _∙_, ℕ, zero, suc, _+_, _*_, _≤_, _<_, min, le-of-eq, add-one, arith, length, drop, replicate}
+use Rattle.common_laws.proofs.Base.{length-replicate, drop-at}
 use Rattle.sizes.specs.Sizes as Size
 use Rattle.table.specs.Blocks.{fitted, blocks, cleared}
 use Rattle.table.proofs.Places.{cleared-all}

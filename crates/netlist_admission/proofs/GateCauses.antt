@@ -1,12 +1,6 @@
 -- The causes of a gate, by the tests of the code.
 -- Assumes nothing.
-use mathlib.Core.Bool.{Bool, not, _||_}
-use mathlib.Core.List.{List, [], _∷_}
-use mathlib.Core.Path.{_≡_, sym, _∙_}
-use Prim.Native.Nat.{ℕ, _<_}
-use lib.Dec.{leb, eqb}
-use lib.ListN.{length}
-use borrow.Author.Tests.{eq-eqb, ne-eqb, eqb-true, eqb-false, leb-false}
+use Rattle.common_laws.proofs.Base.{Bool, not, _||_, List, [], _∷_, _≡_, sym, _∙_, ℕ, _<_, leb, eqb, length, eq-eqb, ne-eqb, eqb-true, eqb-false, leb-false}
 use Rattle.reading.specs.Choice.{pick}
 use Rattle.reading.specs.Numbers as No
 use Rattle.reading.proofs.Laws.{by-test}

@@ -1,17 +1,8 @@
 -- What checking and admitting one statement answers and leaves, for each way through the code.
 -- Assumes nothing.
-use mathlib.Core.Bool.{Bool, true, false, not, _||_}
-use mathlib.Core.List.{List, [], _∷_, _++_}
-use mathlib.Core.Option.{Option, some}
-use mathlib.Core.Path.{_≡_, refl, sym, ap, _∙_}
-use Prim.Native.Nat.{ℕ, zero, suc, _+_, _%_, _≤_, _<_, min}
-use native.Mathlib.Nat.{not-suc-le-zero, le-of-suc-le-suc}
-use native.Mathlib.Omega.{arith}
-use lib.Dec.{eqb}
-use lib.ListN.{length, getD, set, take}
-use lib.Seq.{take-all}
-use borrow.Author.Needs.{needs}
-use borrow.Author.Tests.{eq-eqb, ne-eqb, eqb-true, leb-false, not-true, not-false}
+use Rattle.common_laws.proofs.Base.{Bool, true, false, not, _||_, List, [], _∷_, _++_, Option, some, _≡_, refl, sym, ap, _∙_, ℕ, zero, suc, _+_, _%_, _≤_, _<_, min}
+use Rattle.common_laws.proofs.Base.{not-suc-le-zero, le-of-suc-le-suc, arith, eqb, length, getD, set, take, take-all, needs, eq-eqb, ne-eqb, eqb-true, leb-false, not-true}
+use Rattle.common_laws.proofs.Base.{not-false}
 use Rattle.sizes.specs.Places.{driverPlace, mentionPlace, rangePlace}
 use Rattle.sizes.specs.Sizes as Size
 use Rattle.table.specs.Blocks.{fitted}

@@ -1,13 +1,6 @@
 -- Which statement the numbers stand for, by its form and its kind.
 -- Assumes nothing.
-use mathlib.Core.Bool.{true, false}
-use mathlib.Core.List.{List}
-use mathlib.Core.Logic.{⊎-elim}
-use mathlib.Core.Option.{Option, none, some}
-use mathlib.Core.Path.{_≡_, refl, sym, ap, _∙_}
-use Prim.Native.Nat.{ℕ, zero, suc, _≤_}
-use native.Mathlib.Omega.{arith}
-use lib.ListN.{getD}
+use Rattle.common_laws.proofs.Base.{true, false, List, ⊎-elim, Option, none, some, _≡_, refl, sym, ap, _∙_, ℕ, zero, suc, _≤_, arith, getD}
 use Rattle.table.specs.Blocks.{fitted}
 use Rattle.reading.specs.Numbers as No
 use Rattle.reading.proofs.Laws.{clash}

@@ -1,14 +1,7 @@
 -- The new rules accept the copy, and give it the numbers that the old rules gave.
 -- Assumes nothing.
-use mathlib.Core.Bool.{Bool, true, false, not, _&&_, _||_, or-false, or-true}
-use mathlib.Core.List.{List, [], _∷_, _++_, append-nil, append-assoc, flatMap}
-use mathlib.Core.Option.{Option, none, some}
-use mathlib.Core.Path.{_≡_, refl, sym, ap, _∙_}
-use Prim.Native.Nat.{ℕ, zero, suc, _+_, _-_, _≤_, _<_}
-use native.Mathlib.Omega.{arith}
-use lib.Dec.{eqb, leb, ltb}
-use lib.ListN.{length}
-use borrow.Author.Tests.{eq-eqb, ne-eqb, eqb-true, eqb-false, le-leb, leb-true, not-true}
+use Rattle.common_laws.proofs.Base.{Bool, true, false, not, _&&_, _||_, or-false, or-true, List, [], _∷_, _++_, append-nil, append-assoc, flatMap, Option, none, some, _≡_, refl}
+use Rattle.common_laws.proofs.Base.{sym, ap, _∙_, ℕ, zero, suc, _+_, _-_, _≤_, _<_, arith, eqb, leb, ltb, length, eq-eqb, ne-eqb, eqb-true, eqb-false, le-leb, leb-true, not-true}
 use Rattle.common_laws.proofs.Lists.{flatMap-append}
 use Rattle.sizes.specs.Sizes as Size
 use Rattle.reading.specs.Choice.{pick}

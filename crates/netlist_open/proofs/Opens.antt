@@ -1,12 +1,7 @@
 -- The copy as it is put into a buffer, and what the reading by the old rules comes to.
 -- Assumes nothing.
-use mathlib.Core.Bool.{Bool, true, false, _||_}
-use mathlib.Core.List.{List, [], _∷_, _++_, append-nil, append-assoc}
-use mathlib.Core.Path.{_≡_, refl, sym, ap, fun-ext, _∙_}
-use Prim.Native.Nat.{ℕ, zero, suc, _+_, _*_, _-_, _≤_, _<_}
-use native.Mathlib.Omega.{arith}
-use borrow.Author.Tests.{le-ltb}
-use lib.ListN.{length, drop, length-append, replicate, length-replicate}
+use Rattle.common_laws.proofs.Base.{Bool, true, false, _||_, List, [], _∷_, _++_, append-nil, append-assoc, _≡_, refl, sym, ap, fun-ext, _∙_, ℕ, zero, suc, _+_, _*_, _-_, _≤_, _<_}
+use Rattle.common_laws.proofs.Base.{arith, le-ltb, length, drop, length-append, replicate, length-replicate}
 use Rattle.sizes.specs.Sizes as Size
 use Rattle.reading.specs.Choice.{pick}
 use Rattle.reading.specs.Numbers as No

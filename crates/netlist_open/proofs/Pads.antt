@@ -1,10 +1,6 @@
 -- An analysis accepts a netlist text with its pads added as output lines.
 -- Assumes nothing.
-use mathlib.Core.List.{List, [], _∷_, _++_, map}
-use mathlib.Core.Option.{Option, none, some}
-use mathlib.Core.Path.{_≡_, refl, _∙_}
-use Prim.Native.Nat.{ℕ, _+_, _≤_}
-use lib.ListN.{length}
+use Rattle.common_laws.proofs.Base.{List, [], _∷_, _++_, map, Option, none, some, _≡_, refl, _∙_, ℕ, _+_, _≤_, length}
 use Rattle.sizes.specs.Sizes as Size
 use Rattle.reading.specs.Choice.{pick}
 use Rattle.reading.specs.Each.{Each}

@@ -1,13 +1,6 @@
 -- A text in front of another: where every line of the first is ended, the lines of both are those of the one and of the other.
 -- Assumes nothing.
-use mathlib.Core.Bool.{Bool, true, false}
-use mathlib.Core.List.{List, [], _∷_, _++_}
-use mathlib.Core.Option.{Option, none, some}
-use mathlib.Core.Path.{_≡_, refl, sym, ap, _∙_}
-use Prim.Native.Nat.{ℕ}
-use native.Mathlib.Omega.{arith}
-use lib.Dec.{eqb}
-use borrow.Author.Tests.{eq-eqb}
+use Rattle.common_laws.proofs.Base.{Bool, true, false, List, [], _∷_, _++_, Option, none, some, _≡_, refl, sym, ap, _∙_, ℕ, arith, eqb, eq-eqb}
 use Rattle.reading.specs.Each.{Each}
 use Rattle.reading.proofs.Laws.{by-test}
 use Rattle.text.specs.Lines.{cut, split, fields, unended, ended, lines}

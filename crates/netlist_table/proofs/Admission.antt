@@ -1,13 +1,8 @@
 -- Statements admitted one after the other, and the table that holds none.
 -- Assumes nothing.
-use mathlib.Core.List.{List, [], _∷_, _++_, flatMap}
-use mathlib.Core.Option.{Option, none, some}
-use mathlib.Core.Path.{_≡_, refl, ap, _∙_}
-use Prim.Native.Nat.{ℕ, zero, suc, _+_, _*_, _≤_, min}
+use Rattle.common_laws.proofs.Base.{List, [], _∷_, _++_, flatMap, Option, none, some, _≡_, refl, ap, _∙_, ℕ, zero, suc, _+_, _*_, _≤_, min, arith, length, drop, replicate}
+use Rattle.common_laws.proofs.Base.{replicate-append-replicate, ne-eqb}
 use native.Mathlib.Nat.{sub-zero}
-use native.Mathlib.Omega.{arith}
-use lib.ListN.{length, drop, replicate, replicate-append-replicate}
-use borrow.Author.Tests.{ne-eqb}
 use Rattle.sizes.specs.Sizes as Size
 use Rattle.table.specs.Blocks.{fitted, blocks, cleared}
 use Rattle.table.proofs.Places.{fitted-short}

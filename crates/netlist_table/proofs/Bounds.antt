@@ -1,11 +1,6 @@
 -- A refused netlist text, or list of statements, is told by a number of its own, and a line.
 -- Assumes nothing.
-use mathlib.Core.List.{List, [], _∷_, _++_}
-use mathlib.Core.Option.{Option}
-use mathlib.Core.Path.{_≡_, refl, ap}
-use Prim.Native.Nat.{ℕ, suc, _+_, _≤_}
-use native.Mathlib.Omega.{arith}
-use lib.ListN.{length}
+use Rattle.common_laws.proofs.Base.{List, [], _∷_, _++_, Option, _≡_, refl, ap, ℕ, suc, _+_, _≤_, arith, length}
 use Rattle.reading.specs.Numbers as No
 use Rattle.reading.specs.Refusal.{read, form}
 use Rattle.reading.proofs.Bounds.{Within, textNumber, within-bind, within-then, within-form, within-weigh}

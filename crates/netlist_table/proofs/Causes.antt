@@ -1,16 +1,8 @@
 -- Why a statement is refused, as the tests of the code have it, and what the statements behind one more say.
 -- Assumes nothing.
-use mathlib.Core.Bool.{Bool, true, false, not, _||_, or-false, or-true, or-assoc}
-use mathlib.Core.List.{List, [], _∷_, _++_, append-nil, flatMap}
-use mathlib.Core.Logic.{_⊎_, ⊎-elim}
-use mathlib.Core.Path.{_≡_, refl, sym, ap, _∙_}
-use Prim.Native.Nat.{ℕ, zero, suc, _+_, _*_, _≤_, _<_}
-use native.Mathlib.Nat.{not-suc-le-zero, le-of-suc-le-suc}
-use borrow.Author.Needs.{needs}
-use native.Mathlib.Omega.{arith}
-use borrow.Author.Tests.{le-leb, lt-leb, leb-true, leb-false, ltb-false, ne-eqb}
-use lib.Dec.{leb, ltb, eqb}
-use lib.ListN.{length, getD}
+use Rattle.common_laws.proofs.Base.{Bool, true, false, not, _||_, or-false, or-true, or-assoc, List, [], _∷_, _++_, append-nil, flatMap, _⊎_, ⊎-elim, _≡_, refl, sym, ap, _∙_, ℕ}
+use Rattle.common_laws.proofs.Base.{zero, suc, _+_, _*_, _≤_, _<_, not-suc-le-zero, le-of-suc-le-suc, needs, arith, le-leb, lt-leb, leb-true, leb-false, ltb-false, ne-eqb, leb}
+use Rattle.common_laws.proofs.Base.{ltb, eqb, length, getD}
 use Rattle.common_laws.proofs.Lists.{flatMap-append}
 use Rattle.sizes.specs.Sizes as Size
 use Rattle.reading.specs.Choice.{pick}

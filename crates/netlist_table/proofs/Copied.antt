@@ -1,11 +1,7 @@
 -- Copying one number after the other.
 -- Assumes nothing.
-use mathlib.Core.List.{List, [], _∷_, _++_, append-assoc}
-use mathlib.Core.Path.{_≡_, sym}
-use Prim.Native.Nat.{ℕ, suc, _+_, _<_}
-use native.Mathlib.Omega.{arith}
-use lib.ListN.{length, getD, take, drop, set}
-use lib.Seq.{set-at, take-suc, drop-cons, length-take-le}
+use Rattle.common_laws.proofs.Base.{List, [], _∷_, _++_, append-assoc, _≡_, sym, ℕ, suc, _+_, _<_, arith, length, getD, take, drop, set, set-at, take-suc, drop-cons}
+use Rattle.common_laws.proofs.Base.{length-take-le}
 
 pub copy-next : (xs ys : List ℕ) (i : ℕ) → i < length xs → i < length ys → set (take i xs ++ drop i ys) i (getD xs i 0) ≡ take (i + 1) xs ++ drop (i + 1) ys
 copy-next xs ys i h k =

@@ -1,14 +1,7 @@
 -- How many gates and outputs there can be: each gate drives a line of its own, no line is an output twice, and there are 1,000
 -- lines.
 -- Assumes nothing.
-use mathlib.Core.Bool.{true, false}
-use mathlib.Core.List.{List, [], _∷_, flatMap}
-use mathlib.Core.Path.{_≡_, refl, ap, subst}
-use Prim.Native.Nat.{ℕ, zero, suc, _≤_}
-use native.Mathlib.Omega.{arith}
-use lib.Dec.{eqb}
-use lib.ListN.{length}
-use borrow.Author.Tests.{eqb-true, eqb-false, eq-eqb}
+use Rattle.common_laws.proofs.Base.{true, false, List, [], _∷_, flatMap, _≡_, refl, ap, subst, ℕ, zero, suc, _≤_, arith, eqb, length, eqb-true, eqb-false, eq-eqb}
 use Rattle.sizes.specs.Sizes as Size
 use Rattle.reading.specs.Choice.{pick}
 use Rattle.reading.specs.Each.{Each}

@@ -1,13 +1,7 @@
 -- A table that holds statements says of their gates. What each law says is in specs/Gates.antt's words.
 -- Assumes nothing.
-use mathlib.Core.List.{List, [], _∷_, _++_}
-use mathlib.Core.Path.{_≡_, refl, sym, ap, ap₂, _∙_}
-use Prim.Native.Nat.{ℕ, zero, suc, _+_, _-_, _≤_, _<_}
-use native.Mathlib.Decide.{decLt}
-use native.Mathlib.Omega.{arith}
-use lib.ListN.{length, getD, drop, length-take, length-drop, List·getD-eq-default}
-use lib.Seq.{getD-take, getD-drop, ext-getD}
-use borrow.Author.Tests.{ne-eqb}
+use Rattle.common_laws.proofs.Base.{List, [], _∷_, _++_, _≡_, refl, sym, ap, ap₂, _∙_, ℕ, zero, suc, _+_, _-_, _≤_, _<_, decLt, arith, length, getD, drop, length-take, length-drop}
+use Rattle.common_laws.proofs.Base.{List·getD-eq-default, getD-take, getD-drop, ext-getD, ne-eqb}
 use Rattle.sizes.specs.Sizes as Size
 use Rattle.sizes.specs.Places.{gatePlace}
 use Rattle.reading.specs.Choice.{pick}

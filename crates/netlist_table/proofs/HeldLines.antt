@@ -1,12 +1,6 @@
 -- A table that holds statements says of their lines. What each law says is in specs/Lines.antt's words.
 -- Assumes nothing.
-use mathlib.Core.Bool.{Bool, false, not, Bool·not-not}
-use mathlib.Core.List.{List, _++_}
-use mathlib.Core.Path.{_≡_, refl, ap, _∙_}
-use Prim.Native.Nat.{ℕ, zero, suc, _+_, _-_, _≤_, _<_}
-use native.Mathlib.Omega.{arith}
-use lib.Dec.{eqb}
-use lib.ListN.{length}
+use Rattle.common_laws.proofs.Base.{Bool, false, not, Bool·not-not, List, _++_, _≡_, refl, ap, _∙_, ℕ, zero, suc, _+_, _-_, _≤_, _<_, arith, eqb, length}
 use Rattle.sizes.specs.Places.{mentionPlace}
 use Rattle.sizes.specs.Sizes as Size
 use Rattle.table.proofs.UsedPart.{used-most, used-behind, used-stands}

@@ -1,14 +1,7 @@
 -- What readers of a netlist cite: the facts of every netlist that was read. What stands at a place of the table is in
 -- `Places.antt`. Assumes nothing.
-use mathlib.Core.Bool.{true, false, or-true}
-use mathlib.Core.List.{List, [], _∷_, _++_, List·Memᴰ, List·Memᴰ·head, List·Memᴰ·tail, List·Memᴰ·not-nil, flatMap}
-use mathlib.Core.Logic.{⊎-elim}
-use mathlib.Core.Option.{Option}
-use mathlib.Core.Path.{_≡_, refl, sym, ap, _∙_}
-use Prim.Native.Nat.{ℕ, suc, _+_}
-use lib.Dec.{eqb}
-use lib.ListN.{length, getD}
-use borrow.Author.Tests.{eq-eqb, eqb-true, eqb-false}
+use Rattle.common_laws.proofs.Base.{true, false, or-true, List, [], _∷_, _++_, List·Memᴰ, List·Memᴰ·head, List·Memᴰ·tail, List·Memᴰ·not-nil, flatMap, ⊎-elim, Option, _≡_, refl}
+use Rattle.common_laws.proofs.Base.{sym, ap, _∙_, ℕ, suc, _+_, eqb, length, getD, eq-eqb, eqb-true, eqb-false}
 use Rattle.text.specs.Lines.{lines}
 use Rattle.reading.specs.Choice.{pick}
 use Rattle.reading.specs.Each.{Each}

@@ -1,12 +1,6 @@
 -- The lowest of the causes of a line, for any list of causes of which no number is 0.
 -- Assumes nothing.
-use mathlib.Core.Bool.{Bool, false}
-use mathlib.Core.List.{List, [], _∷_, _++_}
-use mathlib.Core.Path.{_≡_, refl}
-use Prim.Native.Nat.{ℕ, _≤_}
-use native.Mathlib.Omega.{arith}
-use lib.Dec.{eqb}
-use borrow.Author.Tests.{ne-eqb}
+use Rattle.common_laws.proofs.Base.{Bool, false, List, [], _∷_, _++_, _≡_, refl, ℕ, _≤_, arith, eqb, ne-eqb}
 use Rattle.reading.specs.Choice.{pick}
 use Rattle.reading.specs.Each.{Each}
 use Rattle.reading.specs.Refusal.{weigh}

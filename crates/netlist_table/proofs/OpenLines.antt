@@ -1,13 +1,7 @@
 -- What the table says of lines that nothing declares, behind refusal 20, and whether there is a range.
 -- Assumes nothing.
-use mathlib.Core.Bool.{Bool, true, false, not, _&&_, _||_, and-false, or-assoc, Bool·not-not}
-use mathlib.Core.List.{List, [], _∷_, flatMap}
-use mathlib.Core.Logic.{_⊎_, inl, inr, ⊎-elim}
-use mathlib.Core.Path.{_≡_, refl, ap, _∙_}
-use Prim.Native.Nat.{ℕ, zero, suc, _+_, _-_, _≤_, _<_}
-use native.Mathlib.Omega.{arith}
-use lib.Dec.{eqb}
-use borrow.Author.Tests.{eqb-true}
+use Rattle.common_laws.proofs.Base.{Bool, true, false, not, _&&_, _||_, and-false, or-assoc, Bool·not-not, List, [], _∷_, flatMap, _⊎_, inl, inr, ⊎-elim, _≡_, refl, ap, _∙_, ℕ}
+use Rattle.common_laws.proofs.Base.{zero, suc, _+_, _-_, _≤_, _<_, arith, eqb, eqb-true}
 use Rattle.sizes.specs.Sizes as Size
 use Rattle.reading.specs.Choice.{pick}
 use Rattle.reading.specs.Each.{Each}

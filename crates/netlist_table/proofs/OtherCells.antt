@@ -1,13 +1,8 @@
 -- A netlist that was read under some cells, under others: all but the cells of its gates is the same, so that it is refused for
 -- these alone.
 -- Assumes nothing.
-use mathlib.Core.Bool.{Bool, false, not, _&&_, _||_}
-use mathlib.Core.List.{List, [], _∷_, _++_, map, flatMap, map-append}
-use mathlib.Core.Logic.{inl, inr}
-use mathlib.Core.Option.{Option, none, some}
-use mathlib.Core.Path.{_≡_, refl, sym, _∙_, ap, ap₂}
-use Prim.Native.Nat.{ℕ, suc}
-use native.Mathlib.Omega.{arith}
+use Rattle.common_laws.proofs.Base.{Bool, false, not, _&&_, _||_, List, [], _∷_, _++_, map, flatMap, map-append, inl, inr, Option, none, some, _≡_, refl, sym, _∙_, ap, ap₂, ℕ, suc}
+use Rattle.common_laws.proofs.Base.{arith}
 use Rattle.sizes.specs.Sizes as Size
 use Rattle.text.specs.Bytes.{bytes}
 use Rattle.text.specs.Lines.{lines, sameBytes}

@@ -1,12 +1,7 @@
 -- One output mark more, of a line that the netlist mentions and that is no output yet: a pad. Document 02, K11.
 -- Assumes nothing.
-use mathlib.Core.Bool.{Bool, true, false, _||_, or-false}
-use mathlib.Core.List.{List, [], _∷_, _++_, map, append-nil, append-assoc, flatMap}
-use mathlib.Core.Option.{some}
-use mathlib.Core.Path.{_≡_, refl, sym, _∙_, ap}
-use Prim.Native.Nat.{ℕ, suc}
-use lib.Dec.{eqb}
-use borrow.Author.Tests.{le-leb, eqb-true, eq-eqb}
+use Rattle.common_laws.proofs.Base.{Bool, true, false, _||_, or-false, List, [], _∷_, _++_, map, append-nil, append-assoc, flatMap, some, _≡_, refl, sym, _∙_, ap, ℕ, suc, eqb}
+use Rattle.common_laws.proofs.Base.{le-leb, eqb-true, eq-eqb}
 use Rattle.common_laws.proofs.Lists.{flatMap-append}
 use Rattle.sizes.specs.Sizes as Size
 use Rattle.reading.specs.Choice.{pick}

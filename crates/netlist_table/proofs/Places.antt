@@ -1,13 +1,7 @@
 -- What stands at a place of the netlist table.
 -- Assumes nothing.
-use mathlib.Core.List.{List, _∷_, _++_}
-use mathlib.Core.Path.{_≡_, refl, sym, ap, _∙_}
-use Prim.Native.Nat.{ℕ, zero, suc, _+_, _*_, _≤_, _<_}
-use native.Mathlib.Nat.{add-zero, add-suc, not-suc-le-zero, le-of-suc-le-suc}
-use native.Mathlib.Numerals.{one-add}
-use native.Mathlib.Omega.{arith}
-use lib.ListN.{length, getD, length-append, List·getD-append}
-use lib.Seq.{getD-append-add}
+use Rattle.common_laws.proofs.Base.{List, _∷_, _++_, _≡_, refl, sym, ap, _∙_, ℕ, zero, suc, _+_, _*_, _≤_, _<_, add-zero, add-suc, not-suc-le-zero, le-of-suc-le-suc, one-add}
+use Rattle.common_laws.proofs.Base.{arith, length, getD, length-append, List·getD-append, getD-append-add}
 use Rattle.sizes.specs.Places.{driverPlace, gatePlace, mentionPlace, outputPlace, rangePlace, rangedPlace}
 use Rattle.sizes.specs.Sizes as Size
 use Rattle.table.specs.Blocks.{fitted, blocks}

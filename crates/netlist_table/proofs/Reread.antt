@@ -1,11 +1,6 @@
 -- A netlist read again under another library.
 -- Assumes nothing.
-use mathlib.Core.Bool.{_&&_}
-use mathlib.Core.List.{List, [], _∷_, _++_}
-use mathlib.Core.Option.{Option, none, some}
-use mathlib.Core.Path.{_≡_, refl, sym, _∙_, ap, ap₂}
-use Prim.Native.Nat.{ℕ, suc}
-use native.Mathlib.Omega.{arith}
+use Rattle.common_laws.proofs.Base.{_&&_, List, [], _∷_, _++_, Option, none, some, _≡_, refl, sym, _∙_, ap, ap₂, ℕ, suc, arith}
 use Rattle.text.specs.Bytes.{bytes}
 use Rattle.text.specs.Lines.{lines, sameBytes}
 use Rattle.text.specs.Numeral.{nameForm}

@@ -1,14 +1,6 @@
 -- The facts of statements that were admitted are kept by one statement more. Assumes nothing.
-use mathlib.Core.Bool.{Bool, true, false, _||_}
-use mathlib.Core.List.{List, [], _∷_, _++_, flatMap}
-use mathlib.Core.Logic.{inl, inr}
-use mathlib.Core.Option.{Option, none, some}
-use mathlib.Core.Path.{_≡_, refl, sym}
-use Prim.Native.Nat.{ℕ, _+_, _≤_, _<_}
-use native.Mathlib.Omega.{arith}
-use lib.Dec.{eqb}
-use lib.ListN.{length, length-append}
-use borrow.Author.Tests.{ne-eqb, eqb-true, eqb-false, leb-false, not-false}
+use Rattle.common_laws.proofs.Base.{Bool, true, false, _||_, List, [], _∷_, _++_, flatMap, inl, inr, Option, none, some, _≡_, refl, sym, ℕ, _+_, _≤_, _<_, arith, eqb, length}
+use Rattle.common_laws.proofs.Base.{length-append, ne-eqb, eqb-true, eqb-false, leb-false, not-false}
 use Rattle.sizes.specs.Sizes as Size
 use Rattle.reading.specs.Choice.{pick}
 use Rattle.reading.specs.Each.{Each}

@@ -1,17 +1,10 @@
 -- Stores into the netlist table: one statement more.
 -- Assumes nothing.
-use mathlib.Core.Bool.{Bool, true, false, _||_, or-false, or-true}
-use mathlib.Core.List.{List, [], _∷_, _++_, append-nil, append-assoc, flatMap}
-use mathlib.Core.Path.{_≡_, refl, sym, ap, ap₂, fun-ext, _∙_}
-use Prim.Native.Nat.{ℕ, zero, suc, _+_, _*_, _≤_, _<_}
-use native.Mathlib.Nat.{zero-add, add-suc, suc-add, add-zero, add-comm, add-assoc, zero-mul, suc-mul, not-suc-le-zero}
-use native.Mathlib.Nat.{le-of-suc-le-suc}
-use native.Mathlib.Numerals.{add-one, one-add}
-use native.Mathlib.Omega.{arith}
-use lib.Dec.{eqb}
-use lib.ListN.{length, getD, set, take, length-append, length-set}
-use lib.Seq.{set-append-left, getD-set-same, getD-set-other, ext-getD, sets, take-suc, length-take-le}
-use borrow.Author.Tests.{eq-eqb, ne-eqb, eqb-true, eqb-false}
+use Rattle.common_laws.proofs.Base.{Bool, true, false, _||_, or-false, or-true, List, [], _∷_, _++_, append-nil, append-assoc, flatMap, _≡_, refl, sym, ap, ap₂, fun-ext, _∙_, ℕ}
+use Rattle.common_laws.proofs.Base.{zero, suc, _+_, _*_, _≤_, _<_, zero-add, add-suc, suc-add, add-zero, add-comm, add-assoc, zero-mul, suc-mul, not-suc-le-zero, le-of-suc-le-suc}
+use Rattle.common_laws.proofs.Base.{add-one, one-add, arith, eqb, length, getD, set, take, length-append, length-set, getD-set-same, getD-set-other, ext-getD, sets, take-suc}
+use Rattle.common_laws.proofs.Base.{length-take-le, eq-eqb, ne-eqb, eqb-true, eqb-false}
+use lib.Seq.{set-append-left}
 use Rattle.sizes.specs.Places.{gatePlace, driverPlace, mentionPlace, rangePlace, rangedPlace}
 use Rattle.sizes.specs.Sizes as Size
 use Rattle.table.specs.Blocks.{fitted, blocks}

@@ -1,13 +1,6 @@
 -- Statements without ranges: those of forms of which none is a range, as the old rules and record lists have them.
 -- Assumes nothing.
-use mathlib.Core.Bool.{Bool, true, false}
-use mathlib.Core.List.{List, [], _∷_}
-use mathlib.Core.Option.{Option, none, some}
-use mathlib.Core.Path.{_≡_, refl, sym, _∙_}
-use Prim.Native.Nat.{ℕ, suc}
-use native.Mathlib.Omega.{arith}
-use lib.Dec.{eqb}
-use borrow.Author.Tests.{eqb-true, eqb-false}
+use Rattle.common_laws.proofs.Base.{Bool, true, false, List, [], _∷_, Option, none, some, _≡_, refl, sym, _∙_, ℕ, suc, arith, eqb, eqb-true, eqb-false}
 use Rattle.reading.specs.Choice.{pick}
 use Rattle.reading.specs.Each.{Each}
 use Rattle.reading.specs.Refusal.{read}

@@ -1,10 +1,6 @@
 -- What comes behind the lines of a text: refusal 20; and what the reader as a call of its own leaves.
 -- Assumes nothing.
-use mathlib.Core.Bool.{true, false, _&&_}
-use mathlib.Core.List.{List, _++_}
-use mathlib.Core.Path.{_≡_, ap, _∙_}
-use Prim.Native.Nat.{ℕ}
-use lib.ListN.{length, drop, replicate}
+use Rattle.common_laws.proofs.Base.{true, false, _&&_, List, _++_, _≡_, ap, _∙_, ℕ, length, drop, replicate}
 use Rattle.sizes.specs.Sizes as Size
 use Rattle.reading.specs.Choice.{pick}
 use Rattle.reading.specs.Numbers as No

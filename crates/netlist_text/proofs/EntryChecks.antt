@@ -1,11 +1,6 @@
 -- The entry of the reader: what its two checks say of the lengths, and what the reader answers and leaves then.
 -- Assumes nothing.
-use mathlib.Core.List.{List, []}
-use mathlib.Core.Path.{_≡_, refl, sym, _∙_}
-use Prim.Native.Nat.{ℕ, _≤_}
-use borrow.Author.Tests.{ltb-false}
-use lib.Dec.{ltb}
-use lib.ListN.{length}
+use Rattle.common_laws.proofs.Base.{List, [], _≡_, refl, sym, _∙_, ℕ, _≤_, ltb-false, ltb, length}
 use Rattle.sizes.specs.Sizes as Size
 use Rattle.reading.specs.Numbers as No
 use Rattle.reading.specs.Refusal.{read}

@@ -1,15 +1,7 @@
 -- The statement of a line of text, field by field.
 -- Assumes nothing.
-use mathlib.Core.Bool.{Bool, true, false, _&&_, _||_, or-false, or-assoc}
-use mathlib.Core.List.{List, [], _∷_, _++_, append-nil, append-assoc}
-use mathlib.Core.Logic.{inl}
-use mathlib.Core.Option.{Option, none, some}
-use mathlib.Core.Path.{_≡_, refl, sym, ap, _∙_}
-use Prim.Native.Nat.{ℕ, _+_, _≤_, _<_}
-use native.Mathlib.Omega.{arith}
-use borrow.Author.Tests.{ne-eqb}
-use lib.Dec.{eqb}
-use lib.ListN.{length, getD, set, length-append}
+use Rattle.common_laws.proofs.Base.{Bool, true, false, _&&_, _||_, or-false, or-assoc, List, [], _∷_, _++_, append-nil, append-assoc, inl, Option, none, some, _≡_, refl, sym, ap}
+use Rattle.common_laws.proofs.Base.{_∙_, ℕ, _+_, _≤_, _<_, arith, ne-eqb, eqb, length, getD, set, length-append}
 use Rattle.sizes.specs.Sizes as Size
 use Rattle.table.specs.Blocks.{fitted}
 use Rattle.reading.specs.Choice.{pick}

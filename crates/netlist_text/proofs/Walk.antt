@@ -1,13 +1,6 @@
 -- The walk over the lines of a text, from a cursor on.
 -- Assumes nothing.
-use mathlib.Core.List.{List, [], _∷_, _++_}
-use mathlib.Core.Option.{Option}
-use mathlib.Core.Path.{_≡_, sym, ap, _∙_}
-use Prim.Native.Nat.{ℕ, _+_, _-_, _≤_, _<_}
-use native.Mathlib.Numerals.{add-one}
-use native.Mathlib.Omega.{arith}
-use lib.ListN.{length, drop}
-use lib.Seq.{drop-at}
+use Rattle.common_laws.proofs.Base.{List, [], _∷_, _++_, Option, _≡_, sym, ap, _∙_, ℕ, _+_, _-_, _≤_, _<_, add-one, arith, length, drop, drop-at}
 use Rattle.sizes.specs.Sizes as Size
 use Rattle.table.specs.Blocks.{cleared}
 use Rattle.text.specs.Lines.{part, fields, linesFrom, nextAfter}

@@ -1,13 +1,6 @@
 -- A plan written out beside a standing analysis costs the number that stands.
 -- Assumes nothing.
-use mathlib.Core.Bool.{true, _&&_}
-use mathlib.Core.List.{List}
-use mathlib.Core.Path.{_≡_, refl, sym, ap, subst, _∙_}
-use Prim.Native.Nat.{ℕ, _+_, _≤_}
-use native.Mathlib.Omega.{arith}
-use borrow.Author.Tests.{leb-true}
-use lib.Dec.{leb}
-use lib.ListN.{getD}
+use Rattle.common_laws.proofs.Base.{true, _&&_, List, _≡_, refl, sym, ap, subst, _∙_, ℕ, _+_, _≤_, arith, leb-true, leb, getD}
 use Rattle.sizes.specs.Sizes as Size
 use Rattle.reading.specs.Choice.{pick}
 use Rattle.reading.specs.Refusal.{Read, refused, read, _>>=_, _>>_}

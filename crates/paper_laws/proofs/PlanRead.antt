@@ -1,15 +1,8 @@
 -- A plan's text read back is the plan's tree: its lines by their depths, then the tree of the depths.
 -- Assumes nothing.
-use mathlib.Core.Bool.{true, false}
-use mathlib.Core.List.{List, [], _∷_, _++_, map, append-assoc, append-nil, List·Memᴰ, List·Memᴰ·head, List·Memᴰ·tail, List·Memᴰ·not-nil, List·Memᴰ·append-cases}
-use mathlib.Core.Logic.{⊎-elim}
-use mathlib.Core.Option.{Option, some}
-use mathlib.Core.Path.{_≡_, refl, sym, ap, _∙_}
-use Prim.Native.Nat.{ℕ, zero, suc, _+_, _%_, _/_, _^_, _≤_, _<_}
-use native.Mathlib.Omega.{arith}
-use borrow.Author.Tests.{eq-eqb, ne-eqb}
-use lib.Dec.{eqb, ltb}
-use lib.ListN.{length, length-append}
+use Rattle.common_laws.proofs.Base.{true, false, List, [], _∷_, _++_, map, append-assoc, append-nil, List·Memᴰ, List·Memᴰ·head, List·Memᴰ·tail, List·Memᴰ·not-nil}
+use Rattle.common_laws.proofs.Base.{List·Memᴰ·append-cases, ⊎-elim, Option, some, _≡_, refl, sym, ap, _∙_, ℕ, zero, suc, _+_, _%_, _/_, _^_, _≤_, _<_, arith, eq-eqb, ne-eqb, eqb}
+use Rattle.common_laws.proofs.Base.{ltb, length, length-append}
 use Rattle.reading.specs.Choice.{pick}
 use Rattle.reading.specs.Each.{Each}
 use Rattle.reading.proofs.Laws.{by-test, each-member}

@@ -1,15 +1,7 @@
 -- The end of the call.
 -- Assumes nothing.
-use mathlib.Core.Bool.{true, _&&_}
-use mathlib.Core.List.{List, _++_}
-use mathlib.Core.Path.{_≡_, refl, sym, ap, _∙_}
-use Prim.Native.Nat.{ℕ, zero, suc, _+_, _≤_, _<_}
-use native.Mathlib.Decide.{ℕ-discrete}
-use native.Mathlib.Omega.{arith}
-use borrow.Author.Tests.{lt-ltb, le-ltb, le-leb, leb-true, ltb-true, ltb-false}
-use lib.Dec.{leb, ltb}
-use lib.ListN.{length, getD, take, drop, List·getD-append}
-use lib.Seq.{take-at}
+use Rattle.common_laws.proofs.Base.{true, _&&_, List, _++_, _≡_, refl, sym, ap, _∙_, ℕ, zero, suc, _+_, _≤_, _<_, ℕ-discrete, arith, lt-ltb, le-ltb, le-leb, leb-true, ltb-true}
+use Rattle.common_laws.proofs.Base.{ltb-false, leb, ltb, length, getD, take, drop, List·getD-append, take-at}
 use Rattle.sizes.specs.Sizes as Size
 use Rattle.sizes.specs.Places.{settingPlace}
 use Rattle.reading.specs.Choice.{pick}

@@ -1,11 +1,6 @@
 -- What is printed of two texts, from the promise of `write_plan` on tables of its own and a buffer of 65,536 bytes.
 -- Assumes nothing.
-use mathlib.Core.Bool.{true≢false}
-use mathlib.Core.List.{List}
-use mathlib.Core.Path.{_≡_, refl, sym, ap, _∙_}
-use Prim.Native.Nat.{ℕ}
-use native.Mathlib.Omega.{arith}
-use lib.ListN.{length}
+use Rattle.common_laws.proofs.Base.{true≢false, List, _≡_, refl, sym, ap, _∙_, ℕ, arith, length}
 use Rattle.sizes.specs.Sizes as Size
 use Rattle.reading.specs.Choice.{pick}
 use Rattle.reading.specs.Refusal.{Read, refused, read, _>>=_, _>>_}

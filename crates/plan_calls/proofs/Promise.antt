@@ -1,13 +1,6 @@
 -- From the parts of the call to its promise.
 -- Assumes nothing.
-use mathlib.Core.Bool.{true, false, true≢false, _||_}
-use mathlib.Core.List.{List}
-use mathlib.Core.Path.{_≡_, refl, sym, ap, subst, _∙_}
-use Prim.Native.Nat.{ℕ}
-use native.Mathlib.Omega.{arith}
-use borrow.Author.Tests.{eqb-true}
-use lib.Dec.{eqb}
-use lib.ListN.{length, drop, replicate}
+use Rattle.common_laws.proofs.Base.{true, false, true≢false, _||_, List, _≡_, refl, sym, ap, subst, _∙_, ℕ, arith, eqb-true, eqb, length, drop, replicate}
 use Rattle.sizes.specs.Sizes as Size
 use Rattle.reading.specs.Choice.{pick}
 use Rattle.reading.specs.Numbers as No

@@ -1,14 +1,7 @@
 -- A visit with its mark: what is noted of it is what the definitions remember.
 -- Assumes nothing.
-use mathlib.Core.List.{List, [], _∷_}
-use mathlib.Core.Option.{Option, none, some}
-use mathlib.Core.Path.{_≡_, refl, sym, ap, _∙_}
-use Prim.Native.Nat.{ℕ, suc, _+_, _*_, _≤_, _<_}
-use native.Mathlib.Decide.{ℕ-discrete}
-use native.Mathlib.Omega.{arith}
-use borrow.Author.Tests.{lt-ltb}
-use lib.ListN.{length, getD, set, length-set}
-use lib.Seq.{sets, getD-set-same, getD-set-other}
+use Rattle.common_laws.proofs.Base.{List, [], _∷_, Option, none, some, _≡_, refl, sym, ap, _∙_, ℕ, suc, _+_, _*_, _≤_, _<_, ℕ-discrete, arith, lt-ltb, length, getD, set}
+use Rattle.common_laws.proofs.Base.{length-set, sets, getD-set-same, getD-set-other}
 use Rattle.sizes.specs.Sizes as Size
 use Rattle.sizes.specs.Places.{settingPlace, markPlace}
 use Rattle.reading.specs.Choice.{pick}

@@ -1,17 +1,7 @@
 -- Sweeps that remember, one after the other: where they rest, they remember nothing more.
 -- Assumes nothing.
-use mathlib.Core.Bool.{Bool, true, false}
-use mathlib.Core.List.{List, [], _∷_, _++_, List·Memᴰ·head, List·Memᴰ·tail}
-use mathlib.Core.Option.{Option, some}
-use mathlib.Core.Path.{_≡_, refl, sym, ap, _∙_}
-use Prim.Native.Nat.{ℕ, zero, suc, _+_, _≤_, _<_}
-use native.Mathlib.Decide.{decLt}
-use native.Mathlib.Nat.{le-trans}
-use native.Mathlib.Omega.{arith}
-use borrow.Author.Tests.{le-ltb}
-use lib.Dec.{ltb}
-use lib.ListN.{length}
-use lib.Seq.{set-out}
+use Rattle.common_laws.proofs.Base.{Bool, true, false, List, [], _∷_, _++_, List·Memᴰ·head, List·Memᴰ·tail, Option, some, _≡_, refl, sym, ap, _∙_, ℕ, zero, suc, _+_, _≤_, _<_}
+use Rattle.common_laws.proofs.Base.{decLt, le-trans, arith, le-ltb, ltb, length, set-out}
 use Rattle.reading.specs.Choice.{pick}
 use Rattle.cost.specs.Cost.{lesser, counted}
 use Rattle.plans.specs.System.{Visit}

@@ -1,11 +1,7 @@
 -- The sweeps of one kind from the start on: they rest after as many as document 01 allows, and their numbers are those
 -- reported.
 -- Assumes nothing.
-use mathlib.Core.List.{List, List·Memᴰ, Memᴰ·append-left, Memᴰ·append-right}
-use mathlib.Core.Path.{_≡_, refl, sym, ap, subst, _∙_}
-use Prim.Native.Nat.{ℕ, _+_, _*_}
-use native.Mathlib.Omega.{arith}
-use lib.ListN.{length}
+use Rattle.common_laws.proofs.Base.{List, List·Memᴰ, Memᴰ·append-left, Memᴰ·append-right, _≡_, refl, sym, ap, subst, _∙_, ℕ, _+_, _*_, arith, length}
 use Rattle.sizes.specs.Sizes as Size
 use Rattle.plans.specs.System.{Way, Visit, Offers}
 use Rattle.plans.specs.Sweep.{at, Rule, renew, lower, sweeps, Rests, Run, run, Settles, Inside, Visited, Once, Above, Lowering, Lowering.keeps, Lowering.renews}

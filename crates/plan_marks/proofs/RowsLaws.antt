@@ -1,14 +1,7 @@
 -- The first of the rows that come to the least sum, and the same over the costs of the columns and over the numbers.
 -- Assumes nothing.
-use mathlib.Core.Bool.{Bool, true, false}
-use mathlib.Core.List.{List, []}
-use mathlib.Core.Option.{Option, none, some}
-use mathlib.Core.Path.{_≡_, refl, sym, _∙_}
-use Prim.Native.Nat.{ℕ, zero, suc, _+_, _*_, _-_, _^_, _≤_, _<_}
-use native.Mathlib.Omega.{arith}
-use borrow.Author.Tests.{le-leb, lt-leb, ltb-true, ltb-false}
-use lib.Dec.{ltb}
-use lib.ListN.{getD}
+use Rattle.common_laws.proofs.Base.{Bool, true, false, List, [], Option, none, some, _≡_, refl, sym, _∙_, ℕ, zero, suc, _+_, _*_, _-_, _^_, _≤_, _<_, arith, le-leb, lt-leb}
+use Rattle.common_laws.proofs.Base.{ltb-true, ltb-false, ltb, getD}
 use Rattle.sizes.specs.Sizes as Size
 use Rattle.reading.specs.Choice.{pick}
 use Rattle.cost.specs.Cost.{over, capped, never, lesser, counted, _⊕_}

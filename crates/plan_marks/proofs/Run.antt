@@ -1,13 +1,7 @@
 -- The run at the tables of accepted cells and statements: its marks are those that the definitions remember.
 -- Assumes nothing.
-use mathlib.Core.Bool.{false}
-use mathlib.Core.List.{List}
-use mathlib.Core.Option.{Option, none}
-use mathlib.Core.Path.{_≡_, refl, sym, ap, subst, _∙_}
-use Prim.Native.Nat.{ℕ, zero, suc, _+_, _*_, _-_, _≤_, _<_}
-use native.Mathlib.Omega.{arith}
-use lib.ListN.{length, getD, getD-replicate, replicate, length-replicate, List·getD-eq-default}
-use native.Mathlib.Decide.{decLt}
+use Rattle.common_laws.proofs.Base.{false, List, Option, none, _≡_, refl, sym, ap, subst, _∙_, ℕ, zero, suc, _+_, _*_, _-_, _≤_, _<_, arith, length, getD, getD-replicate}
+use Rattle.common_laws.proofs.Base.{replicate, length-replicate, List·getD-eq-default, decLt}
 use Rattle.sizes.specs.Sizes as Size
 use Rattle.sizes.specs.Places.{settingPlace, markPlace}
 use Rattle.plans.specs.System.{Visit}

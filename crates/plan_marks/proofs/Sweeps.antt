@@ -1,11 +1,6 @@
 -- The turns of a sweep with their marks, and those that are passed over.
 -- Assumes nothing.
-use mathlib.Core.Bool.{Bool, false}
-use mathlib.Core.List.{List, []}
-use mathlib.Core.Path.{_≡_, refl, sym, ap, _∙_}
-use Prim.Native.Nat.{ℕ, zero, suc, _*_}
-use native.Mathlib.Omega.{arith}
-use lib.ListN.{length, length-append}
+use Rattle.common_laws.proofs.Base.{Bool, false, List, [], _≡_, refl, sym, ap, _∙_, ℕ, zero, suc, _*_, arith, length, length-append}
 use Rattle.sizes.specs.Sizes as Size
 use Rattle.reading.specs.Choice.{pick}
 use Rattle.plans.specs.System.{Visit}

@@ -2,13 +2,8 @@
 -- reverse order, pins in order". So what a writer of marks notes, a gate and a pin, is the turn at the mark's time.
 -- No code cites this page yet: the marks of request E1 are to (D196).
 -- Assumes nothing.
-use mathlib.Core.List.{List, [], _∷_, _++_, append-assoc, append-nil}
-use mathlib.Core.Path.{_≡_, refl, sym, ap, _∙_}
-use Prim.Native.Nat.{ℕ, zero, suc, _+_, _*_, _%_, _<_}
-use native.Mathlib.Nat.{mod-eq-of-lt, add-mul-mod-self-right}
-use native.Mathlib.Omega.{arith}
-use lib.ListN.{length, length-append}
-use lib.Seq.{getD-append-add}
+use Rattle.common_laws.proofs.Base.{List, [], _∷_, _++_, append-assoc, append-nil, _≡_, refl, sym, ap, _∙_, ℕ, zero, suc, _+_, _*_, _%_, _<_, mod-eq-of-lt, add-mul-mod-self-right}
+use Rattle.common_laws.proofs.Base.{arith, length, length-append, getD-append-add}
 use Rattle.library_table.specs.Cells.{Cell}
 use Rattle.netlist_table.specs.Netlist.{Gate}
 use Rattle.calculation.specs.Ways.{cellOf, Role, observing, pinRoles, Turn, gateTurns, observingTurns}

@@ -1,12 +1,6 @@
 -- Visits with their marks one after the other.
 -- Assumes nothing.
-use mathlib.Core.Bool.{Bool, false, _||_}
-use mathlib.Core.List.{List, [], _∷_}
-use mathlib.Core.Path.{_≡_, refl, sym, ap, _∙_}
-use Prim.Native.Nat.{ℕ, _+_}
-use native.Mathlib.Nat.{le-trans}
-use native.Mathlib.Numerals.{add-one}
-use lib.ListN.{length}
+use Rattle.common_laws.proofs.Base.{Bool, false, _||_, List, [], _∷_, _≡_, refl, sym, ap, _∙_, ℕ, _+_, le-trans, add-one, length}
 use Rattle.reading.specs.Choice.{pick}
 use Rattle.plans.specs.System.{Visit}
 use Rattle.plans.specs.Sweep.{lower, Bounded}

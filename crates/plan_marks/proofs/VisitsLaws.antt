@@ -1,15 +1,7 @@
 -- A visit out of the tables, from what the parts of `visit` read and store.
 -- Assumes nothing.
-use mathlib.Core.Bool.{Bool, true, false}
-use mathlib.Core.List.{List, [], _∷_}
-use mathlib.Core.Option.{Option, some}
-use mathlib.Core.Path.{_≡_, refl, sym, ap, _∙_}
-use Prim.Native.Nat.{ℕ, suc, _+_, _*_, _^_, _≤_, _<_}
-use native.Mathlib.Decide.{decLe}
-use native.Mathlib.Omega.{arith}
-use borrow.Author.Tests.{eqb-true, eqb-false, not-true, not-false}
-use lib.ListN.{length, getD, set}
-use lib.Seq.{sets, length-sets, set-getD}
+use Rattle.common_laws.proofs.Base.{Bool, true, false, List, [], _∷_, Option, some, _≡_, refl, sym, ap, _∙_, ℕ, suc, _+_, _*_, _^_, _≤_, _<_, decLe, arith, eqb-true, eqb-false}
+use Rattle.common_laws.proofs.Base.{not-true, not-false, length, getD, set, sets, length-sets, set-getD}
 use Rattle.sizes.specs.Sizes as Size
 use Rattle.sizes.specs.Places.{groupPlace, settingPlace, markPlace}
 use Rattle.reading.specs.Choice.{pick}

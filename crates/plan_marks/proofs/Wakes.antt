@@ -1,11 +1,6 @@
 -- A gate's two visits, and those that read its line awake after a number of it was lowered.
 -- Assumes nothing.
-use mathlib.Core.Bool.{Bool, false, or-false}
-use mathlib.Core.List.{List, [], _∷_}
-use mathlib.Core.Path.{_≡_, refl, sym, _∙_}
-use Prim.Native.Nat.{ℕ, _<_}
-use native.Mathlib.Omega.{arith}
-use lib.ListN.{getD}
+use Rattle.common_laws.proofs.Base.{Bool, false, or-false, List, [], _∷_, _≡_, refl, sym, _∙_, ℕ, _<_, arith, getD}
 use Rattle.reading.specs.Choice.{pick}
 use Rattle.plans.specs.System.{Visit}
 use Rattle.plans.specs.Sweep.{lower, sweep}

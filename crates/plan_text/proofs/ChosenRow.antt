@@ -1,13 +1,8 @@
 -- What a mark tells: which gate serves a purpose, in which role and by which row, that what the row asks for was last lowered
 -- earlier, and that it sums to the number.
 -- Assumes nothing.
-use mathlib.Core.List.{List, [], _∷_, List·Memᴰ, Memᴰ·map, Memᴰ·of-map, map}
-use mathlib.Core.Logic.{_⊎_, inl, inr}
-use mathlib.Core.Option.{Option, none, some}
-use mathlib.Core.Path.{_≡_, refl, sym, ap, subst, _∙_}
-use Prim.Native.Nat.{ℕ, suc, _+_, _≤_, _<_}
-use native.Mathlib.Omega.{arith}
-use lib.ListN.{length, getD, length-map}
+use Rattle.common_laws.proofs.Base.{List, [], _∷_, List·Memᴰ, Memᴰ·map, Memᴰ·of-map, map, _⊎_, inl, inr, Option, none, some, _≡_, refl, sym, ap, subst, _∙_, ℕ, suc, _+_, _≤_, _<_}
+use Rattle.common_laws.proofs.Base.{arith, length, getD, length-map}
 use Rattle.common_laws.proofs.Lists.{getD-map}
 use Rattle.cost.specs.Cost.{most}
 use Rattle.plans.specs.System.{Way, Visit}

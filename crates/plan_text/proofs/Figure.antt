@@ -2,11 +2,7 @@
 -- by which the sweeps last lowered each number, at just that cost, than which none costs less. So it is of a line set to a value
 -- (document 02, K3) and of a line observed (request E1), loops or not.
 -- Assumes nothing.
-use mathlib.Core.List.{List, []}
-use mathlib.Core.Path.{_≡_, refl, sym, _∙_}
-use Prim.Native.Nat.{ℕ, suc, _≤_, _<_}
-use native.Mathlib.Omega.{arith}
-use lib.ListN.{getD}
+use Rattle.common_laws.proofs.Base.{List, [], _≡_, refl, sym, _∙_, ℕ, suc, _≤_, _<_, arith, getD}
 use Rattle.cost.specs.Cost.{most}
 use Rattle.plans.specs.Sweep.{at}
 use Rattle.plans.proofs.Laws.{at-getD}

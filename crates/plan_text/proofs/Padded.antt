@@ -1,13 +1,8 @@
 -- Outputs that are added, as pads are, change no setting plan's text: the setting plans of a route are those that K3 writes.
 -- No code cites this page yet: request E1 is to (D196).
 -- Assumes nothing.
-use mathlib.Core.List.{List, [], _∷_, _++_, map, List·Memᴰ, List·Memᴰ·head, List·Memᴰ·tail, append-nil, append-assoc}
-use mathlib.Core.Option.{Option, none, some}
-use mathlib.Core.Path.{_≡_, refl, sym, ap, ap₂, subst, _∙_}
-use Prim.Native.Nat.{ℕ, zero, suc, _%_, _≤_, _<_}
-use native.Mathlib.Decide.{decLt}
-use native.Mathlib.Omega.{arith}
-use lib.ListN.{length, getD, List·getD-eq-default}
+use Rattle.common_laws.proofs.Base.{List, [], _∷_, _++_, map, List·Memᴰ, List·Memᴰ·head, List·Memᴰ·tail, append-nil, append-assoc, Option, none, some, _≡_, refl, sym, ap, ap₂}
+use Rattle.common_laws.proofs.Base.{subst, _∙_, ℕ, zero, suc, _%_, _≤_, _<_, decLt, arith, length, getD, List·getD-eq-default}
 use Rattle.plans.specs.Trace.{Mark}
 use Rattle.library_table.specs.Cells.{Row, Cell, Column, noRow}
 use Rattle.netlist_table.specs.Netlist.{Gate, Statement, mark, output, gatesOf}

@@ -1,14 +1,8 @@
 -- The plan that the marks tell: one for just the purpose and the kind, at the number reported, and its text is the one that is
 -- computed and the one that is written. A line set to a value and a line observed go the same way.
 -- Assumes nothing.
-use mathlib.Core.Bool.{Bool, true, false}
-use mathlib.Core.List.{List, [], _∷_, _++_, List·Memᴰ, List·Memᴰ·head, List·Memᴰ·tail}
-use mathlib.Core.Option.{Option, none, some}
-use mathlib.Core.Path.{_≡_, refl, sym, ap, ap₂, subst, _∙_}
-use Prim.Native.Nat.{ℕ, zero, suc, _+_, _≤_, _<_}
-use native.Mathlib.Nat.{le-trans, le-refl}
-use native.Mathlib.Omega.{arith}
-use lib.ListN.{length}
+use Rattle.common_laws.proofs.Base.{Bool, true, false, List, [], _∷_, _++_, List·Memᴰ, List·Memᴰ·head, List·Memᴰ·tail, Option, none, some, _≡_, refl, sym, ap, ap₂, subst, _∙_, ℕ}
+use Rattle.common_laws.proofs.Base.{zero, suc, _+_, _≤_, _<_, le-trans, le-refl, arith, length}
 use Rattle.reading.specs.Choice.{pick}
 use Rattle.cost.specs.Cost.{most, never, capped}
 use Rattle.cost.proofs.Laws.{sum-small}

@@ -2,13 +2,7 @@
 -- observes its gate's output. So a writer may go along a route in a loop, and turn to the writer of setting plans for each value.
 -- No code cites this page yet: the writer of request E1 is to (D196).
 -- Assumes nothing.
-use mathlib.Core.Bool.{Bool, true, false}
-use mathlib.Core.List.{List, [], _∷_, _++_, List·Memᴰ, append-assoc, append-nil}
-use mathlib.Core.Option.{some}
-use mathlib.Core.Path.{_≡_, refl, sym, ap, _∙_}
-use Prim.Native.Nat.{ℕ, suc, _≤_, _<_}
-use native.Mathlib.Omega.{arith}
-use lib.ListN.{length}
+use Rattle.common_laws.proofs.Base.{Bool, true, false, List, [], _∷_, _++_, List·Memᴰ, append-assoc, append-nil, some, _≡_, refl, sym, ap, _∙_, ℕ, suc, _≤_, _<_, arith, length}
 use Rattle.reading.specs.Choice.{pick}
 use Rattle.cost.specs.Cost.{most}
 use Rattle.plans.specs.Sweep.{at}

@@ -1,15 +1,8 @@
 -- A mark's time is before the end of the sweeps, which are few.
 -- Assumes nothing.
-use mathlib.Core.List.{List, [], _∷_}
-use mathlib.Core.Logic.{_⊎_, inl, inr}
-use mathlib.Core.Option.{Option, none, some, Option·some-injective, Option·none-ne-some}
-use mathlib.Core.Path.{_≡_, refl, sym, ap, subst, _∙_}
-use Prim.Native.Nat.{ℕ, zero, suc, _+_, _*_, _≤_, _<_}
-use native.Mathlib.Decide.{ℕ-discrete, decLt}
-use native.Mathlib.Omega.{arith}
-use borrow.Author.Tests.{lt-ltb, le-ltb}
-use lib.ListN.{length, getD, set, replicate, length-replicate, getD-replicate, List·getD-eq-default}
-use lib.Seq.{getD-set-same, getD-set-other, set-out}
+use Rattle.common_laws.proofs.Base.{List, [], _∷_, _⊎_, inl, inr, Option, none, some, Option·some-injective, Option·none-ne-some, _≡_, refl, sym, ap, subst, _∙_, ℕ, zero, suc, _+_}
+use Rattle.common_laws.proofs.Base.{_*_, _≤_, _<_, ℕ-discrete, decLt, arith, lt-ltb, le-ltb, length, getD, set, replicate, length-replicate, getD-replicate, List·getD-eq-default}
+use Rattle.common_laws.proofs.Base.{getD-set-same, getD-set-other, set-out}
 use Rattle.sizes.specs.Sizes as Size
 use Rattle.reading.specs.Choice.{pick}
 use Rattle.plans.specs.System.{Visit}

@@ -1,15 +1,7 @@
 -- What the two writers put.
 -- Assumes nothing.
-use mathlib.Core.List.{List, [], _∷_, _++_}
-use mathlib.Core.Path.{_≡_, refl, sym, ap, _∙_}
-use Prim.Native.Nat.{ℕ, zero, suc, _+_, _-_, _/_, _%_, _^_, _≤_, _<_}
-use native.Mathlib.Numerals.{add-one}
-use native.Mathlib.Omega.{arith}
-use borrow.Author.Tests.{lt-ltb, le-ltb, ltb-true}
-use lib.Bits.{bitAnd}
-use lib.Count.{trailingZeros}
-use lib.Dec.{ltb}
-use lib.ListN.{length}
+use Rattle.common_laws.proofs.Base.{List, [], _∷_, _++_, _≡_, refl, sym, ap, _∙_, ℕ, zero, suc, _+_, _-_, _/_, _%_, _^_, _≤_, _<_, add-one, arith, lt-ltb, le-ltb, ltb-true, bitAnd}
+use Rattle.common_laws.proofs.Base.{trailingZeros, ltb, length}
 use Rattle.common_laws.proofs.Lists.{sets-past}
 use Rattle.sizes.specs.Sizes as Size
 use Rattle.reading.specs.Choice.{pick}

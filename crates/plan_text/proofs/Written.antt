@@ -1,14 +1,7 @@
 -- What the two writers put from the tables that `trace` and the readers leave is the text of the plan.
 -- Assumes nothing.
-use mathlib.Core.Bool.{Bool, true, false, _&&_}
-use mathlib.Core.List.{List, [], _∷_, _++_, List·Memᴰ, List·Memᴰ·head, List·Memᴰ·tail, map, append-nil}
-use mathlib.Core.Option.{Option, none, some}
-use mathlib.Core.Path.{_≡_, refl, sym, ap, ap₂, subst, _∙_}
-use Prim.Native.Nat.{ℕ, zero, suc, _+_, _*_, _-_, _/_, _%_, _^_, _≤_, _<_}
-use native.Mathlib.Nat.{le-trans, pow-le-pow-right}
-use native.Mathlib.Omega.{arith}
-use borrow.Author.Tests.{ne-eqb}
-use lib.ListN.{length, getD}
+use Rattle.common_laws.proofs.Base.{Bool, true, false, _&&_, List, [], _∷_, _++_, List·Memᴰ, List·Memᴰ·head, List·Memᴰ·tail, map, append-nil, Option, none, some, _≡_, refl, sym}
+use Rattle.common_laws.proofs.Base.{ap, ap₂, subst, _∙_, ℕ, zero, suc, _+_, _*_, _-_, _/_, _%_, _^_, _≤_, _<_, le-trans, pow-le-pow-right, arith, ne-eqb, length, getD}
 use Rattle.sizes.specs.Sizes as Size
 use Rattle.sizes.specs.Places.{headingPlace, groupPlace, gatePlace}
 use Rattle.reading.specs.Choice.{pick}

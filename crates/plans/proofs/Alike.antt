@@ -1,12 +1,7 @@
 -- Runs on tables that are alike at the nodes that the run looks at, and what they remember.
 -- Assumes nothing.
-use mathlib.Core.List.{List, [], _∷_, List·Memᴰ, List·Memᴰ·head, List·Memᴰ·tail}
-use mathlib.Core.Option.{none}
-use mathlib.Core.Path.{_≡_, refl, sym, _∙_, ap, ap₂}
-use Prim.Native.Nat.{ℕ, zero, suc, _≤_, _<_}
-use native.Mathlib.Decide.{ℕ-discrete, decLt}
-use native.Mathlib.Omega.{arith}
-use lib.ListN.{length, replicate}
+use Rattle.common_laws.proofs.Base.{List, [], _∷_, List·Memᴰ, List·Memᴰ·head, List·Memᴰ·tail, none, _≡_, refl, sym, _∙_, ap, ap₂, ℕ, zero, suc, _≤_, _<_, ℕ-discrete, decLt, arith}
+use Rattle.common_laws.proofs.Base.{length, replicate, set-out}
 use Rattle.cost.specs.Cost.{lesser}
 use Rattle.plans.specs.System.{Way, Visit}
 use Rattle.plans.specs.Sweep.{at, least, Rule, renew, lower, sweep, sweeps, Rests, Settles}
@@ -16,7 +11,6 @@ use Rattle.plans.specs.Trace.{firstPlace, markOf, Trace, traceVisit, tra
 use Rattle.plans.proofs.Numbers.{at-set-same, at-ext}
 use Rattle.plans.proofs.Lowered.{way-same, lower-here, lower-past}
 use Rattle.plans.proofs.Kept.{Stores, rule-length, rule-other, sweep-length, sweep-other, sweeps-length}
-use lib.Seq.{set-out}
 
 least-same : (xs ys : List ℕ) (ws : List Way) → ((w : Way) → List·Memᴰ w ws → (n : ℕ) → List·Memᴰ n (w .needs) → at xs n ≡ at ys n) → least xs ws ≡ least ys ws
 unfolding least

@@ -1,13 +1,7 @@
 -- "becomes the least row sum" agrees with "keeps the lesser", sweep by sweep.
 -- Assumes nothing.
-use mathlib.Core.List.{List, [], _∷_, List·Memᴰ, List·Memᴰ·head, List·Memᴰ·tail}
-use mathlib.Core.Logic.{_↔_}
-use mathlib.Core.Path.{_≡_, refl, sym, _∙_, ap, subst}
-use Prim.Native.Nat.{ℕ, zero, suc, _≤_, _<_}
-use native.Mathlib.Decide.{ℕ-discrete, decLt}
-use native.Mathlib.Nat.{le-refl, le-trans, le-of-eq, le-antisymm}
-use native.Mathlib.Omega.{arith}
-use lib.ListN.{length, set}
+use Rattle.common_laws.proofs.Base.{List, [], _∷_, List·Memᴰ, List·Memᴰ·head, List·Memᴰ·tail, _↔_, _≡_, refl, sym, _∙_, ap, subst, ℕ, zero, suc, _≤_, _<_, ℕ-discrete, decLt}
+use Rattle.common_laws.proofs.Base.{le-refl, le-trans, le-of-eq, le-antisymm, arith, length, set}
 use Rattle.cost.specs.Cost.{lesser}
 use Rattle.plans.specs.System.{Visit}
 use Rattle.plans.specs.Sweep.{at, least, Rule, renew, lower, sweep, sweeps, Settles, run, Once, Above, Lowering, Lowering.keeps, Lowering.renews}

@@ -2,14 +2,8 @@
 -- on a way down, so the way down is no longer than the list of keys; and after as many sweeps its number is no higher.
 -- The key of a step is the node had (controllabilities), or the one needed node that is itself visited (observabilities).
 -- Assumes nothing.
-use mathlib.Core.List.{List, [], _∷_, List·Memᴰ, List·Memᴰ·head, List·Memᴰ·tail}
-use mathlib.Core.Logic.{_⊎_, inl, inr}
-use mathlib.Core.Path.{_≡_, refl, sym, _∙_, subst}
-use Prim.Native.Nat.{ℕ, zero, suc, _≤_, _<_, min}
-use native.Mathlib.Decide.{ℕ-discrete, decLe}
-use native.Mathlib.Nat.{le-refl, le-trans, le-of-eq}
-use native.Mathlib.Omega.{arith}
-use lib.ListN.{length}
+use Rattle.common_laws.proofs.Base.{List, [], _∷_, List·Memᴰ, List·Memᴰ·head, List·Memᴰ·tail, _⊎_, inl, inr, _≡_, refl, sym, _∙_, subst, ℕ, zero, suc, _≤_, _<_, min, ℕ-discrete}
+use Rattle.common_laws.proofs.Base.{decLe, le-refl, le-trans, le-of-eq, arith, length}
 use Rattle.cost.specs.Cost.{never, _⊕_, capped, lesser, counted}
 use Rattle.cost.proofs.Laws.{sum-bound, sum-mono, sum-left, sum-right}
 use Rattle.plans.specs.System.{Way, Visit, Offers}

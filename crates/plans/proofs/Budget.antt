@@ -2,18 +2,9 @@
 -- such a node has a price, or a way all of whose nodes are fixed, or it holds a plan of another node that is not fixed.
 -- Costs are compared capped throughout, so that nothing is asked of the order among those that are over.
 -- Assumes nothing.
-use mathlib.Core.Bool.{Bool, true, false}
-use mathlib.Core.List.{List, [], _∷_, List·Memᴰ, List·Memᴰ·head, List·Memᴰ·tail}
-use mathlib.Core.Logic.{_⊎_, inl, inr}
-use mathlib.Core.Option.{Option, none, some}
-use mathlib.Core.Path.{_≡_, refl, sym, _∙_, ap}
-use Prim.Native.Nat.{ℕ, zero, suc, _+_, _≤_, _<_}
-use native.Mathlib.Decide.{ℕ-discrete, decLt}
-use native.Mathlib.Nat.{le-refl, le-trans, le-of-eq, le-antisymm}
-use native.Mathlib.Omega.{arith}
-use borrow.Author.Tests.{ltb-true, ltb-false, leb-true, leb-false, eqb-true, lt-ltb, le-ltb, le-leb, lt-leb, eq-eqb, ne-eqb}
-use lib.Dec.{eqb, leb, ltb}
-use lib.ListN.{length, set, replicate, length-set, length-replicate}
+use Rattle.common_laws.proofs.Base.{Bool, true, false, List, [], _∷_, List·Memᴰ, List·Memᴰ·head, List·Memᴰ·tail, _⊎_, inl, inr, Option, none, some, _≡_, refl, sym, _∙_, ap, ℕ}
+use Rattle.common_laws.proofs.Base.{zero, suc, _+_, _≤_, _<_, ℕ-discrete, decLt, le-refl, le-trans, le-of-eq, le-antisymm, arith, ltb-true, ltb-false, leb-true, leb-false}
+use Rattle.common_laws.proofs.Base.{eqb-true, lt-ltb, le-ltb, le-leb, lt-leb, eq-eqb, ne-eqb, eqb, leb, ltb, length, set, replicate, length-set, length-replicate}
 use Rattle.reading.specs.Choice.{pick}
 use Rattle.cost.specs.Cost.{never, _⊕_, capped, lesser, counted}
 use Rattle.cost.proofs.Laws.{sum-mono, sum-left, sum-right, capped-sum}

@@ -1,13 +1,6 @@
 -- Exact numbers of one node, and of two systems.
 -- Assumes nothing.
-use mathlib.Core.List.{List}
-use mathlib.Core.Logic.{_⊎_, inl, inr}
-use mathlib.Core.Option.{some}
-use mathlib.Core.Path.{_≡_, refl, sym, _∙_, ap}
-use Prim.Native.Nat.{ℕ, zero, suc, _+_, _≤_, _<_, min}
-use native.Mathlib.Decide.{ℕ-discrete, decLe}
-use native.Mathlib.Nat.{le-refl}
-use native.Mathlib.Omega.{arith}
+use Rattle.common_laws.proofs.Base.{List, _⊎_, inl, inr, some, _≡_, refl, sym, _∙_, ap, ℕ, zero, suc, _+_, _≤_, _<_, min, ℕ-discrete, decLe, le-refl, arith}
 use Rattle.cost.specs.Cost.{most, over, never, capped}
 use Rattle.plans.specs.System.{
   Way,

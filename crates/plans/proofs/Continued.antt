@@ -1,14 +1,7 @@
 -- Runs that go on from numbers that stand.
 -- Assumes nothing.
-use mathlib.Core.List.{List, [], _∷_, List·Memᴰ, List·Memᴰ·head, List·Memᴰ·tail}
-use mathlib.Core.Logic.{inl, inr}
-use mathlib.Core.Path.{_≡_, refl, sym, _∙_, ap}
-use Prim.Native.Nat.{ℕ, zero, suc, _+_, _-_, _≤_, _<_}
-use native.Mathlib.Decide.{ℕ-discrete, decLt}
-use native.Mathlib.Nat.{le-refl, le-trans, le-of-eq}
-use native.Mathlib.Omega.{arith}
-use lib.ListN.{length, set}
-use lib.Seq.{set-out}
+use Rattle.common_laws.proofs.Base.{List, [], _∷_, List·Memᴰ, List·Memᴰ·head, List·Memᴰ·tail, inl, inr, _≡_, refl, sym, _∙_, ap, ℕ, zero, suc, _+_, _-_, _≤_, _<_, ℕ-discrete}
+use Rattle.common_laws.proofs.Base.{decLt, le-refl, le-trans, le-of-eq, arith, length, set, set-out}
 use Rattle.cost.specs.Cost.{capped}
 use Rattle.cost.proofs.Laws.{sum-mono, capped-sum}
 use Rattle.plans.specs.System.{Way, Visit, System, Offers, Plan, Plan.priced, Plan.chosen, Plans, Plans.done, Plans.also, cost, costs}

@@ -1,15 +1,7 @@
 -- Why the numbers are exact: each is attained by a plan, no plan costs less at rest, and so Exact.
 -- Assumes nothing.
-use mathlib.Core.List.{List, [], _∷_, List·Memᴰ, List·Memᴰ·head, List·Memᴰ·tail}
-use mathlib.Core.Logic.{_⊎_, inl, inr}
-use mathlib.Core.Option.{some}
-use mathlib.Core.Path.{_≡_, refl, sym}
-use Prim.Native.Nat.{ℕ, zero, suc, _≤_, _<_}
-use native.Mathlib.Decide.{ℕ-discrete, decLt}
-use native.Mathlib.Nat.{le-refl, le-trans, le-of-eq}
-use native.Mathlib.Omega.{arith}
-use lib.ListN.{length, set}
-use lib.Seq.{set-out}
+use Rattle.common_laws.proofs.Base.{List, [], _∷_, List·Memᴰ, List·Memᴰ·head, List·Memᴰ·tail, _⊎_, inl, inr, some, _≡_, refl, sym, ℕ, zero, suc, _≤_, _<_, ℕ-discrete, decLt}
+use Rattle.common_laws.proofs.Base.{le-refl, le-trans, le-of-eq, arith, length, set, set-out}
 use Rattle.cost.specs.Cost.{most, over, never, _⊕_, capped, lesser}
 use Rattle.cost.proofs.Laws.{sum-never, sum-mono, capped-sum}
 use Rattle.plans.specs.System.{

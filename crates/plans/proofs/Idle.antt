@@ -1,13 +1,8 @@
 -- Visits that change nothing: when they do so, and when they stay so.
 -- Assumes nothing.
-use mathlib.Core.List.{List, [], _∷_, _++_, append-nil, append-assoc, List·Memᴰ, List·Memᴰ·head, List·Memᴰ·tail, List·Memᴰ·not-nil, List·Memᴰ·append-cases, Memᴰ·append-left, Memᴰ·append-right}
-use mathlib.Core.Logic.{_⊎_, inl, inr, _≢_}
-use mathlib.Core.Path.{_≡_, refl, sym, _∙_, ap}
-use Prim.Native.Nat.{ℕ, zero, suc, _≤_, _<_}
-use native.Mathlib.Decide.{ℕ-discrete, decLe, decLt}
-use native.Mathlib.Nat.{le-trans, le-of-eq, le-antisymm}
-use native.Mathlib.Omega.{arith}
-use lib.ListN.{length}
+use Rattle.common_laws.proofs.Base.{List, [], _∷_, _++_, append-nil, append-assoc, List·Memᴰ, List·Memᴰ·head, List·Memᴰ·tail, List·Memᴰ·not-nil, List·Memᴰ·append-cases}
+use Rattle.common_laws.proofs.Base.{Memᴰ·append-left, Memᴰ·append-right, _⊎_, inl, inr, _≢_, _≡_, refl, sym, _∙_, ap, ℕ, zero, suc, _≤_, _<_, ℕ-discrete, decLe, decLt, le-trans}
+use Rattle.common_laws.proofs.Base.{le-of-eq, le-antisymm, arith, length}
 use Rattle.cost.specs.Cost.{never, capped, lesser}
 use Rattle.cost.proofs.Laws.{sum-left, sum-right}
 use Rattle.plans.specs.System.{Way, Visit}

@@ -1,12 +1,7 @@
 -- What both rules keep: a visit stores one number, at most never, at its own node.
 -- Assumes nothing.
-use mathlib.Core.List.{List, [], _∷_, _++_, List·Memᴰ·head, List·Memᴰ·tail}
-use mathlib.Core.Path.{_≡_, refl, sym, _∙_}
-use Prim.Native.Nat.{ℕ, zero, suc, _≤_, _<_}
-use native.Mathlib.Decide.{ℕ-discrete, decLt}
-use native.Mathlib.Omega.{arith}
-use lib.ListN.{length, set, length-set}
-use lib.Seq.{set-out}
+use Rattle.common_laws.proofs.Base.{List, [], _∷_, _++_, List·Memᴰ·head, List·Memᴰ·tail, _≡_, refl, sym, _∙_, ℕ, zero, suc, _≤_, _<_, ℕ-discrete, decLt, arith, length, set}
+use Rattle.common_laws.proofs.Base.{length-set, set-out}
 use Rattle.cost.specs.Cost.{never, lesser}
 use Rattle.plans.specs.System.{Visit}
 use Rattle.plans.specs.Sweep.{at, least, Rule, renew, lower, sweep, sweeps, Settles, same, Inside, Bounded, Visited}

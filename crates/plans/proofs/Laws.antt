@@ -1,12 +1,7 @@
 -- The theorems that specs/Statements.antt, specs/Stages.antt, specs/Idle.antt and specs/Budget.antt state, and the laws of
 -- tables and sweeps that other crates cite.
 -- Assumes nothing.
-use mathlib.Core.List.{List}
-use mathlib.Core.Path.{refl}
-use Prim.Native.Nat.{ℕ, suc, _+_}
-use native.Mathlib.Nat.{le-refl, le-trans}
-use native.Mathlib.Omega.{arith}
-use lib.ListN.{length}
+use Rattle.common_laws.proofs.Base.{List, refl, ℕ, suc, _+_, le-refl, le-trans, arith, length}
 use Rattle.plans.specs.Sweep.{at, renew, lower, Above, Lowering.keeps, Lowering.renews}
 use Rattle.plans.specs.Statements.{
   AttainedStays,

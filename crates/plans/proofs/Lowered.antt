@@ -1,15 +1,8 @@
 -- Sums and visits against tables that lie under one another: lower numbers have lower sums, and a visit that keeps the
 -- lesser only lowers.
 -- Assumes nothing.
-use mathlib.Core.List.{List, [], _∷_, List·Memᴰ, List·Memᴰ·head, List·Memᴰ·tail}
-use mathlib.Core.Logic.{_⊎_, inl, inr}
-use mathlib.Core.Path.{_≡_, refl, sym, _∙_, ap}
-use Prim.Native.Nat.{ℕ, zero, suc, _≤_, _<_}
-use native.Mathlib.Decide.{decLe}
-use native.Mathlib.Nat.{le-refl, le-trans, le-of-eq}
-use native.Mathlib.Omega.{arith}
-use lib.ListN.{length, set}
-use lib.Seq.{set-out, set-getD}
+use Rattle.common_laws.proofs.Base.{List, [], _∷_, List·Memᴰ, List·Memᴰ·head, List·Memᴰ·tail, _⊎_, inl, inr, _≡_, refl, sym, _∙_, ap, ℕ, zero, suc, _≤_, _<_, decLe, le-refl}
+use Rattle.common_laws.proofs.Base.{le-trans, le-of-eq, arith, length, set, set-out, set-getD}
 use Rattle.cost.specs.Cost.{never, capped, lesser, counted}
 use Rattle.cost.proofs.Laws.{sum-bound, sum-mono}
 use Rattle.plans.specs.System.{Way, Visit}

@@ -1,17 +1,7 @@
 -- The table as numbers by node: what a store changes, when two tables are the same, and when one lies under another.
 -- Assumes nothing.
-use mathlib.Core.Bool.{true}
-use mathlib.Core.List.{List, [], _∷_}
-use mathlib.Core.Logic.{_≢_}
-use mathlib.Core.Path.{_≡_, refl, _∙_, ap₂}
-use Prim.Native.Nat.{ℕ, zero, suc, _≤_, _<_}
-use native.Mathlib.Decide.{ℕ-discrete, decLt}
-use native.Mathlib.Nat.{le-refl, le-trans, le-antisymm}
-use native.Mathlib.Omega.{arith}
-use borrow.Author.Tests.{eqb-true, eq-eqb}
-use lib.Dec.{eqb}
-use lib.ListN.{length, getD, set, length-set}
-use lib.Seq.{getD-set-same, getD-set-other, set-out, ext-getD}
+use Rattle.common_laws.proofs.Base.{true, List, [], _∷_, _≢_, _≡_, refl, _∙_, ap₂, ℕ, zero, suc, _≤_, _<_, ℕ-discrete, decLt, le-refl, le-trans, le-antisymm, arith, eqb-true}
+use Rattle.common_laws.proofs.Base.{eq-eqb, eqb, length, getD, set, length-set, getD-set-same, getD-set-other, set-out, ext-getD}
 use Rattle.reading.proofs.Laws.{and-left, and-right}
 use Rattle.cost.specs.Cost.{never}
 use Rattle.plans.specs.Sweep.{at, same}

@@ -1,10 +1,6 @@
 -- Runs: `run` with fuel enough settles, and what settles is settled by the start.
 -- Assumes nothing.
-use mathlib.Core.Bool.{Bool, true, false}
-use mathlib.Core.List.{List}
-use mathlib.Core.Path.{_≡_, refl, sym, _∙_, ap}
-use Prim.Native.Nat.{ℕ, zero, suc, _≤_, _<_}
-use native.Mathlib.Omega.{arith}
+use Rattle.common_laws.proofs.Base.{Bool, true, false, List, _≡_, refl, sym, _∙_, ap, ℕ, zero, suc, _≤_, _<_, arith}
 use Rattle.plans.specs.System.{Visit}
 use Rattle.reading.specs.Choice.{pick}
 use Rattle.plans.specs.Sweep.{Rule, sweep, sweeps, Rests, Settles, same, Run, afterOne, run}

@@ -1,17 +1,11 @@
 -- The settled row: the way by which a figure was last lowered still sums to it where sweeps have settled.
 -- Were one of its needs lowered later, its sum would be lower now than the number, and the number would not be settled.
 -- Assumes nothing.
-use mathlib.Core.List.{List, [], _∷_, _++_, List·Memᴰ, List·Memᴰ·head, List·Memᴰ·tail, Memᴰ·append-right, append-assoc, append-nil}
-use mathlib.Core.Logic.{_⊎_, inl, inr}
-use mathlib.Core.Option.{Option, none, some, Option·some-injective, Option·none-ne-some}
-use mathlib.Core.Path.{_≡_, refl, sym, _∙_, ap, subst}
-use Prim.Native.Nat.{ℕ, zero, suc, _+_, _*_, _%_, _≤_, _<_, min}
-use native.Mathlib.Decide.{ℕ-discrete, decLe, decLt}
-use native.Mathlib.Nat.{le-refl, le-trans, zero-mul, suc-mul, add-comm, mod-eq-of-lt, add-mul-mod-self-right}
-use native.Mathlib.Omega.{arith}
-use borrow.Author.Tests.{le-leb, lt-leb, lt-ltb, le-ltb}
-use lib.ListN.{length, length-append, set, length-set, replicate, length-replicate, getD-replicate, List·getD-eq-default}
-use lib.Seq.{getD-set-same, getD-set-other, getD-append-add}
+use Rattle.common_laws.proofs.Base.{List, [], _∷_, _++_, List·Memᴰ, List·Memᴰ·head, List·Memᴰ·tail, Memᴰ·append-right, append-assoc, append-nil, _⊎_, inl, inr, Option, none, some}
+use Rattle.common_laws.proofs.Base.{Option·some-injective, Option·none-ne-some, _≡_, refl, sym, _∙_, ap, subst, ℕ, zero, suc, _+_, _*_, _%_, _≤_, _<_, min, ℕ-discrete, decLe}
+use Rattle.common_laws.proofs.Base.{decLt, le-refl, le-trans, zero-mul, suc-mul, add-comm, mod-eq-of-lt, add-mul-mod-self-right, arith, le-leb, lt-leb, lt-ltb, le-ltb, length}
+use Rattle.common_laws.proofs.Base.{length-append, set, length-set, replicate, length-replicate, getD-replicate, List·getD-eq-default, getD-set-same, getD-set-other}
+use Rattle.common_laws.proofs.Base.{getD-append-add}
 use Rattle.cost.specs.Cost.{most, never, _⊕_, capped, counted, lesser}
 use Rattle.reading.specs.Choice.{pick}
 use Rattle.cost.proofs.Laws.{sum-small, sum-exact, sum-left, sum-right}

@@ -1,12 +1,7 @@
 -- Runs one after the other: each stage works on what those before it leave, and what an earlier stage settled stays settled.
 -- Assumes nothing.
-use mathlib.Core.List.{List, [], _∷_, List·Memᴰ, List·Memᴰ·not-nil, List·Memᴰ·append-cases, Memᴰ·append-left, Memᴰ·append-right}
-use mathlib.Core.Logic.{_⊎_, inl, inr, ⊎-elim}
-use mathlib.Core.Option.{Option, none, some}
-use mathlib.Core.Path.{_≡_, refl, sym, _∙_, ap, ap₂}
-use Prim.Native.Nat.{ℕ, _≤_}
-use native.Mathlib.Nat.{le-trans, le-of-eq}
-use native.Mathlib.Omega.{arith}
+use Rattle.common_laws.proofs.Base.{List, [], _∷_, List·Memᴰ, List·Memᴰ·not-nil, List·Memᴰ·append-cases, Memᴰ·append-left, Memᴰ·append-right, _⊎_, inl, inr, ⊎-elim, Option, none}
+use Rattle.common_laws.proofs.Base.{some, _≡_, refl, sym, _∙_, ap, ap₂, ℕ, _≤_, le-trans, le-of-eq, arith}
 use Rattle.plans.specs.System.{Way, Visit, System, Offers, Plan.priced, cost}
 use Rattle.plans.specs.Sweep.{at, way, lower, Rests, Settles, Inside, Visited}
 use Rattle.plans.specs.Exact.{Attained, first}

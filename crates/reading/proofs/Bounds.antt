@@ -1,13 +1,7 @@
 -- What a refusal is told by: its number is one of those that may be, and its line is at most n. Readers show it of what they
 -- read.
 -- Assumes nothing.
-use mathlib.Core.Bool.{Bool, true, false, not, _&&_}
-use mathlib.Core.List.{List, [], _∷_}
-use mathlib.Core.Option.{Option, none, some}
-use mathlib.Core.Path.{_≡_}
-use Prim.Native.Nat.{ℕ, _≤_}
-use lib.Dec.{leb, eqb}
-use borrow.Author.Tests.{not-true}
+use Rattle.common_laws.proofs.Base.{Bool, true, false, not, _&&_, List, [], _∷_, Option, none, some, _≡_, ℕ, _≤_, leb, eqb, not-true}
 use Rattle.reading.specs.Choice.{pick}
 use Rattle.reading.specs.Numbers as No
 use Rattle.reading.specs.Refusal.{Read, refused, read, _>>=_, _>>_, weigh, form}

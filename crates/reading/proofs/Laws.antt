@@ -1,14 +1,8 @@
 -- The laws that readers share: of choices, of what holds of each element of a list, and of what reading comes to; with those
 -- of tests, which are at home in crate `common_laws`.
 -- Assumes nothing.
-use mathlib.Core.Bool.{Bool, true, false}
-use mathlib.Core.List.{List, [], _∷_, _++_, List·Memᴰ, List·Memᴰ·head, List·Memᴰ·tail}
-use mathlib.Core.Option.{Option, none, some}
-use mathlib.Core.Path.{_≡_, refl, sym, subst}
-use Prim.Native.Nat.{ℕ, zero, suc, _≤_, _<_}
-use native.Mathlib.Nat.{not-suc-le-zero, le-of-suc-le-suc}
-use native.Mathlib.Omega.{arith}
-use lib.ListN.{length, getD}
+use Rattle.common_laws.proofs.Base.{Bool, true, false, List, [], _∷_, _++_, List·Memᴰ, List·Memᴰ·head, List·Memᴰ·tail, Option, none, some, _≡_, refl, sym, subst, ℕ, zero, suc, _≤_}
+use Rattle.common_laws.proofs.Base.{_<_, not-suc-le-zero, le-of-suc-le-suc, arith, length, getD}
 pub use Rattle.common_laws.proofs.Tests.{by-test, clash, and-left, and-right, or-left, or-right, or-cases}
 use Rattle.reading.specs.Choice.{pick}
 use Rattle.reading.specs.Each.{Each}

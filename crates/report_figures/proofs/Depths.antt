@@ -1,7 +1,6 @@
 -- Entries that begin with Name3 (02, K2), by computation: one entry written both ways, a chain of depth 7, the longest rows,
 -- and what is refused. Assumes nothing.
-use mathlib.Core.List.{List, [], _∷_, _++_}
-use mathlib.Core.Path.{_≡_, refl}
+use Rattle.common_laws.proofs.Base.{List, [], _∷_, _++_, _≡_, refl}
 use Prim.Native.String.{String}
 use Rattle.text.specs.Bytes.{bytes, text}
 use Rattle.reading.specs.Each.{Each}

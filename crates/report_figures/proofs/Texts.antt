@@ -1,10 +1,6 @@
 -- Closed instances of the definitions, by computation: what a text, a field and a refusal come to.
 -- Assumes nothing.
-use mathlib.Core.Bool.{true, false}
-use mathlib.Core.List.{List, [], _∷_}
-use mathlib.Core.Option.{Option, none, some}
-use mathlib.Core.Path.{_≡_, refl}
-use Prim.Native.Nat.{ℕ}
+use Rattle.common_laws.proofs.Base.{true, false, List, [], _∷_, Option, none, some, _≡_, refl, ℕ}
 use Rattle.sizes.specs.Sizes as Size
 use Rattle.text.specs.Bytes.{bytes, text, bytes-open}
 use Rattle.text.specs.Class.{classOf, class-open}

@@ -1,7 +1,6 @@
 -- Cells without pins and groups without rows (02, K1), by computation: what a tie cell's entry comes to, whole reports, and
 -- what is refused. Assumes nothing.
-use mathlib.Core.List.{List, [], _∷_, _++_}
-use mathlib.Core.Path.{_≡_, refl}
+use Rattle.common_laws.proofs.Base.{List, [], _∷_, _++_, _≡_, refl}
 use Prim.Native.String.{String}
 use Rattle.text.specs.Bytes.{bytes, text}
 use Rattle.reading.specs.Each.{Each}

@@ -1,13 +1,7 @@
 -- The laws of the report's bytes: what the report depends on, and how long it is.
 -- Assumes nothing.
-use mathlib.Core.Bool.{Bool}
-use mathlib.Core.List.{List, [], _∷_, _++_}
-use mathlib.Core.Path.{_≡_, refl, ap}
-use Prim.Native.Nat.{ℕ, zero, suc, _+_, _*_, _-_, _^_, _≤_, _<_, min}
-use native.Mathlib.Omega.{arith}
-use lib.Dec.{leb, ltb, eqb}
-use lib.ListN.{length, getD, length-append}
-use borrow.Author.Tests.{leb-false, ltb-true, ltb-false, eqb-false}
+use Rattle.common_laws.proofs.Base.{Bool, List, [], _∷_, _++_, _≡_, refl, ap, ℕ, zero, suc, _+_, _*_, _-_, _^_, _≤_, _<_, min, arith, leb, ltb, eqb, length, getD, length-append}
+use Rattle.common_laws.proofs.Base.{leb-false, ltb-true, ltb-false, eqb-false}
 use Rattle.sizes.specs.Sizes as Size
 use Rattle.sizes.specs.Places.{linePlace}
 use Rattle.cost.specs.Cost.{over, never}

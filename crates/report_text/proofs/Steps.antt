@@ -1,12 +1,7 @@
 -- What the functions that write a report share: a cost more, a line more.
 -- Assumes nothing.
-use mathlib.Core.Bool.{Bool, false}
-use mathlib.Core.List.{List, [], _∷_, _++_, append-nil, append-assoc}
-use mathlib.Core.Path.{_≡_, sym, ap, _∙_}
-use Prim.Native.Nat.{ℕ, zero, suc, _+_, _-_, _≤_, _<_}
-use native.Mathlib.Nat.{add-zero, add-suc, suc-add}
-use native.Mathlib.Omega.{arith}
-use lib.ListN.{getD}
+use Rattle.common_laws.proofs.Base.{Bool, false, List, [], _∷_, _++_, append-nil, append-assoc, _≡_, sym, ap, _∙_, ℕ, zero, suc, _+_, _-_, _≤_, _<_, add-zero, add-suc, suc-add}
+use Rattle.common_laws.proofs.Base.{arith, getD}
 use Rattle.sizes.specs.Sizes as Size
 use Rattle.reading.specs.Choice.{pick}
 use Rattle.report_text.specs.Report.{costBytes, costsFrom, lineBytes, linesBytes}

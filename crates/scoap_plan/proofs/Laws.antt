@@ -1,9 +1,6 @@
 -- What the words of a command line come to, by their number.
 -- Assumes nothing.
-use mathlib.Core.List.{List}
-use mathlib.Core.Path.{_≡_, refl}
-use Prim.Native.Nat.{ℕ}
-use borrow.Author.Tests.{eq-eqb, ne-eqb}
+use Rattle.common_laws.proofs.Base.{List, _≡_, refl, ℕ, eq-eqb, ne-eqb}
 use Rattle.reading.specs.Choice.{pick}
 use Rattle.text.specs.Numeral.{decimal}
 use Rattle.scoap_plan.specs.declared.arguments.Arguments.{Arguments}

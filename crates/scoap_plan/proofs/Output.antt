@@ -1,11 +1,6 @@
 -- What is printed of good arguments and of bad ones, from what the parts of the program put into the buffer.
 -- Assumes nothing.
-use mathlib.Core.List.{List, [], _∷_}
-use mathlib.Core.Bool.{_||_}
-use mathlib.Core.Path.{_≡_, refl}
-use Prim.Native.Nat.{ℕ}
-use native.Mathlib.Omega.{arith}
-use lib.ListN.{length, replicate}
+use Rattle.common_laws.proofs.Base.{List, [], _∷_, _||_, _≡_, refl, ℕ, arith, length, replicate}
 use Rattle.sizes.specs.Sizes as Size
 use Rattle.reading.specs.Choice.{pick}
 use Rattle.reading.specs.Numbers as No

@@ -1,12 +1,6 @@
 -- The analysis that is to stand: what is promised follows from what the analysis answers and leaves.
 -- Assumes nothing.
-use mathlib.Core.Bool.{true, false}
-use mathlib.Core.List.{List, [], _++_, append-nil}
-use mathlib.Core.Path.{_≡_, refl, sym, ap, subst, _∙_}
-use Prim.Native.Nat.{ℕ, _<_}
-use native.Mathlib.Omega.{arith}
-use lib.ListN.{length, drop, replicate, length-replicate}
-use lib.Seq.{drop-length}
+use Rattle.common_laws.proofs.Base.{true, false, List, [], _++_, append-nil, _≡_, refl, sym, ap, subst, _∙_, ℕ, _<_, arith, length, drop, replicate, length-replicate, drop-length}
 use Rattle.sizes.specs.Sizes as Size
 use Rattle.reading.specs.Choice.{pick}
 use Rattle.reading.specs.Numbers as No

@@ -1,12 +1,6 @@
 -- A standing analysis in its table: what the calls come to of it, and what its numbers mean.
 -- Assumes nothing.
-use mathlib.Core.Bool.{false}
-use mathlib.Core.List.{List, _++_}
-use mathlib.Core.Path.{_≡_, sym, ap, subst, _∙_}
-use Prim.Native.Nat.{ℕ, _+_, _≤_, _<_}
-use native.Mathlib.Omega.{arith}
-use borrow.Author.Tests.{le-ltb}
-use lib.ListN.{length, getD, drop, length-append}
+use Rattle.common_laws.proofs.Base.{false, List, _++_, _≡_, sym, ap, subst, _∙_, ℕ, _+_, _≤_, _<_, arith, le-ltb, length, getD, drop, length-append}
 use Rattle.sizes.specs.Sizes as Size
 use Rattle.reading.specs.Choice.{pick}
 use Rattle.reading.specs.Refusal.{Read, read, _>>=_, _>>_, weigh}

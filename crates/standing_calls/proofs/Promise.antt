@@ -1,15 +1,7 @@
 -- Asking and committing: what is promised follows from what is answered and left.
 -- Assumes nothing.
-use mathlib.Core.Bool.{Bool, true, false, not, _||_}
-use mathlib.Core.List.{List, [], _∷_, _++_}
-use mathlib.Core.Logic.{inl, inr}
-use mathlib.Core.Path.{_≡_, refl, sym, ap, subst, _∙_}
-use Prim.Native.Nat.{ℕ, _≤_, _<_}
-use native.Mathlib.Omega.{arith}
-use borrow.Author.Tests.{ltb-false, not-false}
-use lib.Dec.{ltb}
-use lib.ListN.{length, getD, drop, List·getD-append}
-use lib.Seq.{ext-getD}
+use Rattle.common_laws.proofs.Base.{Bool, true, false, not, _||_, List, [], _∷_, _++_, inl, inr, _≡_, refl, sym, ap, subst, _∙_, ℕ, _≤_, _<_, arith, ltb-false, not-false, ltb}
+use Rattle.common_laws.proofs.Base.{length, getD, drop, List·getD-append, ext-getD}
 use Rattle.sizes.specs.Sizes as Size
 use Rattle.sizes.specs.Places.{observingPlace}
 use Rattle.reading.specs.Choice.{pick}

@@ -1,9 +1,6 @@
 -- The netlist read again, and its pads marked.
 -- Assumes nothing.
-use mathlib.Core.List.{List}
-use mathlib.Core.Path.{_≡_, refl, sym, subst}
-use Prim.Native.Nat.{ℕ}
-use lib.ListN.{drop}
+use Rattle.common_laws.proofs.Base.{List, _≡_, refl, sym, subst, ℕ, drop}
 use Rattle.sizes.specs.Sizes as Size
 use Rattle.reading.specs.Refusal.{Read, read}
 use Rattle.reading.specs.Verdict.{verdictRead}

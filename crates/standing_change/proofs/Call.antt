@@ -1,13 +1,7 @@
 -- Reading the netlist again, reading the new library, and the call, from what their parts leave.
 -- Assumes nothing.
-use mathlib.Core.Bool.{Bool, true, false, not, _||_, or-true}
-use mathlib.Core.List.{List, [], _++_}
-use mathlib.Core.Path.{_≡_, refl, sym, ap, subst, _∙_}
-use Prim.Native.Nat.{ℕ, _≤_, _<_}
-use native.Mathlib.Omega.{arith}
-use borrow.Author.Tests.{not-false, ltb-false, le-ltb, lt-ltb}
-use lib.Dec.{ltb}
-use lib.ListN.{length, getD, drop, length-append, length-drop}
+use Rattle.common_laws.proofs.Base.{Bool, true, false, not, _||_, or-true, List, [], _++_, _≡_, refl, sym, ap, subst, _∙_, ℕ, _≤_, _<_, arith, not-false, ltb-false, le-ltb, lt-ltb}
+use Rattle.common_laws.proofs.Base.{ltb, length, getD, drop, length-append, length-drop}
 use Rattle.sizes.specs.Sizes as Size
 use Rattle.reading.specs.Choice.{pick}
 use Rattle.reading.specs.Numbers as No

@@ -1,9 +1,6 @@
 -- Every list of calls: by the promise of each.
 -- Assumes nothing.
-use mathlib.Core.Bool.{Bool, true, false}
-use mathlib.Core.List.{List, [], _∷_, map}
-use mathlib.Core.Path.{_≡_, refl, sym, ap, subst, _∙_}
-use Prim.Native.Nat.{ℕ}
+use Rattle.common_laws.proofs.Base.{Bool, true, false, List, [], _∷_, map, _≡_, refl, sym, ap, subst, _∙_, ℕ}
 use Rattle.reading.specs.Choice.{pick}
 use Rattle.reading.specs.Numbers as No
 use Rattle.reading.specs.Refusal.{Read, refused, read, _>>_, _>>=_, weigh}

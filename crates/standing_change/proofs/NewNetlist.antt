@@ -1,11 +1,6 @@
 -- The netlist under the cells of the new library, with the pads that stand: what a change comes to, whatever the numbers are.
 -- Assumes nothing.
-use mathlib.Core.Bool.{Bool, true, false}
-use mathlib.Core.List.{List, [], _∷_, _++_}
-use mathlib.Core.Path.{_≡_, refl, sym, ap, _∙_}
-use Prim.Native.Nat.{ℕ}
-use borrow.Author.Tests.{le-ltb}
-use lib.ListN.{length, drop}
+use Rattle.common_laws.proofs.Base.{Bool, true, false, List, [], _∷_, _++_, _≡_, refl, sym, ap, _∙_, ℕ, le-ltb, length, drop}
 use Rattle.sizes.specs.Sizes as Size
 use Rattle.reading.specs.Choice.{pick}
 use Rattle.reading.specs.Numbers as No

@@ -1,10 +1,6 @@
 -- What a change promises, from what it answers and leaves.
 -- Assumes nothing.
-use mathlib.Core.Bool.{Bool, true, false, _||_, or-false}
-use mathlib.Core.List.{List, [], _∷_, _++_}
-use mathlib.Core.Path.{_≡_, refl, sym, ap, subst, _∙_}
-use Prim.Native.Nat.{ℕ}
-use lib.ListN.{drop}
+use Rattle.common_laws.proofs.Base.{Bool, true, false, _||_, or-false, List, [], _∷_, _++_, _≡_, refl, sym, ap, subst, _∙_, ℕ, drop}
 use Rattle.sizes.specs.Sizes as Size
 use Rattle.reading.specs.Choice.{pick}
 use Rattle.reading.specs.Numbers as No

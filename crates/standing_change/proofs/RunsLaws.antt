@@ -1,11 +1,7 @@
 -- The runs from the numbers of a standing table, and those from the beginning, as they are stored.
 -- Assumes nothing.
-use mathlib.Core.List.{List, [], _++_, append-nil}
-use mathlib.Core.Path.{_≡_, refl, sym, ap, _∙_}
-use Prim.Native.Nat.{ℕ, _≤_}
-use native.Mathlib.Nat.{le-of-eq}
-use native.Mathlib.Omega.{arith}
-use lib.ListN.{length, getD, take, drop, replicate, length-take, length-drop, length-replicate, drop-of-length-le}
+use Rattle.common_laws.proofs.Base.{List, [], _++_, append-nil, _≡_, refl, sym, ap, _∙_, ℕ, _≤_, le-of-eq, arith, length, getD, take, drop, replicate, length-take, length-drop}
+use Rattle.common_laws.proofs.Base.{length-replicate, drop-of-length-le}
 use Rattle.sizes.specs.Sizes as Size
 use Rattle.plans.proofs.Laws.{lowered-under}
 use Rattle.library_table.specs.Cells.{Cell}

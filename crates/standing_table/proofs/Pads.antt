@@ -1,15 +1,8 @@
 -- Pads on tables that hold accepted cells and statements.
 -- Assumes nothing.
-use mathlib.Core.Bool.{true, false, true≢false}
-use mathlib.Core.List.{List, [], _∷_, _++_, append-nil}
-use mathlib.Core.Option.{some}
-use mathlib.Core.Path.{_≡_, refl, sym, _∙_, ap}
-use Prim.Native.Nat.{ℕ, suc, _≤_, _<_}
-use native.Mathlib.Omega.{arith}
-use borrow.Author.Tests.{lt-ltb, le-ltb, not-true, not-false}
-use lib.Dec.{eqb, ltb}
-use lib.ListN.{length, getD, take, drop, length-take, length-drop, take-append-drop}
-use lib.Seq.{take-suc, take-take, drop-cons, getD-take, length-take-le}
+use Rattle.common_laws.proofs.Base.{true, false, true≢false, List, [], _∷_, _++_, append-nil, some, _≡_, refl, sym, _∙_, ap, ℕ, suc, _≤_, _<_, arith, lt-ltb, le-ltb, not-true}
+use Rattle.common_laws.proofs.Base.{not-false, eqb, ltb, length, getD, take, drop, length-take, length-drop, take-suc, take-take, drop-cons, getD-take, length-take-le}
+use lib.ListN.{take-append-drop}
 use Rattle.sizes.specs.Sizes as Size
 use Rattle.reading.specs.Choice.{pick}
 use Rattle.reading.specs.Numbers as No

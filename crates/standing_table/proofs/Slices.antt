@@ -1,12 +1,6 @@
 -- A part of a lent slice that reaches to its end, as the numbers of a standing table do.
 -- Assumes nothing.
-use mathlib.Core.List.{List, [], _++_, append-nil}
-use mathlib.Core.Path.{_≡_, ap, _∙_}
-use Prim.Native.Nat.{ℕ, _-_, _≤_}
-use native.Mathlib.Nat.{le-of-eq}
-use native.Mathlib.Omega.{arith}
-use lib.ListN.{length, take, drop, length-drop, drop-of-length-le}
-use lib.Seq.{take-all}
+use Rattle.common_laws.proofs.Base.{List, [], _++_, append-nil, _≡_, ap, _∙_, ℕ, _-_, _≤_, le-of-eq, arith, length, take, drop, length-drop, drop-of-length-le, take-all}
 use borrow.Rule.Slice.PartMut.{putMid}
 use Rattle.sizes.specs.Sizes as Size
 use Rattle.calculation.specs.Stored.{Ready}

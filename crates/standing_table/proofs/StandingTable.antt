@@ -1,11 +1,8 @@
 -- What stands where in a standing table, and what its stores leave.
 -- Assumes nothing.
-use mathlib.Core.List.{List, [], _∷_, _++_, map, append-assoc}
-use mathlib.Core.Path.{_≡_, refl, sym, ap, ap₂, _∙_}
-use Prim.Native.Nat.{ℕ, suc, min, _+_, _-_, _≤_, _<_}
-use native.Mathlib.Omega.{arith}
-use lib.ListN.{length, getD, set, take, drop, replicate, length-append, length-take, length-drop, List·getD-append}
-use lib.Seq.{take-add, take-at, take-suc-set, drop-at, drop-drop, drop-set-add, drop-set-lt, length-take-le, getD-drop}
+use Rattle.common_laws.proofs.Base.{List, [], _∷_, _++_, map, append-assoc, _≡_, refl, sym, ap, ap₂, _∙_, ℕ, suc, min, _+_, _-_, _≤_, _<_, arith, length, getD, set, take, drop}
+use Rattle.common_laws.proofs.Base.{replicate, length-append, length-take, length-drop, List·getD-append, take-at, take-suc-set, drop-at, drop-drop, length-take-le, getD-drop}
+use lib.Seq.{take-add, drop-set-add, drop-set-lt}
 use Rattle.sizes.specs.Sizes as Size
 use Rattle.sizes.specs.Places.{observingPlace}
 use Rattle.table.specs.Blocks.{fitted, cleared}

@@ -1,13 +1,6 @@
 -- Both texts, the pads of a standing table, and one pad more, one after the other.
 -- Assumes nothing.
-use mathlib.Core.Bool.{Bool, true, false, not}
-use mathlib.Core.List.{List, [], _∷_}
-use mathlib.Core.Path.{_≡_, refl, sym, ap, subst, _∙_}
-use Prim.Native.Nat.{ℕ}
-use native.Mathlib.Nat.{le-of-eq}
-use borrow.Author.Tests.{le-ltb, not-false}
-use lib.Dec.{ltb}
-use lib.ListN.{length, replicate, length-replicate}
+use Rattle.common_laws.proofs.Base.{Bool, true, false, not, List, [], _∷_, _≡_, refl, sym, ap, subst, _∙_, ℕ, le-of-eq, le-ltb, not-false, ltb, length, replicate, length-replicate}
 use Rattle.sizes.specs.Sizes as Size
 use Rattle.reading.specs.Choice.{pick}
 use Rattle.reading.specs.Numbers as No

@@ -1,17 +1,7 @@
 -- A row that another dominates: its sum is no lower, whatever the costs, so that the least row sum is the same without it.
 -- Assumes nothing.
-use mathlib.Core.Bool.{true}
-use mathlib.Core.List.{List, [], _∷_}
-use mathlib.Core.Logic.{inl}
-use mathlib.Core.Option.{some}
-use mathlib.Core.Path.{_≡_, refl, sym, _∙_}
-use Prim.Native.Nat.{ℕ, zero, suc, _+_, _*_, _-_, _/_, _%_, _≤_, _<_}
-use native.Mathlib.Nat.{le-refl}
-use native.Mathlib.Omega.{arith}
-use borrow.Author.Tests.{eqb-true, leb-true}
-use lib.Bits.{bitAnd, and-step}
-use lib.Dec.{eqb, leb}
-use lib.ListN.{getD}
+use Rattle.common_laws.proofs.Base.{true, List, [], _∷_, inl, some, _≡_, refl, sym, _∙_, ℕ, zero, suc, _+_, _*_, _-_, _/_, _%_, _≤_, _<_, le-refl, arith, eqb-true, leb-true}
+use Rattle.common_laws.proofs.Base.{bitAnd, and-step, eqb, leb, getD}
 use Rattle.common_laws.proofs.Tests.{and-left, and-right}
 use Rattle.sizes.specs.Sizes as Size
 use Rattle.cost.specs.Cost.{never, counted, lesser}

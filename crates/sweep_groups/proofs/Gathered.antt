@@ -1,16 +1,8 @@
 -- The costs of a gate's columns, gathered out of the numbers table: one column after the other, and what the rows come to over
 -- them.
 -- Assumes nothing.
-use mathlib.Core.Bool.{Bool, true, false}
-use mathlib.Core.List.{List}
-use mathlib.Core.Option.{Option, none, some}
-use mathlib.Core.Path.{_≡_, refl, sym, ap, ap₂, _∙_}
-use Prim.Native.Nat.{ℕ, zero, suc, _+_, _*_, _-_, _/_, _%_, _^_, _≤_, _<_}
-use native.Mathlib.Decide.{ℕ-discrete}
-use native.Mathlib.Omega.{arith}
-use lib.ListN.{length, getD, set, length-set}
-use lib.Pow.{pow-mono}
-use lib.Seq.{getD-set-same, getD-set-other}
+use Rattle.common_laws.proofs.Base.{Bool, true, false, List, Option, none, some, _≡_, refl, sym, ap, ap₂, _∙_, ℕ, zero, suc, _+_, _*_, _-_, _/_, _%_, _^_, _≤_, _<_, ℕ-discrete}
+use Rattle.common_laws.proofs.Base.{arith, length, getD, set, length-set, pow-mono, getD-set-same, getD-set-other}
 use Rattle.sizes.specs.Sizes as Size
 use Rattle.reading.specs.Choice.{pick}
 use Rattle.sweep_wires.specs.Wires.{onceColumns, bothColumns}

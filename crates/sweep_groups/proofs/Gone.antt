@@ -1,8 +1,6 @@
 -- "For every row the columns gone to are exactly the named ones, each once, lowest first."
 -- Assumes nothing.
-use mathlib.Core.List.{map}
-use mathlib.Core.Path.{_≡_, refl, _∙_}
-use Prim.Native.Nat.{ℕ, _+_, _*_, _-_, _^_, _≤_, _<_}
+use Rattle.common_laws.proofs.Base.{map, _≡_, refl, _∙_, ℕ, _+_, _*_, _-_, _^_, _≤_, _<_}
 use Rattle.sizes.specs.Sizes as Size
 use Rattle.library_table.specs.Cells.{bitOf, settingColumns, observingColumns, named}
 use Rattle.library_table.specs.Library.{columnCount}

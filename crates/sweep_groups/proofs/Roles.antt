@@ -1,12 +1,6 @@
 -- What goes by the role, 0 setting and 1 observing.
 -- Assumes nothing.
-use mathlib.Core.List.{List}
-use mathlib.Core.Path.{_≡_}
-use Prim.Native.Nat.{ℕ, _+_, _*_, _≤_, _<_}
-use native.Mathlib.Decide.{ℕ-discrete}
-use native.Mathlib.Omega.{arith}
-use lib.ListN.{getD}
-use borrow.Author.Tests.{eq-eqb, ne-eqb}
+use Rattle.common_laws.proofs.Base.{List, _≡_, ℕ, _+_, _*_, _≤_, _<_, ℕ-discrete, arith, getD, eq-eqb, ne-eqb}
 use Rattle.sizes.specs.Sizes as Size
 use Rattle.sizes.specs.Places.{settingPlace, observingPlace}
 use Rattle.reading.specs.Choice.{pick}

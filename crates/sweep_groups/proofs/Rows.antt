@@ -1,13 +1,6 @@
 -- Rows of the library table at a gate: where their columns stand, and their sums over the columns' costs.
 -- Assumes nothing.
-use mathlib.Core.List.{List}
-use mathlib.Core.Option.{Option, none, some}
-use mathlib.Core.Path.{_≡_, refl, ap, _∙_}
-use Prim.Native.Nat.{ℕ, suc, _+_, _*_, _-_, _/_, _%_, _≤_, _<_}
-use native.Mathlib.Decide.{decLe}
-use native.Mathlib.Omega.{arith}
-use lib.ListN.{getD}
-use borrow.Author.Tests.{le-leb, lt-leb}
+use Rattle.common_laws.proofs.Base.{List, Option, none, some, _≡_, refl, ap, _∙_, ℕ, suc, _+_, _*_, _-_, _/_, _%_, _≤_, _<_, decLe, arith, getD, le-leb, lt-leb}
 use Rattle.sizes.specs.Sizes as Size
 use Rattle.sizes.specs.Places.{settingPlace, observingPlace}
 use Rattle.cost.specs.Cost.{over, never, capped}

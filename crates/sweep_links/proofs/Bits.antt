@@ -1,13 +1,10 @@
 -- Bits of a number: of a power, of what `|` and `^` give, and the lowest one that is set.
 -- Assumes nothing.
-use mathlib.Core.Path.{_≡_, refl, sym, ap, _∙_}
-use Prim.Native.Nat.{ℕ, zero, suc, _+_, _*_, _-_, _/_, _%_, _^_, _≤_, _<_, max}
-use native.Mathlib.Nat.{pow-suc, zero-div, div-self, div-eq-of-lt, lt-of-lt-of-le}
-use native.Mathlib.Numerals.{one-add}
-use native.Mathlib.Omega.{arith}
-use lib.Bits.{bitOr, bitXor, differ, or-step, xor-step, or-shr, xor-shr}
-use lib.Count.{trailingZeros, under}
-use lib.Pow.{pow-pos, pow-mono, shr-shr, shl-exact}
+use Rattle.common_laws.proofs.Base.{_≡_, refl, sym, ap, _∙_, ℕ, zero, suc, _+_, _*_, _-_, _/_, _%_, _^_, _≤_, _<_, max, pow-suc, div-eq-of-lt, one-add, arith, bitOr, bitXor}
+use Rattle.common_laws.proofs.Base.{differ, trailingZeros, pow-pos, pow-mono, shr-shr, shl-exact}
+use native.Mathlib.Nat.{zero-div, div-self, lt-of-lt-of-le}
+use lib.Bits.{or-step, xor-step, or-shr, xor-shr}
+use lib.Count.{under}
 use Rattle.sizes.specs.Sizes as Size
 use Rattle.sweep_links.specs.Turns.{binaryDigit}
 

@@ -1,13 +1,7 @@
 -- The highest place of each line, one place after the other; and the parts of the links.
 -- Assumes nothing.
-use mathlib.Core.Bool.{Bool, true, false}
-use mathlib.Core.List.{List}
-use mathlib.Core.Path.{_≡_, refl, sym, ap, _∙_}
-use Prim.Native.Nat.{ℕ, _+_, _-_, _≤_, _<_}
-use native.Mathlib.Decide.{ℕ-discrete}
-use native.Mathlib.Omega.{arith}
-use lib.ListN.{length, getD, set, replicate, length-set, length-replicate, getD-replicate}
-use lib.Seq.{getD-set-same, getD-set-other}
+use Rattle.common_laws.proofs.Base.{Bool, true, false, List, _≡_, refl, sym, ap, _∙_, ℕ, _+_, _-_, _≤_, _<_, ℕ-discrete, arith, length, getD, set, replicate, length-set}
+use Rattle.common_laws.proofs.Base.{length-replicate, getD-replicate, getD-set-same, getD-set-other}
 use Rattle.sizes.specs.Sizes as Size
 use Rattle.reading.specs.Choice.{pick}
 use Rattle.sweep_groups.specs.Tables.{gateTied}

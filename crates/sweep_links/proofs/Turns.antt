@@ -1,18 +1,8 @@
 -- The set after a word is stored, and the next turn that is awake.
 -- Assumes nothing.
-use mathlib.Core.List.{List}
-use mathlib.Core.Path.{_≡_, sym, ap, ap₂, _∙_}
-use Prim.Native.Nat.{ℕ, _+_, _*_, _-_, _/_, _%_, _^_, _≤_, _<_}
-use native.Mathlib.Decide.{ℕ-discrete}
-use native.Mathlib.Nat.{lt-of-not-le}
-use native.Mathlib.Omega.{arith}
-use borrow.Author.Tests.{ltb-true, ltb-false}
-use lib.Bits.{bitOr, bitXor, differ}
-use lib.Count.{trailingZeros}
-use lib.Dec.{ltb}
-use lib.ListN.{length, getD, set, length-set}
+use Rattle.common_laws.proofs.Base.{List, _≡_, sym, ap, ap₂, _∙_, ℕ, _+_, _*_, _-_, _/_, _%_, _^_, _≤_, _<_, ℕ-discrete, lt-of-not-le, arith, ltb-true, ltb-false, bitOr, bitXor}
+use Rattle.common_laws.proofs.Base.{differ, trailingZeros, ltb, length, getD, set, length-set, getD-set-same, getD-set-other}
 use lib.Pow.{shr-le}
-use lib.Seq.{getD-set-same, getD-set-other}
 use Rattle.sizes.specs.Sizes as Size
 use Rattle.reading.proofs.Laws.{by-test}
 use Rattle.sweep_links.specs.Turns.{binaryDigit, bitAt, Woken, Rested}

@@ -1,15 +1,8 @@
 -- Numbers that stand, kept as costs: the values alone, or all.
 -- Assumes nothing.
-use mathlib.Core.Bool.{Bool, true, false}
-use mathlib.Core.List.{List, [], _∷_, map}
-use mathlib.Core.Path.{_≡_, refl, sym, _∙_, ap}
-use Prim.Native.Nat.{ℕ, zero, suc, _+_, _%_, _≤_, _<_}
-use native.Mathlib.Decide.{ℕ-discrete, decLt}
-use native.Mathlib.Nat.{le-refl}
-use native.Mathlib.Omega.{arith}
-use borrow.Author.Tests.{lt-ltb, le-ltb}
-use lib.ListN.{length, getD, set, take, length-set, length-map, List·getD-eq-default}
-use lib.Seq.{ext-getD, getD-set-same, getD-set-other, getD-take, length-take-le}
+use Rattle.common_laws.proofs.Base.{Bool, true, false, List, [], _∷_, map, _≡_, refl, sym, _∙_, ap, ℕ, zero, suc, _+_, _%_, _≤_, _<_, ℕ-discrete, decLt, le-refl, arith, lt-ltb}
+use Rattle.common_laws.proofs.Base.{le-ltb, length, getD, set, take, length-set, length-map, List·getD-eq-default, ext-getD, getD-set-same, getD-set-other, getD-take}
+use Rattle.common_laws.proofs.Base.{length-take-le}
 use Rattle.sizes.specs.Sizes as Size
 use Rattle.reading.specs.Choice.{pick}
 use Rattle.reading.proofs.Laws.{by-test}

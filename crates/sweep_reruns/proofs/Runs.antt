@@ -1,10 +1,6 @@
 -- The runs from numbers that were kept, at the tables of accepted cells and statements.
 -- Assumes nothing.
-use mathlib.Core.Bool.{false}
-use mathlib.Core.List.{List, [], _∷_}
-use mathlib.Core.Path.{_≡_, sym, _∙_, ap}
-use Prim.Native.Nat.{ℕ, _≤_}
-use lib.ListN.{length}
+use Rattle.common_laws.proofs.Base.{false, List, [], _∷_, _≡_, sym, _∙_, ap, ℕ, _≤_, length}
 use Rattle.sizes.specs.Sizes as Size
 use Rattle.plans.specs.Sweep.{Bounded}
 use Rattle.plans.specs.Stages.{Stages, Stages.ended, Stages.stage}

@@ -1,11 +1,6 @@
 -- A pad on trial: the turns that a run from the numbers that stand begins with. Document 02, K13.
 -- Assumes nothing.
-use mathlib.Core.List.{List, List·Memᴰ}
-use mathlib.Core.Path.{_≡_, refl, sym, _∙_, subst}
-use Prim.Native.Nat.{ℕ, _+_, _*_, _-_, _≤_, _<_}
-use native.Mathlib.Decide.{ℕ-discrete}
-use native.Mathlib.Omega.{arith}
-use lib.ListN.{length, getD, set, length-set}
+use Rattle.common_laws.proofs.Base.{List, List·Memᴰ, _≡_, refl, sym, _∙_, subst, ℕ, _+_, _*_, _-_, _≤_, _<_, ℕ-discrete, arith, length, getD, set, length-set}
 use Rattle.sizes.specs.Sizes as Size
 use Rattle.reading.specs.Choice.{pick}
 use Rattle.plans.specs.System.{Visit}

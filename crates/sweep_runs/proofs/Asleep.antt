@@ -1,11 +1,6 @@
 -- Turns that are passed over: why a sweep from one awake turn to the next is the whole sweep.
 -- Assumes nothing.
-use mathlib.Core.Bool.{Bool, false, or-false}
-use mathlib.Core.List.{List, [], _∷_, _++_, List·Memᴰ·head, List·Memᴰ·tail}
-use mathlib.Core.Path.{_≡_, refl, sym, ap, _∙_}
-use Prim.Native.Nat.{ℕ, _-_, _≤_, _<_}
-use native.Mathlib.Omega.{arith}
-use lib.ListN.{getD}
+use Rattle.common_laws.proofs.Base.{Bool, false, or-false, List, [], _∷_, _++_, List·Memᴰ·head, List·Memᴰ·tail, _≡_, refl, sym, ap, _∙_, ℕ, _-_, _≤_, _<_, arith, getD}
 use Rattle.sizes.specs.Sizes as Size
 use Rattle.plans.specs.System.{Visit}
 use Rattle.plans.specs.Sweep.{at, lower, sweep, Lowering.keeps}

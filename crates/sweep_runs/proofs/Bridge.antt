@@ -1,14 +1,8 @@
 -- The sweeps over the tables of accepted cells and statements: read place for place they are those of crate `calculation`, and
 -- so is the start.
 -- Assumes nothing.
-use mathlib.Core.Bool.{Bool, true, false}
-use mathlib.Core.List.{List, [], _∷_, _++_, append-nil, append-assoc}
-use mathlib.Core.Path.{_≡_, refl, sym, ap, ap₂, _∙_}
-use Prim.Native.Nat.{ℕ, zero, suc, _+_, _*_, _-_, _/_, _%_, _≤_, _<_}
-use native.Mathlib.Omega.{arith}
-use borrow.Author.Tests.{ne-eqb}
-use lib.Dec.{eqb}
-use lib.ListN.{length, getD}
+use Rattle.common_laws.proofs.Base.{Bool, true, false, List, [], _∷_, _++_, append-nil, append-assoc, _≡_, refl, sym, ap, ap₂, _∙_, ℕ, zero, suc, _+_, _*_, _-_, _/_, _%_, _≤_, _<_}
+use Rattle.common_laws.proofs.Base.{arith, ne-eqb, eqb, length, getD}
 use Rattle.sizes.specs.Sizes as Size
 use Rattle.cost.specs.Cost.{never}
 use Rattle.plans.specs.System.{Visit}

@@ -1,12 +1,6 @@
 -- The four runs at the tables of accepted cells and statements.
 -- Assumes nothing.
-use mathlib.Core.Bool.{Bool}
-use mathlib.Core.List.{List, [], _∷_, _++_}
-use mathlib.Core.Path.{_≡_, refl, sym, ap, _∙_}
-use Prim.Native.Nat.{ℕ, _+_, _*_, _≤_}
-use native.Mathlib.Nat.{le-trans}
-use native.Mathlib.Omega.{arith}
-use lib.ListN.{length, getD, replicate}
+use Rattle.common_laws.proofs.Base.{Bool, List, [], _∷_, _++_, _≡_, refl, sym, ap, _∙_, ℕ, _+_, _*_, _≤_, le-trans, arith, length, getD, replicate}
 use Rattle.sizes.specs.Sizes as Size
 use Rattle.plans.specs.System.{Visit}
 use Rattle.plans.specs.Sweep.{lower, Settles, Bounded}

@@ -1,10 +1,6 @@
 -- The lines of the gates, at the tables of accepted cells and statements: which gates need a line, for the links that tell it.
 -- Assumes nothing.
-use mathlib.Core.List.{List, _∷_, _++_, List·Memᴰ, Memᴰ·map, Memᴰ·of-map}
-use mathlib.Core.Path.{_≡_, refl, sym, ap, _∙_, subst}
-use Prim.Native.Nat.{ℕ, zero, suc, _+_, _-_, _≤_, _<_}
-use native.Mathlib.Omega.{arith}
-use lib.ListN.{length, getD}
+use Rattle.common_laws.proofs.Base.{List, _∷_, _++_, List·Memᴰ, Memᴰ·map, Memᴰ·of-map, _≡_, refl, sym, ap, _∙_, subst, ℕ, zero, suc, _+_, _-_, _≤_, _<_, arith, length, getD}
 use Rattle.sizes.specs.Sizes as Size
 use Rattle.sizes.specs.Places.{settingPlace, observingPlace}
 use Rattle.reading.specs.Choice.{pick}

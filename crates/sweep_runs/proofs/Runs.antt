@@ -1,10 +1,6 @@
 -- A run, sweep by sweep: what its loop keeps, and what it comes to.
 -- Assumes nothing.
-use mathlib.Core.Bool.{Bool, true, false}
-use mathlib.Core.List.{List}
-use mathlib.Core.Path.{_≡_, sym, _∙_}
-use Prim.Native.Nat.{ℕ, suc, _+_, _-_, _^_, _≤_, _<_}
-use native.Mathlib.Omega.{arith}
+use Rattle.common_laws.proofs.Base.{Bool, true, false, List, _≡_, sym, _∙_, ℕ, suc, _+_, _-_, _^_, _≤_, _<_, arith}
 use Rattle.plans.specs.System.{Visit}
 use Rattle.plans.specs.Sweep.{lower, Settles}
 use Rattle.calculation.specs.Changes.{Going}

@@ -1,12 +1,8 @@
 -- The start, line by line.
 -- Assumes nothing.
-use mathlib.Core.Bool.{Bool}
-use mathlib.Core.List.{List, [], _∷_, _++_, append-assoc, append-nil}
-use mathlib.Core.Path.{_≡_, refl, sym, ap, _∙_}
-use Prim.Native.Nat.{ℕ, zero, suc, _+_, _*_, _-_, _≤_, _<_}
-use native.Mathlib.Omega.{arith}
-use lib.ListN.{length, getD, drop, set, replicate, length-append, length-drop, length-replicate, replicate-append-replicate}
-use lib.Seq.{sets, sets-eq, take-at, drop-at, drop-append-add, drop-drop}
+use Rattle.common_laws.proofs.Base.{Bool, List, [], _∷_, _++_, append-assoc, append-nil, _≡_, refl, sym, ap, _∙_, ℕ, zero, suc, _+_, _*_, _-_, _≤_, _<_, arith, length, getD, drop}
+use Rattle.common_laws.proofs.Base.{set, replicate, length-append, length-drop, length-replicate, replicate-append-replicate, sets, sets-eq, take-at, drop-at, drop-drop}
+use lib.Seq.{drop-append-add}
 use Rattle.sizes.specs.Sizes as Size
 use Rattle.sizes.specs.Places.{driverPlace, outputPlace}
 use Rattle.table.proofs.UsedPart.{used-most, used-behind}

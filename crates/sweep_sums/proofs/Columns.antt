@@ -1,14 +1,9 @@
 -- The columns that a row names: the lowest of them and the rest.
 -- Assumes nothing.
-use mathlib.Core.List.{List, [], _∷_}
-use mathlib.Core.Path.{_≡_, refl, sym, ap, _∙_}
-use Prim.Native.Nat.{ℕ, zero, suc, _+_, _*_, _-_, _/_, _%_, _^_, _≤_, _<_, min}
-use native.Mathlib.Decide.{ℕ-discrete}
-use native.Mathlib.Nat.{pow-suc, mod-lt}
-use native.Mathlib.Omega.{arith}
-use lib.Bits.{bitAnd, and-step, and-self, and-le-l}
-use lib.Count.{trailingZeros, ones, ones-step}
-use lib.ListN.{length}
+use Rattle.common_laws.proofs.Base.{List, [], _∷_, _≡_, refl, sym, ap, _∙_, ℕ, zero, suc, _+_, _*_, _-_, _/_, _%_, _^_, _≤_, _<_, min, ℕ-discrete, pow-suc, mod-lt, arith, bitAnd}
+use Rattle.common_laws.proofs.Base.{and-step, and-le-l, trailingZeros, ones, length}
+use lib.Bits.{and-self}
+use lib.Count.{ones-step}
 use Rattle.sweep_sums.specs.Columns.{withNamed, columnPlaces}
 
 -- ---- the lowest

@@ -1,15 +1,7 @@
 -- The columns gone to are the bits that are set, lowest first. That they are the columns which a row of a cell names:
 -- `gone-named` of sweep_groups/proofs/Gone.antt.
 -- Assumes nothing.
-use mathlib.Core.List.{List, [], _∷_}
-use mathlib.Core.Path.{_≡_, sym, ap, _∙_}
-use Prim.Native.Nat.{ℕ, zero, suc, _-_, _^_, _≤_, _<_}
-use native.Mathlib.Decide.{ℕ-discrete}
-use native.Mathlib.Nat.{zero-add}
-use native.Mathlib.Omega.{arith}
-use borrow.Author.Tests.{ne-eqb}
-use lib.Bits.{bitAnd, and-le-l}
-use lib.Count.{trailingZeros, ones}
+use Rattle.common_laws.proofs.Base.{List, [], _∷_, _≡_, sym, ap, _∙_, ℕ, zero, suc, _-_, _^_, _≤_, _<_, ℕ-discrete, zero-add, arith, ne-eqb, bitAnd, and-le-l, trailingZeros, ones}
 use Rattle.reading.specs.Choice.{pick}
 use Rattle.sweep_sums.specs.Columns.{columnPlaces, namedColumns}
 use Rattle.sweep_sums.specs.Gone.{goneFrom, columnsGone}

@@ -1,15 +1,7 @@
 -- The sum of a row's columns, over their costs; kinds of places; how costs stand to each other.
 -- Assumes nothing.
-use mathlib.Core.Bool.{Bool, true, false}
-use mathlib.Core.List.{List}
-use mathlib.Core.Path.{_≡_, refl, sym, ap, _∙_}
-use Prim.Native.Nat.{ℕ, _+_, _*_, _-_, _%_, _^_, _≤_, _<_}
-use native.Mathlib.Omega.{arith}
-use borrow.Author.Tests.{lt-ltb, le-ltb}
-use lib.Bits.{bitAnd, and-le-l}
-use lib.Count.{trailingZeros, ones}
-use lib.Dec.{ltb, eqb}
-use lib.ListN.{getD}
+use Rattle.common_laws.proofs.Base.{Bool, true, false, List, _≡_, refl, sym, ap, _∙_, ℕ, _+_, _*_, _-_, _%_, _^_, _≤_, _<_, arith, lt-ltb, le-ltb, bitAnd, and-le-l, trailingZeros}
+use Rattle.common_laws.proofs.Base.{ones, ltb, eqb, getD}
 use Rattle.sizes.specs.Sizes as Size
 use Rattle.sizes.specs.Places.{settingPlace, observingPlace}
 use Rattle.reading.specs.Choice.{pick}

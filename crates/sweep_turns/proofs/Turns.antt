@@ -1,12 +1,7 @@
 -- A gate's visits, turn by turn: what one asks of the costs of its columns, and what it leaves of them to the next.
 -- Assumes nothing.
-use mathlib.Core.Bool.{Bool, true, false, true≢false}
-use mathlib.Core.List.{List, List·Memᴰ}
-use mathlib.Core.Path.{_≡_, refl, sym, ap, subst, _∙_}
-use Prim.Native.Nat.{ℕ, _+_, _*_, _-_, _/_, _≤_, _<_}
-use native.Mathlib.Decide.{ℕ-discrete, decLe}
-use native.Mathlib.Omega.{arith}
-use lib.ListN.{length, getD}
+use Rattle.common_laws.proofs.Base.{Bool, true, false, true≢false, List, List·Memᴰ, _≡_, refl, sym, ap, subst, _∙_, ℕ, _+_, _*_, _-_, _/_, _≤_, _<_, ℕ-discrete, decLe, arith}
+use Rattle.common_laws.proofs.Base.{length, getD}
 use Rattle.sizes.specs.Sizes as Size
 use Rattle.sizes.specs.Places.{cellPlace, groupPlace, observingPlace}
 use Rattle.plans.specs.System.{Way, Visit}

@@ -1,15 +1,7 @@
 -- Visits one after the other: what a visit leaves, a gate's visits, and the sweeps that are made of them.
 -- Assumes nothing.
-use mathlib.Core.Bool.{Bool, true, false, not, _||_, or-false}
-use mathlib.Core.List.{List, [], _∷_, _++_, List·Memᴰ, List·Memᴰ·head, List·Memᴰ·tail}
-use mathlib.Core.Path.{_≡_, refl, sym, ap, _∙_}
-use Prim.Native.Nat.{ℕ, _+_, _-_, _≤_, _<_}
-use native.Mathlib.Decide.{ℕ-discrete}
-use native.Mathlib.Numerals.{add-one}
-use native.Mathlib.Omega.{arith}
-use lib.Dec.{eqb}
-use lib.ListN.{length, getD, set}
-use lib.Seq.{set-getD}
+use Rattle.common_laws.proofs.Base.{Bool, true, false, not, _||_, or-false, List, [], _∷_, _++_, List·Memᴰ, List·Memᴰ·head, List·Memᴰ·tail, _≡_, refl, sym, ap, _∙_, ℕ, _+_, _-_}
+use Rattle.common_laws.proofs.Base.{_≤_, _<_, ℕ-discrete, add-one, arith, eqb, length, getD, set, set-getD}
 use Rattle.sizes.specs.Places.{groupPlace}
 use Rattle.cost.specs.Cost.{never, counted, capped, lesser}
 use Rattle.cost.proofs.Laws.{sum-left, sum-right}

@@ -1,13 +1,7 @@
 -- What wakes a turn: the gates that need a line, and what a visit leaves of those that are asleep.
 -- Assumes nothing.
-use mathlib.Core.Bool.{Bool, true, not, _||_, or-true}
-use mathlib.Core.List.{List, List·Memᴰ}
-use mathlib.Core.Path.{_≡_, refl, sym, ap, subst, _∙_}
-use Prim.Native.Nat.{ℕ, _+_, _-_, _≤_, _<_}
-use native.Mathlib.Decide.{ℕ-discrete}
-use native.Mathlib.Nat.{le-of-eq}
-use native.Mathlib.Omega.{arith}
-use lib.ListN.{length, getD}
+use Rattle.common_laws.proofs.Base.{Bool, true, not, _||_, or-true, List, List·Memᴰ, _≡_, refl, sym, ap, subst, _∙_, ℕ, _+_, _-_, _≤_, _<_, ℕ-discrete, le-of-eq, arith, length}
+use Rattle.common_laws.proofs.Base.{getD}
 use Rattle.sizes.specs.Sizes as Size
 use Rattle.plans.specs.System.{Visit}
 use Rattle.plans.specs.Sweep.{at}

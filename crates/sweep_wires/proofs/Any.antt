@@ -1,12 +1,7 @@
 -- Whether one of the numbers below a count passes.
 -- Assumes nothing.
-use mathlib.Core.Bool.{Bool, true, false, _&&_, _||_}
-use mathlib.Core.List.{List, [], _∷_}
-use mathlib.Core.Path.{_≡_, refl, sym, ap, ap₂, _∙_}
-use Prim.Native.Nat.{ℕ, zero, suc, _+_, _*_, _-_, _≤_, _<_}
-use native.Mathlib.Decide.{ℕ-discrete}
-use native.Mathlib.Omega.{arith}
-use lib.ListN.{length, getD}
+use Rattle.common_laws.proofs.Base.{Bool, true, false, _&&_, _||_, List, [], _∷_, _≡_, refl, sym, ap, ap₂, _∙_, ℕ, zero, suc, _+_, _*_, _-_, _≤_, _<_, ℕ-discrete, arith, length}
+use Rattle.common_laws.proofs.Base.{getD}
 use Rattle.table.specs.Blocks.{fitted}
 use Rattle.library_table.specs.Cells.{bit, bitOf}
 use Rattle.library_table.specs.Library.{anyOf}

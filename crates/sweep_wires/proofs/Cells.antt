@@ -1,12 +1,7 @@
 -- The rows of a cell of the library table that name both values of one pin.
 -- Assumes nothing.
-use mathlib.Core.Bool.{Bool, true, false, not, _||_}
-use mathlib.Core.List.{List, [], _∷_, _++_, List·Memᴰ, List·Memᴰ·head, List·Memᴰ·tail, Memᴰ·append-left, Memᴰ·append-right}
-use mathlib.Core.Path.{_≡_, refl, sym, ap, ap₂, _∙_}
-use Prim.Native.Nat.{ℕ, zero, suc, _+_, _*_, _≤_, _<_}
-use native.Mathlib.Omega.{arith}
-use lib.ListN.{length, getD}
-use borrow.Author.Tests.{not-true}
+use Rattle.common_laws.proofs.Base.{Bool, true, false, not, _||_, List, [], _∷_, _++_, List·Memᴰ, List·Memᴰ·head, List·Memᴰ·tail, Memᴰ·append-left, Memᴰ·append-right, _≡_, refl}
+use Rattle.common_laws.proofs.Base.{sym, ap, ap₂, _∙_, ℕ, zero, suc, _+_, _*_, _≤_, _<_, arith, length, getD, not-true}
 use Rattle.sizes.specs.Sizes as Size
 use Rattle.sizes.specs.Places.{cellPlace, groupPlace}
 use Rattle.reading.specs.Each.{Each}

@@ -1,16 +1,8 @@
 -- Over the columns that a row is gone through: one after the other, and the same by the bits below a count.
 -- Assumes nothing.
-use mathlib.Core.Bool.{Bool, true, false, _&&_, _||_, or-false}
-use mathlib.Core.List.{List, [], _∷_}
-use mathlib.Core.Path.{_≡_, refl, sym, ap, ap₂, _∙_}
-use Prim.Native.Nat.{ℕ, zero, suc, _+_, _*_, _-_, _/_, _%_, _^_, _≤_, _<_}
-use native.Mathlib.Nat.{pow-suc, mod-lt, zero-add, mul-add, mul-assoc, div-one}
-use native.Mathlib.Numerals.{add-one}
-use native.Mathlib.Omega.{arith}
-use lib.Bits.{bitAnd, and-le-l}
-use lib.Count.{trailingZeros}
-use lib.Dec.{eqb}
-use lib.Pow.{pow-mono, shr-shr}
+use Rattle.common_laws.proofs.Base.{Bool, true, false, _&&_, _||_, or-false, List, [], _∷_, _≡_, refl, sym, ap, ap₂, _∙_, ℕ, zero, suc, _+_, _*_, _-_, _/_, _%_, _^_, _≤_, _<_}
+use Rattle.common_laws.proofs.Base.{pow-suc, mod-lt, zero-add, mul-assoc, div-one, add-one, arith, bitAnd, and-le-l, trailingZeros, eqb, pow-mono, shr-shr}
+use native.Mathlib.Nat.{mul-add}
 use Rattle.reading.specs.Choice.{pick}
 use Rattle.sweep_sums.specs.Columns.{withNamed, columnPlaces}
 use Rattle.sweep_sums.specs.Gone.{columnsGone}

@@ -1,12 +1,7 @@
 -- A number by its bits.
 -- Assumes nothing.
-use mathlib.Core.Bool.{Bool, true, false}
-use mathlib.Core.Path.{_≡_, sym, ap, _∙_}
-use Prim.Native.Nat.{ℕ, zero, suc, _+_, _*_, _-_, _/_, _%_, _^_, _≤_, _<_}
-use native.Mathlib.Nat.{pow-suc, div-one}
-use native.Mathlib.Omega.{arith}
-use lib.Dec.{eqb}
-use lib.Pow.{shr-shr, field, mod-mod-pow}
+use Rattle.common_laws.proofs.Base.{Bool, true, false, _≡_, sym, ap, _∙_, ℕ, zero, suc, _+_, _*_, _-_, _/_, _%_, _^_, _≤_, _<_, pow-suc, div-one, arith, eqb, shr-shr}
+use lib.Pow.{field, mod-mod-pow}
 use Rattle.reading.specs.Choice.{pick}
 use Rattle.reading.proofs.Laws.{one-most}
 use Rattle.library_table.specs.Cells.{bit}

@@ -1,12 +1,9 @@
 -- What stands at a place of a table that is put together from parts of a fixed length.
 -- Assumes nothing.
-use mathlib.Core.List.{List, [], _∷_, _++_, append-assoc, append-nil}
-use mathlib.Core.Path.{_≡_, refl, sym, ap, _∙_}
-use Prim.Native.Nat.{ℕ, zero, suc, _+_, _*_, _-_, _≤_, _<_, min}
-use native.Mathlib.Nat.{zero-add, add-comm, add-assoc, zero-mul, suc-mul, suc-sub-suc, not-suc-le-zero, le-of-suc-le-suc}
-use native.Mathlib.Omega.{arith}
-use lib.ListN.{length, getD, replicate, length-append, List·getD-append}
-use lib.Seq.{getD-append-add, drop-length}
+use Rattle.common_laws.proofs.Base.{List, [], _∷_, _++_, append-assoc, append-nil, _≡_, refl, sym, ap, _∙_, ℕ, zero, suc, _+_, _*_, _-_, _≤_, _<_, min, zero-add, add-comm}
+use Rattle.common_laws.proofs.Base.{add-assoc, zero-mul, suc-mul, not-suc-le-zero, le-of-suc-le-suc, arith, length, getD, replicate, length-append, List·getD-append}
+use Rattle.common_laws.proofs.Base.{getD-append-add, drop-length}
+use native.Mathlib.Nat.{suc-sub-suc}
 use Rattle.table.specs.Blocks.{fitted, blocks, cleared}
 
 module _ {A : Type 0} (d : A) where

@@ -1,15 +1,7 @@
 -- How far a part of a table is used: what stands behind the last number that is not 0.
 -- Assumes nothing.
-use mathlib.Core.Bool.{Bool, true, _&&_}
-use mathlib.Core.List.{List}
-use mathlib.Core.Path.{_≡_, refl, sym, ap, _∙_}
-use Prim.Native.Nat.{ℕ, zero, suc, _+_, _-_, _≤_, _<_, min}
-use native.Mathlib.Decide.{ℕ-discrete, decLe}
-use native.Mathlib.Numerals.{add-one}
-use native.Mathlib.Omega.{arith}
-use lib.Dec.{eqb}
-use lib.ListN.{length, getD, List·getD-eq-default}
-use borrow.Author.Tests.{eqb-true}
+use Rattle.common_laws.proofs.Base.{Bool, true, _&&_, List, _≡_, refl, sym, ap, _∙_, ℕ, zero, suc, _+_, _-_, _≤_, _<_, min, ℕ-discrete, decLe, add-one, arith, eqb, length, getD}
+use Rattle.common_laws.proofs.Base.{List·getD-eq-default, eqb-true}
 use Rattle.common_laws.proofs.Tests.{and-left, and-right}
 use Rattle.table.specs.Blocks.{zeros, ifZero, used}
 

@@ -1,14 +1,7 @@
 -- One turn of a walk over the fields of a line, and fields by their place.
 -- Assumes nothing.
-use mathlib.Core.Bool.{true, false, _&&_}
-use mathlib.Core.List.{List, [], _∷_}
-use mathlib.Core.Path.{_≡_, sym, ap, _∙_}
-use Prim.Native.Nat.{ℕ, suc, _+_, _≤_, _<_}
-use native.Mathlib.Omega.{arith}
-use lib.Dec.{leb, ltb, eqb}
-use lib.ListN.{length, getD, drop, length-drop}
-use lib.Seq.{drop-drop, getD-drop}
-use borrow.Author.Tests.{leb-true, leb-false, ltb-true, ltb-false, eq-eqb, ne-eqb}
+use Rattle.common_laws.proofs.Base.{true, false, _&&_, List, [], _∷_, _≡_, sym, ap, _∙_, ℕ, suc, _+_, _≤_, _<_, arith, leb, ltb, eqb, length, getD, drop, length-drop, drop-drop}
+use Rattle.common_laws.proofs.Base.{getD-drop, leb-true, leb-false, ltb-true, ltb-false, eq-eqb, ne-eqb}
 use Rattle.text.specs.Lines.{fields, fieldsFrom, part, nextAfter}
 use Rattle.reading.proofs.Laws.{by-test}
 use Rattle.text.proofs.Laws.{fieldsFrom-start, fieldsFrom-step, fieldsFrom-end, nextAfter-within, nextAfter-past}

@@ -1,15 +1,7 @@
 -- The laws of names and numbers that other crates cite, and what this crate's own proofs share.
 -- Assumes nothing.
-use mathlib.Core.Bool.{Bool, true, false, _&&_, _||_}
-use mathlib.Core.List.{List, [], _∷_, List·Memᴰ, List·Memᴰ·head, List·Memᴰ·tail, List·Memᴰ·not-nil}
-use mathlib.Core.Option.{none, some}
-use mathlib.Core.Path.{_≡_, refl}
-use Prim.Native.Nat.{ℕ, suc, _+_, _*_, _-_, _^_, _≤_, _<_}
-use native.Mathlib.Nat.{pow-suc, mul-le-mul-right}
-use native.Mathlib.Omega.{arith}
-use lib.Dec.{leb, ltb, eqb}
-use lib.ListN.{length}
-use borrow.Author.Tests.{le-leb, leb-true, ltb-true}
+use Rattle.common_laws.proofs.Base.{Bool, true, false, _&&_, _||_, List, [], _∷_, List·Memᴰ, List·Memᴰ·head, List·Memᴰ·tail, List·Memᴰ·not-nil, none, some, _≡_, refl, ℕ, suc, _+_}
+use Rattle.common_laws.proofs.Base.{_*_, _-_, _^_, _≤_, _<_, pow-suc, mul-le-mul-right, arith, leb, ltb, eqb, length, le-leb, leb-true, ltb-true}
 use Rattle.sizes.specs.Sizes as Size
 use Rattle.reading.specs.Choice.{pick}
 use Rattle.reading.proofs.Laws.{by-test, and-left, and-right}

@@ -1,16 +1,7 @@
 -- One turn of each of this crate's loops, as an equation over what remains of the list.
 -- Assumes nothing.
-use mathlib.Core.Bool.{true, false, not}
-use mathlib.Core.List.{List, [], _∷_}
-use mathlib.Core.Path.{_≡_, refl}
-use Prim.Native.Nat.{ℕ, _+_, _*_, _-_, _^_, _≤_, _<_}
-use native.Mathlib.Nat.{pow-le-pow-right}
-use native.Mathlib.Numerals.{add-one}
-use native.Mathlib.Omega.{arith}
-use lib.Dec.{eqb}
-use lib.ListN.{length, getD, drop, drop-of-length-le}
-use lib.Seq.{drop-cons}
-use borrow.Author.Tests.{le-leb, lt-leb, eq-eqb}
+use Rattle.common_laws.proofs.Base.{true, false, not, List, [], _∷_, _≡_, refl, ℕ, _+_, _*_, _-_, _^_, _≤_, _<_, pow-le-pow-right, add-one, arith, eqb, length, getD, drop}
+use Rattle.common_laws.proofs.Base.{drop-of-length-le, drop-cons, le-leb, lt-leb, eq-eqb}
 use Rattle.sizes.specs.Sizes as Size
 use Rattle.text.specs.Numeral.{digitBelow, allDigits, value, noLeadingZero, wellFormed, nameByte, allName, nameForm}
 use Rattle.text.proofs.FieldLaws.{digit-step}

@@ -1,15 +1,9 @@
 -- The laws of texts, fields and classes that other crates cite, and what this crate's own proofs share.
 -- Assumes nothing.
-use mathlib.Core.Bool.{Bool, true, false, not, _&&_}
-use mathlib.Core.List.{List, [], _∷_, _++_, List·Memᴰ, List·Memᴰ·head, List·Memᴰ·tail}
-use mathlib.Core.Option.{none, some}
-use mathlib.Core.Path.{_≡_, refl, sym, ap, _∙_}
-use Prim.Native.Nat.{ℕ, suc, _+_, _-_, _≤_, _<_}
-use native.Mathlib.Omega.{arith}
-use lib.Dec.{leb, eqb, leb·suc-suc}
-use lib.ListN.{length, take, drop, length-take, length-drop, drop-of-length-le}
-use lib.Seq.{drop-drop}
-use borrow.Author.Tests.{le-leb, lt-leb, eq-eqb, ne-eqb, leb-true, leb-false, eqb-true}
+use Rattle.common_laws.proofs.Base.{Bool, true, false, not, _&&_, List, [], _∷_, _++_, List·Memᴰ, List·Memᴰ·head, List·Memᴰ·tail, none, some, _≡_, refl, sym, ap, _∙_, ℕ, suc, _+_}
+use Rattle.common_laws.proofs.Base.{_-_, _≤_, _<_, arith, leb, eqb, length, take, drop, length-take, length-drop, drop-of-length-le, drop-drop, le-leb, lt-leb, eq-eqb, ne-eqb}
+use Rattle.common_laws.proofs.Base.{leb-true, leb-false, eqb-true}
+use lib.Dec.{leb·suc-suc}
 use Rattle.reading.proofs.Laws.{by-test, and-left, and-right}
 use Rattle.text.specs.declared.Class.the-variants.{Other}
 use Rattle.reading.specs.Choice.{pick}

@@ -1,16 +1,7 @@
 -- One turn of each of this crate's loops, as an equation over what remains of the list.
 -- Assumes nothing.
-use mathlib.Core.Bool.{Bool, true, false, _||_}
-use mathlib.Core.List.{List, []}
-use mathlib.Core.Path.{_≡_}
-use Prim.Native.Nat.{ℕ, zero, suc, _+_, _-_, _≤_, _<_}
-use native.Mathlib.Decide.{decLe}
-use native.Mathlib.Numerals.{add-one}
-use native.Mathlib.Omega.{arith}
-use lib.Dec.{eqb}
-use lib.ListN.{length, getD, take, drop, length-drop, drop-of-length-le}
-use lib.Seq.{drop-cons, take-nil, take-all}
-use borrow.Author.Tests.{eq-eqb, ne-eqb, eqb-false}
+use Rattle.common_laws.proofs.Base.{Bool, true, false, _||_, List, [], _≡_, ℕ, zero, suc, _+_, _-_, _≤_, _<_, decLe, add-one, arith, eqb, length, getD, take, drop, length-drop}
+use Rattle.common_laws.proofs.Base.{drop-of-length-le, drop-cons, take-nil, take-all, eq-eqb, ne-eqb, eqb-false}
 use Rattle.reading.proofs.Laws.{or-left, or-right}
 use Rattle.text.specs.Lines.{stop, span, someEnds, part, sameBytes}
 

@@ -1,16 +1,7 @@
 -- A walk that has ended has put all back.
 -- Assumes nothing.
-use mathlib.Core.Bool.{Bool, true, _&&_}
-use mathlib.Core.List.{List}
-use mathlib.Core.Logic.{_⊎_, inl, inr, ⊎-elim}
-use mathlib.Core.Path.{_≡_, refl, sym, _∙_}
-use Prim.Native.Nat.{ℕ, zero, suc, _+_, _-_, _≤_, _<_}
-use native.Mathlib.Decide.{ℕ-discrete, decLt}
-use native.Mathlib.Omega.{arith}
-use lib.Dec.{eqb}
-use lib.ListN.{length, getD, set, length-set}
-use lib.Seq.{ext-getD, getD-set-same, getD-set-other}
-use borrow.Author.Tests.{eqb-true}
+use Rattle.common_laws.proofs.Base.{Bool, true, _&&_, List, _⊎_, inl, inr, ⊎-elim, _≡_, refl, sym, _∙_, ℕ, zero, suc, _+_, _-_, _≤_, _<_, ℕ-discrete, decLt, arith, eqb, length}
+use Rattle.common_laws.proofs.Base.{getD, set, length-set, ext-getD, getD-set-same, getD-set-other, eqb-true}
 use Rattle.reading.proofs.Laws.{and-left, and-right}
 use Rattle.sizes.specs.Sizes as Size
 use Rattle.netlist_table.specs.Gates.{gateLine, LinesStand}

@@ -1,16 +1,7 @@
 -- What the tests of rows and groups say of a table in which groups stand.
 -- Assumes nothing.
-use mathlib.Core.Bool.{true}
-use mathlib.Core.List.{List, [], _∷_, map}
-use mathlib.Core.Logic.{_↔_}
-use mathlib.Core.Path.{_≡_, refl, sym, ap, _∙_}
-use Prim.Native.Nat.{ℕ, suc, _+_, _*_, _/_, _%_, _≤_, _<_}
-use native.Mathlib.Nat.{add-zero, add-suc}
-use native.Mathlib.Omega.{arith}
-use lib.Dec.{eqb}
-use lib.ListN.{length, getD, drop, drop-of-length-le}
-use lib.Seq.{drop-cons}
-use borrow.Author.Tests.{eqb-true, eq-eqb}
+use Rattle.common_laws.proofs.Base.{true, List, [], _∷_, map, _↔_, _≡_, refl, sym, ap, _∙_, ℕ, suc, _+_, _*_, _/_, _%_, _≤_, _<_, add-zero, add-suc, arith, eqb, length, getD, drop}
+use Rattle.common_laws.proofs.Base.{drop-of-length-le, drop-cons, eqb-true, eq-eqb}
 use Rattle.sizes.specs.Places.{groupPlace}
 use Rattle.sizes.specs.Sizes as Size
 use Rattle.reading.specs.Each.{Each}

@@ -1,14 +1,7 @@
 -- What `generatedAt` says of a table that holds the cells of an accepted library.
 -- Assumes nothing.
-use mathlib.Core.Bool.{Bool, true, false, _&&_}
-use mathlib.Core.List.{List, [], _∷_, _++_, map}
-use mathlib.Core.Logic.{_↔_}
-use mathlib.Core.Path.{_≡_, refl, sym, ap, _∙_}
-use Prim.Native.Nat.{ℕ, zero, suc, _+_, _^_, _≤_, _<_}
-use native.Mathlib.Omega.{arith}
-use lib.Dec.{leb, ltb}
-use lib.ListN.{length, getD}
-use borrow.Author.Tests.{lt-ltb, le-leb, leb-true}
+use Rattle.common_laws.proofs.Base.{Bool, true, false, _&&_, List, [], _∷_, _++_, map, _↔_, _≡_, refl, sym, ap, _∙_, ℕ, zero, suc, _+_, _^_, _≤_, _<_, arith, leb, ltb, length}
+use Rattle.common_laws.proofs.Base.{getD, lt-ltb, le-leb, leb-true}
 use Rattle.sizes.specs.Places.{groupPlace}
 use Rattle.sizes.specs.Sizes as Size
 use Rattle.reading.specs.Each.{Each}

@@ -1,14 +1,7 @@
 -- One step of each walk of the code.
 -- Assumes nothing.
-use mathlib.Core.Bool.{Bool, true, false, _&&_, _||_, and-true}
-use mathlib.Core.List.{List, [], _∷_, _++_, map}
-use mathlib.Core.Path.{_≡_, refl, sym, ap, _∙_}
-use Prim.Native.Nat.{ℕ, zero, suc, _+_, _*_, _-_, _/_, _%_, _^_, _≤_, _<_}
-use native.Mathlib.Nat.{zero-add}
-use native.Mathlib.Numerals.{add-one}
-use native.Mathlib.Omega.{arith}
-use lib.ListN.{length, getD, take, set, length-map}
-use lib.Seq.{take-suc-set}
+use Rattle.common_laws.proofs.Base.{Bool, true, false, _&&_, _||_, and-true, List, [], _∷_, _++_, map, _≡_, refl, sym, ap, _∙_, ℕ, zero, suc, _+_, _*_, _-_, _/_, _%_, _^_, _≤_}
+use Rattle.common_laws.proofs.Base.{_<_, zero-add, add-one, arith, length, getD, take, set, length-map, take-suc-set}
 use Rattle.sizes.specs.Places.{groupPlace}
 use Rattle.reading.specs.Choice.{pick}
 use Rattle.library_table.specs.Cells.{Group}

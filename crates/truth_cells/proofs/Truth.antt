@@ -1,14 +1,8 @@
 -- The rows of value 1 of a cell that has a truth table tell the truth table.
 -- Assumes nothing.
-use mathlib.Core.Bool.{Bool, true, false, _&&_}
-use mathlib.Core.List.{List, [], _∷_, map}
-use mathlib.Core.Option.{Option, none, some}
-use mathlib.Core.Path.{_≡_, refl, sym, ap, subst, _∙_}
-use Prim.Native.Nat.{ℕ, zero, suc, _+_, _*_, _/_, _%_, _^_, _≤_, _<_, min}
-use native.Mathlib.Nat.{one-le-pow, add-zero, mul-add-div-right, div-eq-of-lt, add-mul-mod-self-right, mod-eq-of-lt}
-use native.Mathlib.Omega.{arith}
-use lib.ListN.{length, getD, drop, drop-of-length-le}
-use lib.Seq.{drop-cons}
+use Rattle.common_laws.proofs.Base.{Bool, true, false, _&&_, List, [], _∷_, map, Option, none, some, _≡_, refl, sym, ap, subst, _∙_, ℕ, zero, suc, _+_, _*_, _/_, _%_, _^_, _≤_}
+use Rattle.common_laws.proofs.Base.{_<_, min, one-le-pow, add-zero, mul-add-div-right, div-eq-of-lt, add-mul-mod-self-right, mod-eq-of-lt, arith, length, getD, drop}
+use Rattle.common_laws.proofs.Base.{drop-of-length-le, drop-cons}
 use Rattle.sizes.specs.Sizes as Size
 use Rattle.reading.specs.Choice.{pick}
 use Rattle.reading.specs.Each.{Each}

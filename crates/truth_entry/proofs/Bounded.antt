@@ -1,14 +1,6 @@
 -- What a text comes to is bounded: its entry fits the program's buffer, its refusal has a small number and line.
 -- Assumes nothing.
-use mathlib.Core.Bool.{true, _&&_}
-use mathlib.Core.List.{List, [], _∷_, map}
-use mathlib.Core.Option.{Option, none, some}
-use mathlib.Core.Path.{_≡_, refl, sym}
-use Prim.Native.Nat.{ℕ, _≤_, _<_}
-use native.Mathlib.Omega.{arith}
-use lib.Dec.{ltb}
-use lib.ListN.{length}
-use borrow.Author.Tests.{le-ltb, ltb-true, ltb-false}
+use Rattle.common_laws.proofs.Base.{true, _&&_, List, [], _∷_, map, Option, none, some, _≡_, refl, sym, ℕ, _≤_, _<_, arith, ltb, length, le-ltb, ltb-true, ltb-false}
 use Rattle.sizes.specs.Sizes as Size
 use Rattle.reading.specs.Choice.{pick}
 use Rattle.reading.specs.Numbers as No

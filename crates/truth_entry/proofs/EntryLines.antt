@@ -1,12 +1,6 @@
 -- How far the lines of an entry are printed, group by group.
 -- Assumes nothing.
-use mathlib.Core.Bool.{Bool}
-use mathlib.Core.List.{List, [], _∷_, _++_, append-assoc, append-nil}
-use mathlib.Core.Path.{_≡_, refl, sym, ap, _∙_}
-use Prim.Native.Nat.{ℕ, suc, _+_, _-_, _<_}
-use native.Mathlib.Nat.{sub-self}
-use native.Mathlib.Numerals.{add-one}
-use native.Mathlib.Omega.{arith}
+use Rattle.common_laws.proofs.Base.{Bool, List, [], _∷_, _++_, append-assoc, append-nil, _≡_, refl, sym, ap, _∙_, ℕ, suc, _+_, _-_, _<_, sub-self, add-one, arith}
 use Rattle.writer.specs.Put.{Put}
 use Rattle.writer.proofs.Steps.{put-none, put-then}
 use Rattle.library_table.specs.Cells.{Group}

@@ -1,10 +1,6 @@
 -- How far the rows of a group are printed, while they are found one by one.
 -- Assumes nothing.
-use mathlib.Core.Bool.{Bool, true, false, _||_}
-use mathlib.Core.List.{List, [], _∷_, _++_, map, append-assoc, append-nil}
-use mathlib.Core.Path.{_≡_, refl, sym, ap, subst, _∙_}
-use Prim.Native.Nat.{ℕ, suc, _-_, _^_, _<_}
-use native.Mathlib.Omega.{arith}
+use Rattle.common_laws.proofs.Base.{Bool, true, false, _||_, List, [], _∷_, _++_, map, append-assoc, append-nil, _≡_, refl, sym, ap, subst, _∙_, ℕ, suc, _-_, _^_, _<_, arith}
 use Rattle.reading.specs.Choice.{pick}
 use Rattle.reading.proofs.Laws.{by-test}
 use Rattle.text.specs.Bytes.{bytes}

@@ -1,9 +1,6 @@
 -- What is printed of the rows that are asked for is their group.
 -- Assumes nothing.
-use mathlib.Core.Bool.{true, false}
-use mathlib.Core.List.{List, [], _∷_, _++_, map, append-assoc, append-nil}
-use mathlib.Core.Path.{_≡_, refl, sym, ap, _∙_}
-use Prim.Native.Nat.{ℕ}
+use Rattle.common_laws.proofs.Base.{true, false, List, [], _∷_, _++_, map, append-assoc, append-nil, _≡_, refl, sym, ap, _∙_, ℕ}
 use Rattle.reading.specs.Choice.{pick}
 use Rattle.text.specs.Bytes.{bytes}
 use Rattle.writer.specs.Octal.{octalBytes}

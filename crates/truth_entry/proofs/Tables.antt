@@ -1,15 +1,7 @@
 -- The line of a truth table, by its fields.
 -- Assumes nothing.
-use mathlib.Core.Bool.{Bool, true, false, _&&_}
-use mathlib.Core.List.{List, [], _∷_, _++_}
-use mathlib.Core.Option.{Option, none, some}
-use mathlib.Core.Path.{_≡_, refl, sym, ap, _∙_}
-use Prim.Native.Nat.{ℕ, _+_, _≤_, _<_}
-use native.Mathlib.Omega.{arith}
-use lib.Dec.{ltb, eqb}
-use lib.ListN.{length, getD, drop}
-use lib.Seq.{drop-cons}
-use borrow.Author.Tests.{eqb-true, eqb-false, ne-eqb, le-ltb, ltb-true, ltb-false}
+use Rattle.common_laws.proofs.Base.{Bool, true, false, _&&_, List, [], _∷_, _++_, Option, none, some, _≡_, refl, sym, ap, _∙_, ℕ, _+_, _≤_, _<_, arith, ltb, eqb, length, getD}
+use Rattle.common_laws.proofs.Base.{drop, drop-cons, eqb-true, eqb-false, ne-eqb, le-ltb, ltb-true, ltb-false}
 use Rattle.sizes.specs.Sizes as Size
 use Rattle.reading.specs.Choice.{pick}
 use Rattle.reading.specs.Refusal.{_>>_, weigh}

@@ -1,13 +1,6 @@
 -- What the generator prints of the built-in library's truth tables is its text.
 -- Assumes nothing.
-use mathlib.Core.List.{List}
-use mathlib.Core.Logic.{_↔_}
-use mathlib.Core.Path.{_≡_, refl, sym, ap, _∙_}
-use Prim.Native.Nat.{ℕ, _<_}
-use native.Mathlib.Omega.{arith}
-use lib.Dec.{ltb}
-use lib.ListN.{length}
-use borrow.Author.Tests.{ltb-true, ltb-false}
+use Rattle.common_laws.proofs.Base.{List, _↔_, _≡_, refl, sym, ap, _∙_, ℕ, _<_, arith, ltb, length, ltb-true, ltb-false}
 use Rattle.reading.specs.Numbers as No
 use Rattle.reading.specs.Refusal.{refused, read, _>>=_}
 use Rattle.reading.proofs.Laws.{by-test, refused-read}

@@ -1,16 +1,10 @@
 -- What the code asks of BITS is what the definitions ask of settings, and what it makes of terms is their rows' numbers.
 -- Assumes nothing.
-use mathlib.Core.Bool.{Bool, true, false, not, _||_}
-use mathlib.Core.List.{List, [], _∷_, _++_, map}
-use mathlib.Core.Option.{none, some}
-use mathlib.Core.Path.{_≡_, refl, sym, ap, subst, _∙_}
-use Prim.Native.Nat.{ℕ, zero, suc, _+_, _*_, _-_, _/_, _%_, _^_, _≤_, _<_}
-use native.Mathlib.Nat.{pow-suc, one-le-pow, add-zero, add-suc, suc-add, zero-add, mul-assoc, mul-comm, add-mul, div-eq-of-lt, mod-eq-of-lt, add-mul-div-right, add-mul-mod-self-right}
-use native.Mathlib.Omega.{arith}
-use lib.Dec.{eqb}
-use lib.ListN.{length, getD, List·getD-map}
-use lib.Pow.{pow-add}
-use borrow.Author.Tests.{ne-eqb, eqb-true}
+use Rattle.common_laws.proofs.Base.{Bool, true, false, not, _||_, List, [], _∷_, _++_, map, none, some, _≡_, refl, sym, ap, subst, _∙_, ℕ, zero, suc, _+_, _*_, _-_, _/_, _%_, _^_}
+use Rattle.common_laws.proofs.Base.{_≤_, _<_, pow-suc, one-le-pow, add-zero, add-suc, suc-add, zero-add, mul-assoc, mul-comm, div-eq-of-lt, mod-eq-of-lt, add-mul-div-right}
+use Rattle.common_laws.proofs.Base.{add-mul-mod-self-right, arith, eqb, length, getD, pow-add, ne-eqb, eqb-true}
+use native.Mathlib.Nat.{add-mul}
+use lib.ListN.{List·getD-map}
 use Rattle.common_laws.proofs.Numbers.{two-four}
 use Rattle.reading.specs.Choice.{pick}
 use Rattle.reading.specs.Each.{Each}

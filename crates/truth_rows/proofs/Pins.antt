@@ -1,16 +1,9 @@
 -- Masks put together from those of fewer pins, and rows without their last digit.
 -- Assumes nothing.
-use mathlib.Core.Bool.{Bool, true, false, not, and-false}
-use mathlib.Core.List.{List, [], _∷_, _++_, map}
-use mathlib.Core.Option.{none, some}
-use mathlib.Core.Path.{_≡_, refl, sym, ap, _∙_}
-use Prim.Native.Nat.{ℕ, zero, suc, _+_, _*_, _-_, _/_, _%_, _^_, _≤_, _<_}
-use native.Mathlib.Nat.{pow-suc, div-div-eq-div-mul, mul-le-mul-left, mul-le-mul-right, div-add-mod', mul-assoc, mul-comm, pow-le-pow-right}
-use native.Mathlib.Omega.{arith}
-use lib.Dec.{eqb}
-use lib.ListN.{length, length-append, length-map}
-use lib.Pow.{pow-add}
-use borrow.Author.Tests.{eqb-true, eqb-false}
+use Rattle.common_laws.proofs.Base.{Bool, true, false, not, and-false, List, [], _∷_, _++_, map, none, some, _≡_, refl, sym, ap, _∙_, ℕ, zero, suc, _+_, _*_, _-_, _/_, _%_, _^_}
+use Rattle.common_laws.proofs.Base.{_≤_, _<_, pow-suc, mul-le-mul-right, div-add-mod', mul-assoc, mul-comm, pow-le-pow-right, arith, eqb, length, length-append, length-map}
+use Rattle.common_laws.proofs.Base.{pow-add, eqb-true, eqb-false}
+use native.Mathlib.Nat.{div-div-eq-div-mul, mul-le-mul-left}
 use Rattle.reading.specs.Choice.{pick}
 use Rattle.reading.proofs.Laws.{by-test}
 use Rattle.truth_tables.specs.Entries.{literalColumns, termColumns}

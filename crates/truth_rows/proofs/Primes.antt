@@ -1,17 +1,9 @@
 -- The rows that the code finds are the prime implicants: masks against settings, numbers in base 3 against terms.
 -- Assumes nothing.
-use mathlib.Core.Bool.{Bool, true, false, not, _&&_, _||_}
-use mathlib.Core.List.{List, [], _∷_, _++_, map, append-assoc}
-use mathlib.Core.Option.{Option, none, some}
-use mathlib.Core.Path.{_≡_, refl, sym, ap, _∙_}
-use Prim.Native.Nat.{ℕ, zero, suc, _+_, _*_, _-_, _/_, _%_, _^_, _≤_, _<_, min}
-use native.Mathlib.Nat.{pow-suc, pow-zero, one-le-pow, add-zero, add-suc, suc-add, add-mul-div-right, add-mul-mod-self-right, mul-add-div-right, div-eq-of-lt, mul-assoc, mul-comm, mod-eq-of-lt}
-use native.Mathlib.Omega.{arith}
-use lib.Bits.{bitAnd, and-step}
-use lib.Dec.{eqb}
-use lib.ListN.{length}
-use lib.Pow.{pow-add}
-use borrow.Author.Tests.{eq-eqb, ne-eqb, eqb-true, eqb-false}
+use Rattle.common_laws.proofs.Base.{Bool, true, false, not, _&&_, _||_, List, [], _∷_, _++_, map, append-assoc, Option, none, some, _≡_, refl, sym, ap, _∙_, ℕ, zero, suc, _+_, _*_}
+use Rattle.common_laws.proofs.Base.{_-_, _/_, _%_, _^_, _≤_, _<_, min, pow-suc, pow-zero, one-le-pow, add-zero, add-suc, suc-add, add-mul-div-right, add-mul-mod-self-right}
+use Rattle.common_laws.proofs.Base.{mul-add-div-right, div-eq-of-lt, mul-assoc, mul-comm, mod-eq-of-lt, arith, bitAnd, and-step, eqb, length, pow-add, eq-eqb, ne-eqb, eqb-true}
+use Rattle.common_laws.proofs.Base.{eqb-false}
 use Rattle.reading.specs.Choice.{pick}
 use Rattle.reading.specs.Each.{Each}
 use Rattle.reading.proofs.Laws.{by-test, clash, each-map}

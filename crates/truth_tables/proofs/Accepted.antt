@@ -1,15 +1,8 @@
 -- The entry of every truth table is accepted by the library reader, and read as the table's cell.
 -- Assumes nothing.
-use mathlib.Core.Bool.{Bool, true, false, true≢false, not}
-use mathlib.Core.List.{List, [], _∷_, map, List·Memᴰ, List·Memᴰ·head, List·Memᴰ·tail}
-use mathlib.Core.Option.{none, some}
-use mathlib.Core.Path.{_≡_, refl, sym, ap, _∙_}
-use Prim.Native.Nat.{ℕ, zero, suc, _+_, _*_, _-_, _/_, _%_, _^_, _≤_, _<_}
-use native.Mathlib.Nat.{pow-le-pow-right, one-le-pow, add-mul-div-right, div-eq-of-lt}
-use native.Mathlib.Omega.{arith}
-use lib.ListN.{length, length-map}
-use lib.Pow.{pow-add}
-use borrow.Author.Tests.{eq-eqb, ne-eqb, le-ltb, lt-leb}
+use Rattle.common_laws.proofs.Base.{Bool, true, false, true≢false, not, List, [], _∷_, map, List·Memᴰ, List·Memᴰ·head, List·Memᴰ·tail, none, some, _≡_, refl, sym, ap, _∙_, ℕ, zero}
+use Rattle.common_laws.proofs.Base.{suc, _+_, _*_, _-_, _/_, _%_, _^_, _≤_, _<_, pow-le-pow-right, one-le-pow, add-mul-div-right, div-eq-of-lt, arith, length, length-map, pow-add}
+use Rattle.common_laws.proofs.Base.{eq-eqb, ne-eqb, le-ltb, lt-leb}
 use Rattle.common_laws.proofs.Numbers.{two-four}
 use Rattle.sizes.specs.Sizes as Size
 use Rattle.reading.specs.Each.{Each}

@@ -1,19 +1,9 @@
 -- Which columns the row of a term names: a pin at a value exactly where the term has that value for the pin.
 -- Assumes nothing.
-use mathlib.Core.Bool.{Bool, true, false}
-use mathlib.Core.List.{[], _∷_}
-use mathlib.Core.Option.{Option, none, some}
-use mathlib.Core.Path.{_≡_, refl, sym, subst, ap, _∙_}
-use Prim.Native.Nat.{ℕ, zero, suc, _+_, _*_, _-_, _/_, _%_, _^_, _≤_, _<_}
-use native.Mathlib.Nat.{not-suc-le-zero, le-of-suc-le-suc, div-one}
-use native.Mathlib.Numerals.{one-add}
-use native.Mathlib.Omega.{arith}
+use Rattle.common_laws.proofs.Base.{Bool, true, false, [], _∷_, Option, none, some, _≡_, refl, sym, subst, ap, _∙_, ℕ, zero, suc, _+_, _*_, _-_, _/_, _%_, _^_, _≤_, _<_}
+use Rattle.common_laws.proofs.Base.{not-suc-le-zero, le-of-suc-le-suc, div-one, one-add, arith, shr-shr, eqb, length, getD, eqb-true}
 use lib.Arith.{digits-div}
 use lib.Bits.{block-half, block-odd}
-use lib.Pow.{shr-shr}
-use lib.Dec.{eqb}
-use lib.ListN.{length, getD}
-use borrow.Author.Tests.{eqb-true}
 use Rattle.common_laws.proofs.Numbers.{two-four}
 use Rattle.reading.proofs.Laws.{clash, and-left, and-right}
 use Rattle.library_table.specs.Cells.{bit}

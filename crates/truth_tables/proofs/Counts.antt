@@ -2,15 +2,8 @@
 -- library reader takes. The prime implicants of n + 1 pins are those of n pins of three conditions, one for what the first pin
 -- is named; so those of four pins are counted by nine conditions on two pins, of which a table of 256 cases is computed.
 -- Assumes nothing.
-use mathlib.Core.Bool.{Bool, true, false, not, _&&_, _||_, and-true}
-use mathlib.Core.List.{List, [], _∷_, _++_, map, List·Memᴰ, List·Memᴰ·head, List·Memᴰ·tail}
-use mathlib.Core.Option.{Option, none, some}
-use mathlib.Core.Path.{_≡_, refl, sym, ap, _∙_}
-use Prim.Native.Nat.{ℕ, zero, suc, _+_, _*_, _≤_}
-use native.Mathlib.Omega.{arith}
-use borrow.Author.Tests.{leb-true}
-use lib.Dec.{leb}
-use lib.ListN.{length, length-append, length-map}
+use Rattle.common_laws.proofs.Base.{Bool, true, false, not, _&&_, _||_, and-true, List, [], _∷_, _++_, map, List·Memᴰ, List·Memᴰ·head, List·Memᴰ·tail, Option, none, some, _≡_}
+use Rattle.common_laws.proofs.Base.{refl, sym, ap, _∙_, ℕ, zero, suc, _+_, _*_, _≤_, arith, leb-true, leb, length, length-append, length-map}
 use Rattle.reading.specs.Choice.{pick}
 use Rattle.reading.proofs.Laws.{by-test, and-left, and-right}
 use Rattle.truth_tables.specs.Tables.{Setting, settings, same, Term, fits, meets, dropped, terms, Condition, allOf, keep, implicant, prime, primes, tables-open}

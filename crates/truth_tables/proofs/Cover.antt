@@ -1,14 +1,7 @@
 -- The one fact for all truth tables: a setting is one of a condition exactly when it meets a prime implicant of it.
 -- Assumes nothing.
-use mathlib.Core.Bool.{Bool, true, false, not, _||_, and-false}
-use mathlib.Core.List.{List, [], _∷_, map, List·Memᴰ, List·Memᴰ·head, Memᴰ·append-left, Memᴰ·append-right}
-use mathlib.Core.Logic.{_↔_}
-use mathlib.Core.Option.{Option, none, some}
-use mathlib.Core.Path.{_≡_, refl, sym, ap, subst, _∙_}
-use Prim.Native.Nat.{ℕ, zero, suc, _-_, _≤_}
-use native.Mathlib.Omega.{arith}
-use lib.ListN.{length}
-use borrow.Author.Tests.{not-false}
+use Rattle.common_laws.proofs.Base.{Bool, true, false, not, _||_, and-false, List, [], _∷_, map, List·Memᴰ, List·Memᴰ·head, Memᴰ·append-left, Memᴰ·append-right, _↔_, Option, none}
+use Rattle.common_laws.proofs.Base.{some, _≡_, refl, sym, ap, subst, _∙_, ℕ, zero, suc, _-_, _≤_, arith, length, not-false}
 use Rattle.reading.specs.Each.{Each}
 use Rattle.reading.proofs.Laws.{by-test, clash, and-left, and-right, each-member}
 use Rattle.library_table.specs.Library.{anyOf}

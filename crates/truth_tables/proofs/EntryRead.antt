@@ -1,15 +1,8 @@
 -- The entry of a cell is read as the cell.
 -- Assumes nothing.
-use mathlib.Core.Bool.{true, false, _&&_}
-use mathlib.Core.List.{List, [], _∷_, _++_, append-assoc, append-nil, List·Memᴰ, List·Memᴰ·head, List·Memᴰ·tail, List·Memᴰ·not-nil, List·Memᴰ·append-cases}
-use mathlib.Core.Logic.{_⊎_, ⊎-elim}
-use mathlib.Core.Option.{some}
-use mathlib.Core.Path.{_≡_, refl, sym, ap, _∙_}
-use Prim.Native.Nat.{ℕ, zero, suc, _+_, _*_, _/_, _%_, _^_, _≤_, _<_}
-use native.Mathlib.Omega.{arith}
-use lib.Dec.{leb}
-use lib.ListN.{length}
-use borrow.Author.Tests.{eq-eqb, le-ltb, leb-true}
+use Rattle.common_laws.proofs.Base.{true, false, _&&_, List, [], _∷_, _++_, append-assoc, append-nil, List·Memᴰ, List·Memᴰ·head, List·Memᴰ·tail, List·Memᴰ·not-nil}
+use Rattle.common_laws.proofs.Base.{List·Memᴰ·append-cases, _⊎_, ⊎-elim, some, _≡_, refl, sym, ap, _∙_, ℕ, zero, suc, _+_, _*_, _/_, _%_, _^_, _≤_, _<_, arith, leb, length, eq-eqb}
+use Rattle.common_laws.proofs.Base.{le-ltb, leb-true}
 use Rattle.sizes.specs.Sizes as Size
 use Rattle.reading.specs.Choice.{pick}
 use Rattle.reading.specs.Each.{Each}

@@ -1,12 +1,6 @@
 -- No entry of a truth table is long.
 -- Assumes nothing.
-use mathlib.Core.Bool.{Bool, true, false}
-use mathlib.Core.List.{List, [], _∷_, _++_, map}
-use mathlib.Core.Option.{none}
-use mathlib.Core.Path.{_≡_, refl}
-use Prim.Native.Nat.{ℕ, zero, suc, _+_, _*_, _-_, _≤_}
-use native.Mathlib.Omega.{arith}
-use lib.ListN.{length, length-append, length-map}
+use Rattle.common_laws.proofs.Base.{Bool, true, false, List, [], _∷_, _++_, map, none, _≡_, refl, ℕ, zero, suc, _+_, _*_, _-_, _≤_, arith, length, length-append, length-map}
 use Rattle.reading.specs.Each.{Each}
 use Rattle.text.specs.Bytes.{bytes}
 use Rattle.text.specs.Numeral.{nameForm}

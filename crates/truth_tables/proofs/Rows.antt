@@ -1,16 +1,8 @@
 -- The fact of document 02, K6, over rows and groups: a setting meets the row of a term exactly when it meets the term.
 -- Assumes nothing.
-use mathlib.Core.Bool.{Bool, true, false}
-use mathlib.Core.List.{List, [], _∷_, _++_, map, List·Memᴰ, List·Memᴰ·head, List·Memᴰ·tail, List·Memᴰ·append-cases, Memᴰ·append-left}
-use mathlib.Core.Logic.{_⊎_, inl, inr, ⊎-elim, _↔_}
-use mathlib.Core.Option.{none}
-use mathlib.Core.Path.{_≡_, refl, sym, ap, subst, _∙_}
-use Prim.Native.Nat.{ℕ, zero, suc, _+_, _*_, _-_, _^_, _≤_, _<_}
-use native.Mathlib.Nat.{pow-suc, add-zero, add-suc, suc-add, zero-add}
-use native.Mathlib.Omega.{arith}
-use lib.Dec.{eqb}
-use lib.ListN.{length, getD}
-use borrow.Author.Tests.{eq-eqb, eqb-true}
+use Rattle.common_laws.proofs.Base.{Bool, true, false, List, [], _∷_, _++_, map, List·Memᴰ, List·Memᴰ·head, List·Memᴰ·tail, List·Memᴰ·append-cases, Memᴰ·append-left, _⊎_, inl, inr}
+use Rattle.common_laws.proofs.Base.{⊎-elim, _↔_, none, _≡_, refl, sym, ap, subst, _∙_, ℕ, zero, suc, _+_, _*_, _-_, _^_, _≤_, _<_, pow-suc, add-zero, add-suc, suc-add, zero-add}
+use Rattle.common_laws.proofs.Base.{arith, eqb, length, getD, eq-eqb, eqb-true}
 use Rattle.reading.specs.Each.{Each}
 use Rattle.common_laws.proofs.Numbers.{two-four}
 use Rattle.reading.proofs.Laws.{by-test, clash, each-map}

@@ -1,15 +1,9 @@
 -- The laws of a text in a buffer, or a refusal: from the cursor behind the text to the answer, from the answer to what is
 -- printed, and from a refusal to its one number and back.
 -- Assumes nothing.
-use mathlib.Core.Bool.{Bool, false}
-use mathlib.Core.List.{List, _++_}
-use mathlib.Core.Path.{_≡_, refl, sym, ap, _∙_}
-use Prim.Native.Nat.{ℕ, _+_, _≤_, _<_}
-use native.Mathlib.Omega.{arith}
-use lib.Dec.{leb, ltb}
-use lib.ListN.{length, drop, replicate, length-append}
-use lib.Seq.{take-append-seam, drop-append-seam, length-sets}
-use borrow.Author.Tests.{le-leb, lt-leb, le-ltb, lt-ltb, leb-true, leb-false}
+use Rattle.common_laws.proofs.Base.{Bool, false, List, _++_, _≡_, refl, sym, ap, _∙_, ℕ, _+_, _≤_, _<_, arith, leb, ltb, length, drop, replicate, length-append, take-append-seam}
+use Rattle.common_laws.proofs.Base.{length-sets, le-leb, lt-leb, le-ltb, lt-ltb, leb-true, leb-false}
+use lib.Seq.{drop-append-seam}
 use Rattle.reading.specs.Choice.{pick}
 use Rattle.reading.specs.Numbers as No
 use Rattle.reading.specs.Refusal.{Read, refused, read, _>>_, weigh}

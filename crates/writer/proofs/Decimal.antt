@@ -1,11 +1,6 @@
 -- The laws of numbers in decimal: what the digits read back as, and how many there are.
 -- Assumes nothing.
-use mathlib.Core.List.{[], _∷_, _++_, append-assoc}
-use mathlib.Core.Option.{some}
-use mathlib.Core.Path.{_≡_, refl}
-use Prim.Native.Nat.{ℕ, suc, _+_, _/_, _%_, _^_, _≤_, _<_}
-use native.Mathlib.Omega.{arith}
-use lib.ListN.{length}
+use Rattle.common_laws.proofs.Base.{[], _∷_, _++_, append-assoc, some, _≡_, refl, ℕ, suc, _+_, _/_, _%_, _^_, _≤_, _<_, arith, length}
 use Rattle.text.specs.Numeral.{numeral}
 use Rattle.writer.specs.Decimal.{decimalBytes, twoDigits}
 use Rattle.writer.proofs.Digits.{digits-one, digits-then, digits-some, digits-most, digits-below, digits-above, digits-read}

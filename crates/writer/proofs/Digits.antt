@@ -1,15 +1,9 @@
 -- The laws of numbers in any base: the last digit and those above it, how many there are, and what they read back as.
 -- Assumes nothing.
-use mathlib.Core.Bool.{Bool, true, false, not}
-use mathlib.Core.List.{List, [], _∷_, _++_}
-use mathlib.Core.Option.{some}
-use mathlib.Core.Path.{_≡_, refl, sym, ap, _∙_}
-use Prim.Native.Nat.{ℕ, zero, suc, _+_, _*_, _-_, _/_, _%_, _^_, _≤_, _<_}
-use native.Mathlib.Nat.{one-mul, pow-zero, pow-suc, one-le-pow, mod-lt, mod-eq-of-lt, div-add-mod', le-div-iff-mul-le}
-use native.Mathlib.Omega.{arith}
-use lib.Dec.{ltb, eqb}
-use lib.ListN.{length, length-append}
-use borrow.Author.Tests.{lt-ltb, le-ltb, le-leb, ne-eqb, ltb-true, ltb-false}
+use Rattle.common_laws.proofs.Base.{Bool, true, false, not, List, [], _∷_, _++_, some, _≡_, refl, sym, ap, _∙_, ℕ, zero, suc, _+_, _*_, _-_, _/_, _%_, _^_, _≤_, _<_, pow-zero}
+use Rattle.common_laws.proofs.Base.{pow-suc, one-le-pow, mod-lt, mod-eq-of-lt, div-add-mod', arith, ltb, eqb, length, length-append, lt-ltb, le-ltb, le-leb, ne-eqb, ltb-true}
+use Rattle.common_laws.proofs.Base.{ltb-false}
+use native.Mathlib.Nat.{one-mul, le-div-iff-mul-le}
 use Rattle.common_laws.proofs.Numbers.{quotient-below}
 use Rattle.reading.specs.Choice.{pick}
 use Rattle.reading.proofs.Laws.{by-test, clash, and-left, and-right}

@@ -1,12 +1,6 @@
 -- The laws of numbers in octal.
 -- Assumes nothing.
-use mathlib.Core.Bool.{true}
-use mathlib.Core.List.{[], _∷_, _++_}
-use mathlib.Core.Option.{some}
-use mathlib.Core.Path.{_≡_}
-use Prim.Native.Nat.{ℕ, suc, _+_, _/_, _%_, _^_, _≤_, _<_}
-use native.Mathlib.Omega.{arith}
-use lib.ListN.{length}
+use Rattle.common_laws.proofs.Base.{true, [], _∷_, _++_, some, _≡_, ℕ, suc, _+_, _/_, _%_, _^_, _≤_, _<_, arith, length}
 use Rattle.text.specs.Numeral.{allDigits, value, numeral}
 use Rattle.writer.specs.Octal.{octalBytes}
 use Rattle.writer.proofs.Digits.{digits-one, digits-then, digits-value, digits-all, digits-most, digits-read}

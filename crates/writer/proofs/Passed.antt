@@ -1,11 +1,7 @@
 -- How far a number's digits stand in a buffer that is filled from the last digit to the first.
 -- Assumes nothing.
-use mathlib.Core.List.{List, [], _∷_, _++_, append-nil, append-assoc}
-use mathlib.Core.Path.{_≡_, refl, sym, ap, _∙_}
-use Prim.Native.Nat.{ℕ, _+_, _-_, _/_, _%_, _^_, _≤_, _<_}
-use native.Mathlib.Omega.{arith}
-use lib.ListN.{length, length-append}
-use lib.Seq.{sets}
+use Rattle.common_laws.proofs.Base.{List, [], _∷_, _++_, append-nil, append-assoc, _≡_, refl, sym, ap, _∙_, ℕ, _+_, _-_, _/_, _%_, _^_, _≤_, _<_, arith, length, length-append}
+use Rattle.common_laws.proofs.Base.{sets}
 use Rattle.writer.specs.Decimal.{decimalBytes, twoDigits}
 use Rattle.writer.proofs.Decimal.{decimal-hundreds}
 use Rattle.writer.proofs.Steps.{sets-before}

@@ -1,15 +1,9 @@
 -- What the proofs of the functions that write at a cursor share: bytes put behind bytes.
 -- Assumes nothing.
-use mathlib.Core.List.{List, [], _∷_, _++_}
-use lib.Dec.{ltb}
-use borrow.Author.Tests.{ltb-true, ltb-false}
-use mathlib.Core.Path.{_≡_, refl, sym, ap, _∙_}
-use Prim.Native.Nat.{ℕ, suc, _+_, _-_, _≤_, _<_, min}
+use Rattle.common_laws.proofs.Base.{List, [], _∷_, _++_, ltb, ltb-true, ltb-false, _≡_, refl, sym, ap, _∙_, ℕ, suc, _+_, _-_, _≤_, _<_, min, zero-add, add-zero, arith, length, set}
+use Rattle.common_laws.proofs.Base.{drop, length-append, sets, length-sets, sets-eq}
 use Rattle.reading.proofs.Laws.{by-test}
-use native.Mathlib.Nat.{zero-add, add-zero}
-use native.Mathlib.Omega.{arith}
-use lib.ListN.{length, set, drop, length-append}
-use lib.Seq.{sets, length-sets, set-comm, sets-eq}
+use lib.Seq.{set-comm}
 use Rattle.common_laws.proofs.Lists.{sets-past, sets-append}
 use Rattle.writer.specs.Put.{Put}
 

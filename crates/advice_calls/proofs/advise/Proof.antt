@@ -1,11 +1,9 @@
 -- `advise` reads both texts, and lays the advice into the answer. Assumes nothing.
-use mathlib.Core.Path.{refl}
-use denote.Ref.{now}
+use Rattle.common_laws.proofs.Base.{refl, now, needs}
 use Rattle.demands.specs.Outcome.{givenTexts}
 use Rattle.demands.proofs.Given.{texts-checked}
 use Rattle.advice_calls.specs.Calls.{adviceSize, advisedRead}
 use Rattle.advice_calls.proofs.Promise.{some-held, advice-refused, advice-found}
-use borrow.Author.Needs.{needs}
 use Rattle.advice_calls.proofs.advise.Statement.{statement}
 use Rattle.advice_calls.proofs.advise.Tie as tie
 

@@ -1,6 +1,5 @@
 -- `put_advice` lays the largest CO of an advice that names a line. Assumes nothing.
-use mathlib.Core.Path.{refl}
-use borrow.Author.Needs.{needs}
+use Rattle.common_laws.proofs.Base.{refl, needs}
 use Rattle.advice_calls.specs.Calls.{adviceInto}
 use Rattle.advice_calls.proofs.put_advice.Statement.{statement}
 use Rattle.advice_calls.proofs.put_advice.Tie as tie

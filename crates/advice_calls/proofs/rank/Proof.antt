@@ -1,12 +1,10 @@
 -- `rank` reads both texts, and lays the ranks into the table. Assumes nothing.
-use mathlib.Core.Path.{refl}
-use denote.Ref.{now}
+use Rattle.common_laws.proofs.Base.{refl, now, needs}
 use Rattle.sizes.specs.Sizes as Size
 use Rattle.demands.specs.Outcome.{givenTexts}
 use Rattle.demands.proofs.Given.{texts-checked}
 use Rattle.advice_calls.specs.Calls.{rankedRead}
 use Rattle.advice_calls.proofs.Promise.{some-held, room-kept, ranks-refused, ranks-made}
-use borrow.Author.Needs.{needs}
 use Rattle.advice_calls.proofs.rank.Statement.{statement}
 use Rattle.advice_calls.proofs.rank.Tie as tie
 

@@ -1,10 +1,8 @@
 -- `read_into` refuses a short answer, and reads both texts. Assumes nothing.
-use mathlib.Core.Path.{refl, _∙_}
-use denote.Ref.{now}
+use Rattle.common_laws.proofs.Base.{refl, _∙_, now, needs}
 use Rattle.reading.specs.Verdict.{verdictRead}
 use Rattle.table.proofs.Places.{cleared-all}
 use Rattle.analysis_texts.proofs.Calls.{short-call, entry-call, later-call, made-call}
-use borrow.Author.Needs.{needs}
 use Rattle.advice_calls.proofs.read_into.Statement.{statement}
 use Rattle.advice_calls.proofs.read_into.Tie as tie
 

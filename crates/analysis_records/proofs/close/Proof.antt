@@ -1,10 +1,8 @@
 -- `close` ends a call, with what comes behind the last record. Assumes nothing.
-use mathlib.Core.Path.{_≡_, sym, _∙_, subst}
-use denote.Ref.{now}
+use Rattle.common_laws.proofs.Base.{_≡_, sym, _∙_, subst, now, needs}
 use Rattle.analysis_texts.specs.declared.Progress.{Progress}
 use Rattle.demands.specs.Answer.{answerRead, lentOf}
 use Rattle.analysis_call.specs.Finished.{Finished}
-use borrow.Author.Needs.{needs}
 use Rattle.analysis_records.proofs.close.Statement.{statement}
 use Rattle.analysis_records.proofs.close.Tie as tie
 

@@ -1,9 +1,7 @@
 -- `declare` refuses 20 where nothing is refused so far. Assumes nothing.
-use mathlib.Core.Path.{_≡_, refl, sym, _∙_}
-use denote.Ref.{now}
+use Rattle.common_laws.proofs.Base.{_≡_, refl, sym, _∙_, now, needs}
 use Rattle.analysis_texts.proofs.Reached.{entry-shut, later-shut}
 use Rattle.analysis_records.proofs.Laws.{declared-stays, declares-some, declares-none}
-use borrow.Author.Needs.{needs}
 use Rattle.analysis_records.proofs.declare.Statement.{statement}
 use Rattle.analysis_records.proofs.declare.Tie as tie
 

@@ -1,9 +1,7 @@
 -- `prepare` begins the call, and clears the netlist table where nothing is refused. Assumes nothing.
-use mathlib.Core.Path.{sym, _∙_}
-use denote.Ref.{now}
+use Rattle.common_laws.proofs.Base.{sym, _∙_, now, needs}
 use Rattle.analysis_texts.proofs.Reached.{entry-shut, later-shut}
 use Rattle.analysis_records.proofs.Call.{prepared-kept, prepared-cleared}
-use borrow.Author.Needs.{needs}
 use Rattle.analysis_records.proofs.prepare.Statement.{statement}
 use Rattle.analysis_records.proofs.prepare.Tie as tie
 

@@ -1,9 +1,5 @@
 -- `begin` reads the library text behind the entry. Assumes nothing.
-use mathlib.Core.List.{List, _++_}
-use mathlib.Core.Path.{_≡_, sym, ap, subst, _∙_}
-use Prim.Native.Nat.{ℕ}
-use lib.ListN.{length, drop}
-use denote.Ref.{now}
+use Rattle.common_laws.proofs.Base.{List, _++_, _≡_, sym, ap, subst, _∙_, ℕ, length, drop, now, needs}
 use Rattle.sizes.specs.Sizes as Size
 use Rattle.reading.specs.Refusal.{read}
 use Rattle.library_table.specs.Cells.{Cell}
@@ -13,7 +9,6 @@ use Rattle.library_text.specs.Walk.{NoCells}
 use Rattle.library_text.proofs.Walks.{cleared-past, cleared-none}
 use Rattle.demands.proofs.EntryChecks.{Entered}
 use Rattle.analysis_texts.proofs.EntryChecks.{begun-entry, fits, begun-later, begun-unrefused}
-use borrow.Author.Needs.{needs}
 use Rattle.analysis_texts.proofs.begin.Statement.{statement}
 use Rattle.analysis_texts.proofs.begin.Tie as tie
 

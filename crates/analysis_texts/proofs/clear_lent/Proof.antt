@@ -1,7 +1,6 @@
 -- `clear_lent` clears a table that was lent. Assumes nothing.
-use denote.Ref.{now}
+use Rattle.common_laws.proofs.Base.{now, needs}
 use Rattle.analysis_texts.proofs.Own.{own-cleared}
-use borrow.Author.Needs.{needs}
 use Rattle.analysis_texts.proofs.clear_lent.Statement.{statement}
 use Rattle.analysis_texts.proofs.clear_lent.Tie as tie
 

@@ -1,15 +1,11 @@
 -- `read_netlist` reads the netlist text where nothing is refused so far. Assumes nothing.
-use mathlib.Core.Path.{_≡_, sym, ap, subst, _∙_}
-use Prim.Native.Nat.{_≤_}
-use lib.ListN.{length, drop}
-use denote.Ref.{now}
+use Rattle.common_laws.proofs.Base.{_≡_, sym, ap, subst, _∙_, _≤_, length, drop, now, needs}
 use Rattle.sizes.specs.Sizes as Size
 use Rattle.netlist_text.specs.Reader.{NoStatements}
 use Rattle.netlist_text.proofs.Walk.{cleared-past, cleared-none}
 use Rattle.analysis_texts.specs.Progress.{NetlistFits}
 use Rattle.analysis_texts.proofs.Reached.{entry-shut, later-shut}
 use Rattle.analysis_texts.proofs.NetlistRead.{text-stays, text-refused, text-accepted}
-use borrow.Author.Needs.{needs}
 use Rattle.analysis_texts.proofs.read_netlist.Statement.{statement}
 use Rattle.analysis_texts.proofs.read_netlist.Tie as tie
 

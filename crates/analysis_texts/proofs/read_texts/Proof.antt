@@ -1,13 +1,11 @@
 -- `read_texts`: the entry and the library, then the netlist text. Assumes nothing.
-use mathlib.Core.Path.{sym, _∙_}
-use denote.Ref.{now}
+use Rattle.common_laws.proofs.Base.{sym, _∙_, now, needs}
 use Rattle.library_table.specs.Library.{library}
 use Rattle.demands.specs.Outcome.{givenBy}
 use Rattle.demands.proofs.EntryChecks.{entered}
 use Rattle.analysis_texts.specs.Progress.{NetlistFits}
 use Rattle.analysis_texts.proofs.NetlistRead.{netlist-read}
 use Rattle.analysis_texts.proofs.Reached.{unrefused-entry, reached}
-use borrow.Author.Needs.{needs}
 use Rattle.analysis_texts.proofs.read_texts.Statement.{statement}
 use Rattle.analysis_texts.proofs.read_texts.Tie as tie
 

@@ -1,6 +1,5 @@
 -- `advised_code` tells an advice by its line, a refusal by its one number. Assumes nothing.
-use mathlib.Core.Path.{ap, _∙_}
-use borrow.Author.Needs.{needs}
+use Rattle.common_laws.proofs.Base.{ap, _∙_, needs}
 use Rattle.advice_calls.specs.Calls.{advisedRead}
 use Rattle.answer_codes.specs.Advice.{adviceLine}
 use Rattle.answer_codes.proofs.Number.{code-accepted, code-refused, code-line}

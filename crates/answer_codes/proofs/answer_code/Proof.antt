@@ -1,6 +1,5 @@
 -- `answer_code` tells a report's length by itself, a refusal by its one number. Assumes nothing.
-use mathlib.Core.Path.{ap}
-use borrow.Author.Needs.{needs}
+use Rattle.common_laws.proofs.Base.{ap, needs}
 use Rattle.demands.specs.declared.Summary.{Summary}
 use Rattle.demands.specs.Answer.{answerRead}
 use Rattle.answer_codes.proofs.Number.{code-accepted, code-refused, code-line}

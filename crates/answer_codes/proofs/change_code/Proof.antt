@@ -1,6 +1,5 @@
 -- `change_code` tells which of the two happened by 1 or 0, a refusal by its one number. Assumes nothing.
-use mathlib.Core.Path.{ap}
-use borrow.Author.Needs.{needs}
+use Rattle.common_laws.proofs.Base.{ap, needs}
 use Rattle.reading.specs.Choice.{pick}
 use Rattle.standing_change.specs.Calls.{changedRead}
 use Rattle.answer_codes.proofs.Number.{code-refused, code-line}

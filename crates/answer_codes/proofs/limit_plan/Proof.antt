@@ -1,6 +1,5 @@
 -- `limit_plan` keeps what was answered, or refuses a text whose length is not told. Assumes nothing.
-use native.Mathlib.Omega.{arith}
-use borrow.Author.Needs.{needs}
+use Rattle.common_laws.proofs.Base.{arith, needs}
 use Rattle.reading.specs.Numbers as No
 use Rattle.answer_codes.proofs.Plan.{limits-short, limits-refused, limits-long}
 use Rattle.answer_codes.proofs.limit_plan.Statement.{statement}

@@ -1,6 +1,5 @@
 -- `line_number` tells a line by itself, that there is none by 0. Assumes nothing.
-use mathlib.Core.Path.{refl}
-use borrow.Author.Needs.{needs}
+use Rattle.common_laws.proofs.Base.{refl, needs}
 use Rattle.answer_codes.specs.Advice.{adviceLine}
 use Rattle.answer_codes.proofs.line_number.Statement.{statement}
 use Rattle.answer_codes.proofs.line_number.Tie as tie

@@ -1,6 +1,5 @@
 -- `pads_code` tells a count by itself, a refusal by its one number. Assumes nothing.
-use mathlib.Core.Path.{refl, ap}
-use borrow.Author.Needs.{needs}
+use Rattle.common_laws.proofs.Base.{refl, ap, needs}
 use Rattle.writer.specs.Buffer.{codeOf}
 use Rattle.standing_calls.specs.Calls.{padsRead}
 use Rattle.answer_codes.proofs.pads_code.Statement.{statement}

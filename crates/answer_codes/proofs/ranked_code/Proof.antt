@@ -1,6 +1,5 @@
 -- `ranked_code` tells a count by itself, a refusal by its one number. Assumes nothing.
-use mathlib.Core.Path.{refl, ap}
-use borrow.Author.Needs.{needs}
+use Rattle.common_laws.proofs.Base.{refl, ap, needs}
 use Rattle.writer.specs.Buffer.{codeOf}
 use Rattle.advice_calls.specs.Calls.{rankedRead}
 use Rattle.answer_codes.proofs.ranked_code.Statement.{statement}

@@ -1,6 +1,5 @@
 -- `steps_code` tells a count by itself, a refusal by its one number. Assumes nothing.
-use mathlib.Core.Path.{refl, ap}
-use borrow.Author.Needs.{needs}
+use Rattle.common_laws.proofs.Base.{refl, ap, needs}
 use Rattle.writer.specs.Buffer.{codeOf}
 use Rattle.budget_call.specs.Promise.{stepsRead}
 use Rattle.answer_codes.proofs.steps_code.Statement.{statement}

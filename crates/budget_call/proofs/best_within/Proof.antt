@@ -1,7 +1,5 @@
 -- `best_within`: the entry and both texts, then the run. Assumes nothing.
-use mathlib.Core.Path.{refl, _∙_}
-use denote.Ref.{now}
-use borrow.Author.Needs.{needs}
+use Rattle.common_laws.proofs.Base.{refl, _∙_, now, needs}
 use Rattle.table.proofs.Places.{cleared-all}
 use Rattle.budget_call.specs.Promise.{stepsRead}
 use Rattle.budget_call.proofs.Promise.{call-short, call-entry, call-later, fill-fits, call-made}

@@ -1,7 +1,5 @@
 -- `fill`: the run, its last cost, and the words of all values. Assumes nothing.
-use mathlib.Core.Path.{refl, _∙_}
-use lib.ListN.{length-set}
-use borrow.Author.Needs.{needs}
+use Rattle.common_laws.proofs.Base.{refl, _∙_, length-set, needs}
 use Rattle.budget_call.proofs.Words.{filled}
 use Rattle.budget_call.proofs.fill.Statement.{statement}
 use Rattle.budget_call.proofs.fill.Tie as tie

@@ -1,8 +1,5 @@
 -- `hand_over` lays the words of one value more with each turn. Assumes nothing.
-use mathlib.Core.Path.{_≡_}
-use Prim.Native.Nat.{_-_, _≤_}
-use native.Mathlib.Omega.{arith}
-use borrow.Author.Needs.{needs}
+use Rattle.common_laws.proofs.Base.{_≡_, _-_, _≤_, arith, needs}
 use Rattle.sizes.specs.Sizes as Size
 use Rattle.budget_call.specs.Parts.{Handed}
 use Rattle.budget_call.proofs.Words.{handed-none, handed-next}

@@ -1,6 +1,5 @@
 -- `hand_value` goes by whether the number is below never. Assumes nothing.
-use mathlib.Core.Path.{_∙_}
-use borrow.Author.Needs.{needs}
+use Rattle.common_laws.proofs.Base.{_∙_, needs}
 use Rattle.budget_call.proofs.Words.{value-fixed, value-open}
 use Rattle.budget_call.proofs.hand_value.Statement.{statement}
 use Rattle.budget_call.proofs.hand_value.Tie as tie

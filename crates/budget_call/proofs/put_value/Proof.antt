@@ -1,9 +1,5 @@
 -- `put_value` stores one word behind the other. Assumes nothing.
-use mathlib.Core.List.{List}
-use mathlib.Core.Path.{ap, _∙_}
-use Prim.Native.Nat.{ℕ, _+_}
-use lib.ListN.{set}
-use borrow.Author.Needs.{needs}
+use Rattle.common_laws.proofs.Base.{List, ap, _∙_, ℕ, _+_, set, needs}
 use Rattle.sizes.specs.Places.{flagPlace}
 use Rattle.budget_call.proofs.put_value.Statement.{statement}
 use Rattle.budget_call.proofs.put_value.Tie as tie

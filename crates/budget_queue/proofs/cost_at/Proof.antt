@@ -1,9 +1,5 @@
 -- `cost_at` reads a key. Assumes nothing.
-use native.Mathlib.Omega.{arith}
-use Prim.Native.Nat.{_+_, _/_, _≤_}
-use lib.ListN.{getD}
-use borrow.Author.Needs.{needs}
-use mathlib.Core.Path.{refl}
+use Rattle.common_laws.proofs.Base.{arith, _+_, _/_, _≤_, getD, needs, refl}
 use Rattle.sizes.specs.Sizes as Size
 use Rattle.cost.specs.Cost.{never}
 use Rattle.budget_queue.specs.Queue.{costAt}

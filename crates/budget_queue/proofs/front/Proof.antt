@@ -1,6 +1,5 @@
 -- `front` reads the root. Assumes nothing.
-use borrow.Author.Needs.{needs}
-use native.Mathlib.Omega.{arith}
+use Rattle.common_laws.proofs.Base.{needs, arith}
 use Rattle.budget_queue.proofs.Laws.{front-of}
 use Rattle.budget_queue.proofs.front.Statement.{statement}
 use Rattle.budget_queue.proofs.front.Tie as tie

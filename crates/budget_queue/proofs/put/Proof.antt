@@ -1,10 +1,5 @@
 -- `put` stores a key at its leaf and then goes up, a place at a time. Assumes nothing.
-use borrow.Author.Needs.{needs}
-use mathlib.Core.Path.{_≡_, _∙_, refl, sym, ap}
-use Prim.Native.Nat.{ℕ, _+_, _*_, _-_, _/_, _%_, _≤_, _<_, min}
-use native.Mathlib.Omega.{arith}
-use lib.ListN.{length, getD, set, length-set}
-use lib.Seq.{getD-set-same}
+use Rattle.common_laws.proofs.Base.{needs, _≡_, _∙_, refl, sym, ap, ℕ, _+_, _*_, _-_, _/_, _%_, _≤_, _<_, min, arith, length, getD, set, length-set, getD-set-same}
 use Rattle.sizes.specs.Sizes as Size
 use Rattle.budget_queue.proofs.Laws.{Above, SameLeaves, above-store, above-step, beside-lower, leaves-step, put-same, put-done}
 use Rattle.budget_queue.proofs.put.Statement.{statement}

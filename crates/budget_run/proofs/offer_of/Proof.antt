@@ -1,11 +1,5 @@
 -- `offer_of` gathers the costs of the gate's columns, and takes the least row sum over them. Assumes nothing.
-use mathlib.Core.Bool.{Bool, true, false}
-use mathlib.Core.List.{List}
-use mathlib.Core.Path.{_≡_, refl, sym, ap₂, _∙_}
-use Prim.Native.Nat.{ℕ, _+_, _*_, _≤_}
-use native.Mathlib.Omega.{arith}
-use borrow.Author.Needs.{needs}
-use lib.ListN.{length}
+use Rattle.common_laws.proofs.Base.{Bool, true, false, List, _≡_, refl, sym, ap₂, _∙_, ℕ, _+_, _*_, _≤_, arith, needs, length}
 use Rattle.sizes.specs.Sizes as Size
 use Rattle.sizes.specs.Places.{groupPlace}
 use Rattle.reading.specs.Choice.{pick}

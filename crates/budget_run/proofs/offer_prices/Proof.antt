@@ -1,9 +1,5 @@
 -- `offer_prices` puts one price more with each turn. Assumes nothing.
-use mathlib.Core.Path.{_≡_, ap}
-use Prim.Native.Nat.{ℕ, _-_, _≤_}
-use native.Mathlib.Omega.{arith}
-use lib.ListN.{getD}
-use borrow.Author.Needs.{needs}
+use Rattle.common_laws.proofs.Base.{_≡_, ap, ℕ, _-_, _≤_, arith, getD, needs}
 use Rattle.sizes.specs.Sizes as Size
 use Rattle.sizes.specs.Places.{leafPlace}
 use Rattle.budget_run.proofs.Runs.{PricedTo, priced-start, priced-on, priced-all}

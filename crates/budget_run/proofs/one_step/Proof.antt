@@ -1,8 +1,5 @@
 -- `one_step` fixes the front of the queue, wakes the readers of its line and takes their offers anew. Assumes nothing.
-use mathlib.Core.Path.{_∙_}
-use native.Mathlib.Omega.{arith}
-use lib.ListN.{length-set}
-use borrow.Author.Needs.{needs}
+use Rattle.common_laws.proofs.Base.{_∙_, arith, length-set, needs}
 use Rattle.budget_run.proofs.Step.{stepped-none, stepped-fix}
 use Rattle.budget_run.proofs.one_step.Statement.{statement}
 use Rattle.budget_run.proofs.one_step.Tie as tie

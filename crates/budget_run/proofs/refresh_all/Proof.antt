@@ -1,10 +1,5 @@
 -- `refresh_all` goes through the gates. Assumes nothing.
-use mathlib.Core.Logic.{_⊎_, inl, inr}
-use mathlib.Core.Path.{_≡_}
-use Prim.Native.Nat.{ℕ, _+_, _-_, _≤_, _<_}
-use native.Mathlib.Decide.{ℕ-discrete}
-use native.Mathlib.Omega.{arith}
-use lib.ListN.{getD}
+use Rattle.common_laws.proofs.Base.{_⊎_, inl, inr, _≡_, ℕ, _+_, _-_, _≤_, _<_, ℕ-discrete, arith, getD}
 use Rattle.sizes.specs.Sizes as Size
 use Rattle.budget_run.specs.Steps.{AnyGate}
 use Rattle.budget_run.proofs.Offers.{Partly, partly-start, partly-on, partly-all}

@@ -1,8 +1,5 @@
 -- `refresh_readers` walks along the chain of the line. Assumes nothing.
-use mathlib.Core.Path.{_≡_}
-use Prim.Native.Nat.{_*_, _≤_, _<_}
-use native.Mathlib.Omega.{arith}
-use borrow.Author.Needs.{needs}
+use Rattle.common_laws.proofs.Base.{_≡_, _*_, _≤_, _<_, arith, needs}
 use Rattle.sizes.specs.Sizes as Size
 use Rattle.budget_run.proofs.Offers.{Walk, walk-start, next-below, gate-inside, walk-on, walk-end}
 use Rattle.budget_run.proofs.refresh_readers.Statement.{statement}

@@ -1,6 +1,5 @@
 -- `refresh_unless` is a test. Assumes nothing.
-use mathlib.Core.Path.{refl}
-use borrow.Author.Needs.{needs}
+use Rattle.common_laws.proofs.Base.{refl, needs}
 use Rattle.budget_run.proofs.refresh_unless.Statement.{statement}
 use Rattle.budget_run.proofs.refresh_unless.Tie as tie
 

@@ -1,7 +1,5 @@
 -- `refresh_value` puts the gate's bid at its leaf. Assumes nothing.
-use mathlib.Core.Path.{_≡_}
-use Prim.Native.Nat.{ℕ, _<_}
-use borrow.Author.Needs.{needs}
+use Rattle.common_laws.proofs.Base.{_≡_, ℕ, _<_, needs}
 use Rattle.sizes.specs.Sizes as Size
 use Rattle.budget_queue.specs.Queue.{Put}
 use Rattle.budget_run.specs.Steps.{OutputStands}

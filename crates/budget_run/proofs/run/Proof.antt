@@ -1,10 +1,5 @@
 -- `run`: the prices and the offers at the start, then one step after the other. Assumes nothing.
-use mathlib.Core.List.{List}
-use mathlib.Core.Path.{refl, _∙_, ap}
-use Prim.Native.Nat.{_-_, _≤_}
-use native.Mathlib.Omega.{arith}
-use lib.ListN.{length, length-replicate}
-use borrow.Author.Needs.{needs}
+use Rattle.common_laws.proofs.Base.{List, refl, _∙_, ap, _-_, _≤_, arith, length, length-replicate, needs}
 use Rattle.sizes.specs.Sizes as Size
 use Rattle.cost.specs.Cost.{never}
 use Rattle.library_table.specs.Cells.{Cell}

@@ -1,8 +1,5 @@
 -- `all_generated` goes on while each cell is generated. Assumes nothing.
-use mathlib.Core.Path.{_≡_, refl, sym, ap, _∙_}
-use Prim.Native.Nat.{_-_, _≤_}
-use native.Mathlib.Omega.{arith}
-use lib.ListN.{length}
+use Rattle.common_laws.proofs.Base.{_≡_, refl, sym, ap, _∙_, _-_, _≤_, arith, length}
 use Rattle.sizes.specs.Sizes as Size
 use Rattle.netlist_table.specs.Gates.{eachOf, gateAt, gatesHeld}
 use Rattle.netlist_table.proofs.HeldGates.{gates-start}

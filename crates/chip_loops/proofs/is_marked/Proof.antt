@@ -1,8 +1,5 @@
 -- `is_marked` looks at the line's mark. Assumes nothing.
-use mathlib.Core.Bool.{not}
-use mathlib.Core.Path.{ap}
-use Prim.Native.Nat.{ℕ}
-use lib.Dec.{eqb}
+use Rattle.common_laws.proofs.Base.{not, ap, ℕ, eqb}
 use Rattle.chip_loops.specs.Marks.{marked}
 use Rattle.chip_loops.proofs.is_marked.Statement.{statement}
 use Rattle.chip_loops.proofs.is_marked.Tie as tie

@@ -1,9 +1,5 @@
 -- `level_ahead` is ahead by the gates below the one that it is at. Assumes nothing.
-use mathlib.Core.Path.{_≡_, refl, _∙_}
-use Prim.Native.Nat.{_-_, _≤_}
-use native.Mathlib.Omega.{arith}
-use lib.ListN.{length}
-use borrow.Author.Needs.{needs}
+use Rattle.common_laws.proofs.Base.{_≡_, refl, _∙_, _-_, _≤_, arith, length, needs}
 use Rattle.sizes.specs.Sizes as Size
 use Rattle.netlist_table.specs.Gates.{gatesHeld}
 use Rattle.chip_loops.specs.Marks.{Ahead, Ahead.none}

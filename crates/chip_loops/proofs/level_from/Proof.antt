@@ -1,8 +1,5 @@
 -- `level_from` goes on from gate to gate while the count lasts. Assumes nothing.
-use mathlib.Core.Path.{_≡_, refl, _∙_}
-use native.Mathlib.Omega.{arith}
-use lib.ListN.{length}
-use borrow.Author.Needs.{needs}
+use Rattle.common_laws.proofs.Base.{_≡_, refl, _∙_, arith, length, needs}
 use Rattle.netlist_table.specs.Gates.{gatesHeld}
 use Rattle.chip_loops.specs.Marks.{Ahead, Ahead.none}
 use Rattle.chip_loops.proofs.Steps.{one-more}

@@ -1,7 +1,5 @@
 -- `level_gate` marks the line of a gate that is ready. Assumes nothing.
-use mathlib.Core.Path.{refl, ap, _∙_}
-use native.Mathlib.Omega.{arith}
-use lib.ListN.{length, length-set}
+use Rattle.common_laws.proofs.Base.{refl, ap, _∙_, arith, length, length-set}
 use Rattle.chip_loops.proofs.Steps.{levelled-before, not-ready, levels}
 use Rattle.chip_loops.proofs.level_gate.Statement.{statement}
 use Rattle.chip_loops.proofs.level_gate.Tie as tie

@@ -1,8 +1,5 @@
 -- `level_lines` has so many passes left, or the last one levelled nothing. Assumes nothing.
-use mathlib.Core.Path.{_≡_, refl, ap, _∙_}
-use Prim.Native.Nat.{_≤_}
-use native.Mathlib.Omega.{arith}
-use lib.ListN.{length}
+use Rattle.common_laws.proofs.Base.{_≡_, refl, ap, _∙_, _≤_, arith, length}
 use Rattle.netlist_table.specs.Gates.{gatesHeld}
 use Rattle.chip_loops.specs.Marks.{passes, mostPasses}
 use Rattle.chip_loops.proofs.Steps.{passed-size, passes-end, passes-next}

@@ -1,6 +1,5 @@
 -- `level_or_wait` changes the marks by `level_gate` alone. Assumes nothing.
-use native.Mathlib.Omega.{arith}
-use borrow.Author.Needs.{needs}
+use Rattle.common_laws.proofs.Base.{arith, needs}
 use Rattle.chip_loops.specs.Marks.{Ahead.none}
 use Rattle.chip_loops.proofs.Order.{ahead-gate}
 use Rattle.chip_loops.proofs.level_or_wait.Statement.{statement}

@@ -1,7 +1,5 @@
 -- `mark_input` marks a line that is an input. Assumes nothing.
-use mathlib.Core.Path.{ap, _∙_}
-use lib.ListN.{length, length-set}
-use borrow.Author.Needs.{needs}
+use Rattle.common_laws.proofs.Base.{ap, _∙_, length, length-set, needs}
 use Rattle.chip_loops.proofs.Steps.{input-marked, input-none}
 use Rattle.chip_loops.proofs.mark_input.Statement.{statement}
 use Rattle.chip_loops.proofs.mark_input.Tie as tie

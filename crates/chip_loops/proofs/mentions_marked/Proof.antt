@@ -1,8 +1,5 @@
 -- `mentions_marked` goes on while the lines that are mentioned are marked. Assumes nothing.
-use mathlib.Core.Bool.{not}
-use mathlib.Core.Path.{_≡_, refl, sym, ap, _∙_}
-use Prim.Native.Nat.{_-_, _≤_}
-use native.Mathlib.Omega.{arith}
+use Rattle.common_laws.proofs.Base.{not, _≡_, refl, sym, ap, _∙_, _-_, _≤_, arith}
 use Rattle.sizes.specs.Sizes as Size
 use Rattle.netlist_table.specs.Netlist.{linesWhere}
 use Rattle.netlist_table.specs.Lines.{mentionAt, mentionsHeld}

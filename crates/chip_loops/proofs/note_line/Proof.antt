@@ -1,6 +1,5 @@
 -- `note_line` marks the line where it has no mark. Assumes nothing.
-use mathlib.Core.Path.{refl, sym, ap, _∙_}
-use lib.ListN.{length, length-set}
+use Rattle.common_laws.proofs.Base.{refl, sym, ap, _∙_, length, length-set}
 use Rattle.chip_loops.proofs.Steps.{note-none, note-again, note-new}
 use Rattle.chip_loops.proofs.note_line.Statement.{statement}
 use Rattle.chip_loops.proofs.note_line.Tie as tie

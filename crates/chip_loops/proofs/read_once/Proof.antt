@@ -1,9 +1,5 @@
 -- `read_once` goes on while no line has a mark. Assumes nothing.
-use mathlib.Core.List.{flatMap}
-use mathlib.Core.Path.{_≡_, refl, sym, ap, _∙_}
-use Prim.Native.Nat.{_-_, _≤_}
-use native.Mathlib.Omega.{arith}
-use lib.ListN.{length}
+use Rattle.common_laws.proofs.Base.{flatMap, _≡_, refl, sym, ap, _∙_, _-_, _≤_, arith, length}
 use Rattle.sizes.specs.Sizes as Size
 use Rattle.netlist_table.specs.Gates.{eachOf, gateAt}
 use Rattle.netlist_table.proofs.HeldGates.{gates-start, each-end}

@@ -1,8 +1,5 @@
 -- `unlevelled_pin` goes on while the pins are marked. Assumes nothing.
-use mathlib.Core.Path.{_≡_, refl, sym, ap, _∙_}
-use Prim.Native.Nat.{_-_, _≤_}
-use native.Mathlib.Omega.{arith}
-use lib.Dec.{eqb}
+use Rattle.common_laws.proofs.Base.{_≡_, refl, sym, ap, _∙_, _-_, _≤_, arith, eqb}
 use Rattle.sizes.specs.Sizes as Size
 use Rattle.netlist_table.specs.Gates.{gateLine, eachOf, present, pinLines}
 use Rattle.netlist_table.proofs.HeldGates.{each-end}

@@ -1,6 +1,5 @@
 -- `least` is the lower of two costs. Assumes nothing.
-use borrow.Author.Needs.{needs}
-use native.Mathlib.Omega.{arith}
+use Rattle.common_laws.proofs.Base.{needs, arith}
 use Rattle.cost.specs.Cost.{counted, lesser}
 use Rattle.cost.proofs.least.Statement.{statement}
 use Rattle.cost.proofs.least.Tie as tie

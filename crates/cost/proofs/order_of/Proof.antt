@@ -1,6 +1,5 @@
 -- `order_of` says how one cost stands to another, by the order of what they count as. Assumes nothing.
-use borrow.Author.Needs.{needs}
-use native.Mathlib.Omega.{arith}
+use Rattle.common_laws.proofs.Base.{needs, arith}
 use Rattle.cost.proofs.Laws.{order-lower, order-same, order-higher}
 use Rattle.cost.proofs.order_of.Statement.{statement}
 use Rattle.cost.proofs.order_of.Tie as tie

@@ -1,9 +1,5 @@
 -- `fill` stays within its buffer and ends: each turn but the last reads at least one byte. Assumes nothing.
-use mathlib.Core.Path.{_≡_, sym, _∙_}
-use Prim.Native.Nat.{_≤_, _<_, _-_}
-use native.Mathlib.Omega.{arith}
-use lib.ListN.{length}
-use borrow.Author.Needs.{needs}
+use Rattle.common_laws.proofs.Base.{_≡_, sym, _∙_, _≤_, _<_, _-_, arith, length, needs}
 use Rattle.files.proofs.Answers.{more, done}
 use Rattle.files.proofs.fill.Statement.{statement}
 use Rattle.files.proofs.fill.Tie as tie

@@ -1,8 +1,5 @@
 -- `front` is the part asked for, or all of the buffer where that is shorter. Assumes nothing.
-use mathlib.Core.Path.{sym}
-use native.Mathlib.Omega.{arith}
-use lib.Seq.{length-take-le, take-all}
-use borrow.Author.Needs.{needs}
+use Rattle.common_laws.proofs.Base.{sym, arith, length-take-le, take-all, needs}
 use Rattle.files.proofs.front.Statement.{statement}
 use Rattle.files.proofs.front.Tie as tie
 

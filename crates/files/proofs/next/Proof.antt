@@ -1,15 +1,7 @@
 -- `next` tells a read's answer by its sign and by where the bytes end. Assumes nothing.
-use mathlib.Core.Bool.{_||_}
-use mathlib.Core.List.{List}
-use mathlib.Core.Path.{_≡_, _∙_}
-use Prim.Native.Nat.{ℕ, _+_, _-_}
-use denote.Ref.{now}
-use lib.Dec.{eqb}
+use Rattle.common_laws.proofs.Base.{_||_, List, _≡_, _∙_, ℕ, _+_, _-_, now, eqb, length, take, drop, length-take, length-drop, arith, needs}
 use lib.IntN.{ℤ}
-use lib.ListN.{length, take, drop, length-take, length-drop}
 use mir.Facts.{toZ-ofZ}
-use native.Mathlib.Omega.{arith}
-use borrow.Author.Needs.{needs}
 use Rattle.io.specs.Counts.{clamped}
 use Rattle.reading.specs.Choice.{pick}
 use Rattle.files.specs.declared.Filling.the-variants.{More, Done}

@@ -1,9 +1,6 @@
 -- `full_with` stores within the list. Assumes nothing.
-use mathlib.Core.Path.{_≡_}
-use Prim.Native.Nat.{_-_}
-use lib.ListN.{length}
+use Rattle.common_laws.proofs.Base.{_≡_, _-_, length, needs}
 use Rattle.sizes.specs.Sizes as Size
-use borrow.Author.Needs.{needs}
 use Rattle.lend_records.proofs.full_with.Statement.{statement}
 use Rattle.lend_records.proofs.full_with.Tie as tie
 

@@ -1,6 +1,5 @@
 -- `print_words` ends: the place comes nearer to the end. Assumes nothing.
-use Prim.Native.Nat.{_-_}
-use borrow.Author.Needs.{needs}
+use Rattle.common_laws.proofs.Base.{_-_, needs}
 use Rattle.lend_records.proofs.print_words.Statement.{statement}
 use Rattle.lend_records.proofs.print_words.Tie as tie
 

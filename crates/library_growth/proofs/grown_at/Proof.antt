@@ -1,11 +1,5 @@
 -- `grown_at` goes over the cells, to one that has not grown. Assumes nothing.
-use mathlib.Core.List.{List}
-use mathlib.Core.Path.{_≡_, refl, sym, ap, _∙_}
-use Prim.Native.Nat.{ℕ, _+_, _-_, _≤_, _<_}
-use native.Mathlib.Omega.{arith}
-use borrow.Author.Needs.{needs}
-use borrow.Author.Tests.{not-true, not-false}
-use lib.ListN.{length}
+use Rattle.common_laws.proofs.Base.{List, _≡_, refl, sym, ap, _∙_, ℕ, _+_, _-_, _≤_, _<_, arith, needs, not-true, not-false, length}
 use Rattle.library_table.specs.Cells.{Cell}
 use Rattle.calculation.specs.Growth.{grownCell, grown}
 use Rattle.library_growth.specs.Held.{HoldsCells}

@@ -1,12 +1,5 @@
 -- `grown_cell` looks at the entry, then at the groups, then at the one-wire reading. Assumes nothing.
-use mathlib.Core.Bool.{Bool, not, _||_}
-use mathlib.Core.List.{List}
-use mathlib.Core.Path.{_≡_, refl, sym, ap, ap₂, _∙_}
-use Prim.Native.Nat.{ℕ, _+_, _≤_}
-use native.Mathlib.Omega.{arith}
-use borrow.Author.Needs.{needs}
-use borrow.Author.Tests.{not-true, not-false}
-use lib.ListN.{length}
+use Rattle.common_laws.proofs.Base.{Bool, not, _||_, List, _≡_, refl, sym, ap, ap₂, _∙_, ℕ, _+_, _≤_, arith, needs, not-true, not-false, length}
 use Rattle.sizes.specs.Places.{cellPlace}
 use Rattle.sizes.specs.Sizes as Size
 use Rattle.sweep_wires.specs.Wires.{cellBoth}

@@ -1,10 +1,5 @@
 -- `keeps_groups` goes over the groups, to one that lost a row. Assumes nothing.
-use mathlib.Core.List.{List}
-use mathlib.Core.Path.{_≡_, refl, sym, ap, _∙_}
-use Prim.Native.Nat.{ℕ, _+_, _*_, _-_, _≤_, _<_}
-use native.Mathlib.Omega.{arith}
-use borrow.Author.Needs.{needs}
-use borrow.Author.Tests.{not-true, not-false}
+use Rattle.common_laws.proofs.Base.{List, _≡_, refl, sym, ap, _∙_, ℕ, _+_, _*_, _-_, _≤_, _<_, arith, needs, not-true, not-false}
 use Rattle.sizes.specs.Places.{groupPlace}
 use Rattle.sizes.specs.Sizes as Size
 use Rattle.library_table.specs.Cells.{Group}

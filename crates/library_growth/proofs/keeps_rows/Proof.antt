@@ -1,10 +1,5 @@
 -- `keeps_rows` has found the rows passed, each behind the one before it. Assumes nothing.
-use mathlib.Core.List.{List}
-use mathlib.Core.Logic.{⊎-elim}
-use mathlib.Core.Path.{_≡_, refl, sym, ap, _∙_}
-use Prim.Native.Nat.{ℕ, _+_, _*_, _-_, _≤_, _<_}
-use native.Mathlib.Omega.{arith}
-use borrow.Author.Needs.{needs}
+use Rattle.common_laws.proofs.Base.{List, ⊎-elim, _≡_, refl, sym, ap, _∙_, ℕ, _+_, _*_, _-_, _≤_, _<_, arith, needs}
 use Rattle.sizes.specs.Sizes as Size
 use Rattle.library_table.specs.Cells.{Row}
 use Rattle.calculation.specs.Growth.{keeps}

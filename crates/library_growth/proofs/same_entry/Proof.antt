@@ -1,12 +1,5 @@
 -- `same_entry` goes over the numbers before the groups, to one that differs. Assumes nothing.
-use mathlib.Core.List.{List}
-use mathlib.Core.Path.{_≡_, refl, sym, ap, _∙_}
-use Prim.Native.Nat.{ℕ, _+_, _-_, _≤_, _<_}
-use native.Mathlib.Omega.{arith}
-use borrow.Author.Needs.{needs}
-use borrow.Author.Tests.{eq-eqb, ne-eqb}
-use lib.Dec.{eqb}
-use lib.ListN.{getD}
+use Rattle.common_laws.proofs.Base.{List, _≡_, refl, sym, ap, _∙_, ℕ, _+_, _-_, _≤_, _<_, arith, needs, eq-eqb, ne-eqb, eqb, getD}
 use Rattle.sizes.specs.Places.{cellPlace}
 use Rattle.sizes.specs.Sizes as Size
 use Rattle.calculation.specs.Growth.{pairwise}

@@ -1,6 +1,5 @@
 -- `same_row` compares depths and columns. Assumes nothing.
-use mathlib.Core.Path.{refl}
-use borrow.Author.Needs.{needs}
+use Rattle.common_laws.proofs.Base.{refl, needs}
 use Rattle.calculation.specs.Growth.{sameRow}
 use Rattle.library_growth.specs.Held.{rowAt}
 use Rattle.library_growth.proofs.same_row.Statement.{statement}

@@ -1,6 +1,5 @@
 -- `fill` meets its contract. Assumes nothing.
-use mathlib.Core.Path.{_≡_, refl, sym, ap, subst, _∙_}
-use lib.ListN.{length, drop}
+use Rattle.common_laws.proofs.Base.{_≡_, refl, sym, ap, subst, _∙_, length, drop, needs}
 use Rattle.sizes.specs.Sizes as Size
 use Rattle.table.proofs.Places.{cleared-all}
 use Rattle.reading.specs.Refusal.{refused, read}
@@ -10,7 +9,6 @@ use Rattle.library_table.specs.Library.{library}
 use Rattle.library_table.specs.Layout.{libraryAfter}
 use Rattle.library_text.specs.Walk.{NoCells}
 use Rattle.library_text.proofs.Walks.{cleared-past, cleared-none}
-use borrow.Author.Needs.{needs}
 use Rattle.library_text.proofs.fill.Statement.{statement}
 use Rattle.library_text.proofs.fill.Tie as tie
 

@@ -1,10 +1,9 @@
 -- `read_library` meets its contract: the entry by its two tests, then `fill`. Assumes nothing.
-use mathlib.Core.Path.{refl}
+use Rattle.common_laws.proofs.Base.{refl, needs}
 use Rattle.reading.specs.Refusal.{_>>_}
 use Rattle.reading.specs.Verdict.{verdictRead, doneRead}
 use Rattle.library_text.specs.Entry.{readLibrary, leftBehind, libraryLeft}
 use Rattle.library_text.proofs.Laws.{entry-short, entry-long, entry-passed}
-use borrow.Author.Needs.{needs}
 use Rattle.library_text.proofs.read_library.Statement.{statement}
 use Rattle.library_text.proofs.read_library.Tie as tie
 

@@ -1,11 +1,8 @@
 -- `admit` checks a statement of each kind and admits it. Assumes nothing.
-use mathlib.Core.Bool.{true}
-use mathlib.Core.Path.{_≡_, refl}
-use borrow.Author.Tests.{not-true, not-false}
+use Rattle.common_laws.proofs.Base.{true, _≡_, refl, not-true, not-false, needs}
 use Rattle.netlist_table.specs.declared.RawStatement.{RawStatement}
 use Rattle.netlist_table.specs.Netlist.{Mark, input, output, opened, kindOf}
 use Rattle.netlist_admission.proofs.StandsFor.{form-bad, formless, kind-mark, kind-gate, kind-range, range-told, kind-unknown}
-use borrow.Author.Needs.{needs}
 use Rattle.netlist_admission.proofs.admit.Statement.{statement}
 use Rattle.netlist_admission.proofs.admit.Tie as tie
 

@@ -1,10 +1,5 @@
 -- `some_undeclared` asks one line more with each turn; those past the highest that is mentioned are none. Assumes nothing.
-use mathlib.Core.Bool.{Bool, _||_, or-false}
-use mathlib.Core.List.{List}
-use mathlib.Core.Path.{_≡_, refl, sym, ap, _∙_}
-use Prim.Native.Nat.{ℕ, _+_, _-_, _≤_}
-use native.Mathlib.Omega.{arith}
-use borrow.Author.Needs.{needs}
+use Rattle.common_laws.proofs.Base.{Bool, _||_, or-false, List, _≡_, refl, sym, ap, _∙_, ℕ, _+_, _-_, _≤_, arith, needs}
 use Rattle.netlist_table.specs.Lines.{highestMentioned}
 use Rattle.netlist_table.specs.Admission.{wordsUndeclared, someUndeclared}
 use Rattle.netlist_table.proofs.HeldLines.{past-highest, highest-few, highest-stands}

@@ -1,11 +1,5 @@
 -- `stands_undeclared` looks at the two words of a line. Assumes nothing.
-use mathlib.Core.Bool.{Bool, _&&_, not}
-use mathlib.Core.List.{List}
-use mathlib.Core.Path.{_≡_}
-use Prim.Native.Nat.{ℕ}
-use lib.Dec.{eqb}
-use lib.ListN.{getD}
-use borrow.Author.Needs.{needs}
+use Rattle.common_laws.proofs.Base.{Bool, _&&_, not, List, _≡_, ℕ, eqb, getD, needs}
 use Rattle.sizes.specs.Places.{driverPlace, mentionPlace}
 use Rattle.netlist_table.specs.Admission.{wordsUndeclared}
 use Rattle.netlist_admission.proofs.stands_undeclared.Statement.{statement}

@@ -1,10 +1,6 @@
 -- `undeclared` looks at the two words of a line. Assumes nothing.
-use mathlib.Core.Bool.{Bool, _&&_}
-use mathlib.Core.Path.{ap, _∙_}
-use Prim.Native.Nat.{ℕ}
-use lib.Dec.{eqb}
+use Rattle.common_laws.proofs.Base.{Bool, _&&_, ap, _∙_, ℕ, eqb, needs}
 use Rattle.netlist_table.specs.Lines.{mentionAt}
-use borrow.Author.Needs.{needs}
 use Rattle.netlist_admission.proofs.undeclared.Statement.{statement}
 use Rattle.netlist_admission.proofs.undeclared.Tie as tie
 

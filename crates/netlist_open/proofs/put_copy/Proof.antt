@@ -1,11 +1,7 @@
 -- `put_copy` puts the copy, or the refusal, into the buffer. Assumes nothing.
-use mathlib.Core.Path.{_≡_, refl}
-use native.Mathlib.Omega.{arith}
-use denote.Ref.{now}
-use lib.ListN.{length}
+use Rattle.common_laws.proofs.Base.{_≡_, refl, arith, now, length, needs}
 use Rattle.netlist_open.specs.Copied.{copyBytes}
 use Rattle.netlist_open.proofs.Opens.{put-refused, put-accepted, at-entry, later, both-old}
-use borrow.Author.Needs.{needs}
 use Rattle.netlist_open.proofs.put_copy.Statement.{statement}
 use Rattle.netlist_open.proofs.put_copy.Tie as tie
 

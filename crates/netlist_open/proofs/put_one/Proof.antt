@@ -1,9 +1,7 @@
 -- `put_one` stores the line of a text for a line that asks for it. Assumes nothing.
-use mathlib.Core.Path.{_≡_, sym, _∙_}
-use native.Mathlib.Omega.{arith}
+use Rattle.common_laws.proofs.Base.{_≡_, sym, _∙_, arith, needs}
 use Rattle.reading.specs.Choice.{pick}
 use Rattle.writer.proofs.Steps.{put-none}
-use borrow.Author.Needs.{needs}
 use Rattle.netlist_open.proofs.put_one.Statement.{statement}
 use Rattle.netlist_open.proofs.put_one.Tie as tie
 

@@ -1,7 +1,5 @@
 -- `line_bad` tests a line number against the range. Assumes nothing.
-use mathlib.Core.Path.{sym, _∙_}
-use lib.Dec.{ltb}
-use borrow.Author.Tests.{ltb-true, ltb-false}
+use Rattle.common_laws.proofs.Base.{sym, _∙_, ltb, ltb-true, ltb-false}
 use Rattle.sizes.specs.Sizes as Size
 use Rattle.reading.proofs.Laws.{by-test}
 use Rattle.netlist_table.proofs.Causes.{lineBad-low, lineBad-high, lineBad-good}

@@ -1,9 +1,5 @@
 -- `some_range` looks at one word. Assumes nothing.
-use mathlib.Core.Bool.{not}
-use mathlib.Core.Path.{ap}
-use Prim.Native.Nat.{ℕ}
-use lib.Dec.{eqb}
-use borrow.Author.Needs.{needs}
+use Rattle.common_laws.proofs.Base.{not, ap, ℕ, eqb, needs}
 use Rattle.netlist_table.proofs.some_range.Statement.{statement}
 use Rattle.netlist_table.proofs.some_range.Tie as tie
 

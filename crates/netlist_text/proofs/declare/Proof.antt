@@ -1,13 +1,10 @@
 -- `declare` refuses 20 where the rules ask for it. Assumes nothing.
-use mathlib.Core.Bool.{Bool, _&&_}
-use mathlib.Core.Path.{_≡_, refl, sym, ap, _∙_}
-use denote.Ref.{now}
+use Rattle.common_laws.proofs.Base.{Bool, _&&_, _≡_, refl, sym, ap, _∙_, now, needs}
 use Rattle.reading.specs.Verdict.{verdictRead}
 use Rattle.reading.specs.declared.Verdict.the-variants.{Accepted}
 use Rattle.netlist_table.specs.Netlist.{declaring}
 use Rattle.netlist_table.specs.Admission.{someUndeclared}
 use Rattle.netlist_text.proofs.Declared.{declares-refused, declares-read}
-use borrow.Author.Needs.{needs}
 use Rattle.netlist_text.proofs.declare.Statement.{statement}
 use Rattle.netlist_text.proofs.declare.Tie as tie
 

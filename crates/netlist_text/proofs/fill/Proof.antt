@@ -1,14 +1,10 @@
 -- `fill` clears the table before the text is read, and behind a refusal. Assumes nothing.
-use mathlib.Core.Path.{sym, ap, subst, _∙_}
-use Prim.Native.Nat.{ℕ}
-use lib.ListN.{drop, replicate}
-use denote.Ref.{now}
+use Rattle.common_laws.proofs.Base.{sym, ap, subst, _∙_, ℕ, drop, replicate, now, needs}
 use Rattle.sizes.specs.Sizes as Size
 use Rattle.table.proofs.Places.{cleared-all}
 use Rattle.netlist_text.specs.Reader.{NoStatements}
 use Rattle.netlist_text.proofs.Walk.{cleared-past, cleared-none}
 use Rattle.netlist_text.proofs.Declared.{whole-read, whole-refused}
-use borrow.Author.Needs.{needs}
 use Rattle.netlist_text.proofs.fill.Statement.{statement}
 use Rattle.netlist_text.proofs.fill.Tie as tie
 

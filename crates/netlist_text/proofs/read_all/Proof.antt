@@ -1,7 +1,6 @@
 -- `read_all` reads the lines of a text, and what comes behind them. Assumes nothing.
-use denote.Ref.{now}
+use Rattle.common_laws.proofs.Base.{now, needs}
 use Rattle.netlist_text.proofs.Declared.{all-refused, all-read}
-use borrow.Author.Needs.{needs}
 use Rattle.netlist_text.proofs.read_all.Statement.{statement}
 use Rattle.netlist_text.proofs.read_all.Tie as tie
 

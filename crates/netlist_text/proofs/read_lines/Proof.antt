@@ -1,9 +1,5 @@
 -- `read_lines` walks the lines of the text: the table holds the statements passed. Assumes nothing.
-use mathlib.Core.List.{List}
-use mathlib.Core.Path.{_≡_, refl, sym, ap, subst, _∙_}
-use Prim.Native.Nat.{ℕ, _+_, _-_, _≤_, _<_}
-use native.Mathlib.Omega.{arith}
-use lib.ListN.{length, drop}
+use Rattle.common_laws.proofs.Base.{List, _≡_, refl, sym, ap, subst, _∙_, ℕ, _+_, _-_, _≤_, _<_, arith, length, drop}
 use Rattle.sizes.specs.Sizes as Size
 use Rattle.text.specs.Lines.{part, fields, nextAfter}
 use Rattle.reading.specs.Verdict.{verdictRead}

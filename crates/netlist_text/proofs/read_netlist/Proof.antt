@@ -1,7 +1,6 @@
 -- `read_netlist` reads the lines behind the entry. Assumes nothing.
-use denote.Ref.{now}
+use Rattle.common_laws.proofs.Base.{now, needs}
 use Rattle.netlist_text.proofs.EntryChecks.{entered, shut, unshut, behind}
-use borrow.Author.Needs.{needs}
 use Rattle.netlist_text.proofs.read_netlist.Statement.{statement}
 use Rattle.netlist_text.proofs.read_netlist.Tie as tie
 

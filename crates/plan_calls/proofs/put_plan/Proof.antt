@@ -1,8 +1,5 @@
 -- `put_plan` leaves the text where it stands, or puts the refusal there. Assumes nothing.
-use mathlib.Core.Path.{_≡_, refl}
-use denote.Ref.{now}
-use lib.ListN.{length}
-use borrow.Author.Needs.{needs}
+use Rattle.common_laws.proofs.Base.{_≡_, refl, now, length, needs}
 use Rattle.sizes.specs.Sizes as Size
 use Rattle.demands.specs.Own.{ownTables}
 use Rattle.plan_calls.proofs.Printed.{plan-printed}

@@ -1,6 +1,5 @@
 -- `write_plan_into`: the entry and both texts, then the plan. Assumes nothing.
-use denote.Ref.{now}
-use borrow.Author.Needs.{needs}
+use Rattle.common_laws.proofs.Base.{now, needs}
 use Rattle.demands.specs.Answer.{lentOf}
 use Rattle.demands.specs.Outcome.{Given, Lent, givenTexts}
 use Rattle.demands.proofs.Given.{texts-checked}

@@ -1,10 +1,6 @@
 -- `one_sweep` goes from one awake gate to the next: the visits between change nothing and leave no mark, so that with each gate
 -- all before it are visited, and the gates that are asleep stay idle. Assumes nothing.
-use mathlib.Core.Path.{_≡_, _∙_}
-use Prim.Native.Nat.{_-_, _≤_, _<_}
-use native.Mathlib.Omega.{arith}
-use lib.ListN.{length, getD}
-use borrow.Author.Needs.{needs}
+use Rattle.common_laws.proofs.Base.{_≡_, _∙_, _-_, _≤_, _<_, arith, length, getD, needs}
 use Rattle.sizes.specs.Sizes as Size
 use Rattle.reading.specs.Choice.{pick}
 use Rattle.plans.specs.Idle.{inTurn}

@@ -1,11 +1,5 @@
 -- `trace` sweeps until nothing changes: what is marked then is all that the definitions remember. Assumes nothing.
-use mathlib.Core.Bool.{false}
-use mathlib.Core.Path.{_≡_, refl, ap, _∙_}
-use Prim.Native.Nat.{ℕ, suc, _+_, _*_, _-_, _≤_}
-use native.Mathlib.Omega.{arith}
-use lib.ListN.{length, getD, length-replicate}
-use borrow.Author.Needs.{needs}
-use borrow.Author.Tests.{not-true}
+use Rattle.common_laws.proofs.Base.{false, _≡_, refl, ap, _∙_, ℕ, suc, _+_, _*_, _-_, _≤_, arith, length, getD, length-replicate, needs, not-true}
 use Rattle.sizes.specs.Sizes as Size
 use Rattle.plans.specs.Sweep.{Bounded}
 use Rattle.sweep_turns.proofs.VisitsLaws.{swept-length}

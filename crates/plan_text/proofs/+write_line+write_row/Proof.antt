@@ -1,12 +1,6 @@
 -- The two writers call each other: the line writer hands on the visit at which its number was last lowered, which is below the
 -- one that it was handed. The measures are twice that bound, and one more for a row. Assumes nothing.
-use mathlib.Core.Path.{_≡_, refl, ap, _∙_}
-use Prim.Native.Nat.{ℕ, _+_, _*_, _-_, _≤_, _<_}
-use native.Mathlib.Omega.{arith}
-use lib.Bits.{and-le-l}
-use lib.Count.{ones}
-use lib.ListN.{length}
-use borrow.Author.Needs.{needs}
+use Rattle.common_laws.proofs.Base.{_≡_, refl, ap, _∙_, ℕ, _+_, _*_, _-_, _≤_, _<_, arith, and-le-l, ones, length, needs}
 use borrow.Fn.Kinds.{In}
 use borrow.Fn.PlainCycle.{Measures, is, falls, and}
 use Rattle.writer.proofs.Steps.{put-none}

@@ -1,7 +1,5 @@
 -- `goal_at` reads the line of a column's pin. Assumes nothing.
-use mathlib.Core.Path.{refl}
-use native.Mathlib.Omega.{arith}
-use borrow.Author.Needs.{needs}
+use Rattle.common_laws.proofs.Base.{refl, arith, needs}
 use Rattle.plan_text.specs.Writers.{goalAt}
 use Rattle.plan_text.proofs.goal_at.Statement.{statement}
 use Rattle.plan_text.proofs.goal_at.Tie as tie

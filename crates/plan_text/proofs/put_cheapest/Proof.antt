@@ -1,6 +1,5 @@
 -- `put_cheapest` marks, and writes the line that is asked for. Assumes nothing.
-use mathlib.Core.Path.{refl}
-use borrow.Author.Needs.{needs}
+use Rattle.common_laws.proofs.Base.{refl, needs}
 use Rattle.netlist_table.specs.Sound.{InRange}
 use Rattle.plan_marks.specs.Runs.{Traceable}
 use Rattle.plan_text.proofs.Written.{plan-put}

@@ -1,6 +1,5 @@
 -- `last_line` asks the netlist table; no line is above 1,000. Assumes nothing.
-use native.Mathlib.Omega.{arith}
-use borrow.Author.Needs.{needs}
+use Rattle.common_laws.proofs.Base.{arith, needs}
 use Rattle.netlist_table.proofs.HeldLines.{highest-few}
 use Rattle.report_text.proofs.last_line.Statement.{statement}
 use Rattle.report_text.proofs.last_line.Tie as tie

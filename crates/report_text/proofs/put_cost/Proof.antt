@@ -1,9 +1,8 @@
 -- `put_cost` stores a cost: a decimal, `over` or `never`. Assumes nothing.
-use borrow.Author.Tests.{le-leb, lt-leb, eq-eqb, ne-eqb}
+use Rattle.common_laws.proofs.Base.{le-leb, lt-leb, eq-eqb, ne-eqb, needs}
 use Rattle.text.specs.Bytes.{bytes}
 use Rattle.reading.specs.Choice.{pick}
 use Rattle.report_text.specs.Report.{costBytes}
-use borrow.Author.Needs.{needs}
 use Rattle.report_text.proofs.put_cost.Statement.{statement}
 use Rattle.report_text.proofs.put_cost.Tie as tie
 

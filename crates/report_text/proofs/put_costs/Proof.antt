@@ -1,10 +1,5 @@
 -- `put_costs` stores a line's costs one by one: those passed stand in the buffer. Assumes nothing.
-use mathlib.Core.Path.{_≡_, _∙_, refl}
-use Prim.Native.Nat.{_≤_, _-_}
-use native.Mathlib.Numerals.{add-one}
-use native.Mathlib.Omega.{arith}
-use borrow.Author.Needs.{needs}
-use lib.ListN.{length}
+use Rattle.common_laws.proofs.Base.{_≡_, _∙_, refl, _≤_, _-_, add-one, arith, needs, length}
 use Rattle.sizes.specs.Sizes as Size
 use Rattle.writer.specs.Put.{Put}
 use Rattle.report_text.specs.Report.{costsFrom}

@@ -1,10 +1,7 @@
 -- `put_line` stores a line's number, its costs and the line's end. Assumes nothing.
-use mathlib.Core.Path.{_≡_}
-use Prim.Native.Nat.{_+_, _-_}
-use native.Mathlib.Omega.{arith}
+use Rattle.common_laws.proofs.Base.{_≡_, _+_, _-_, arith, needs}
 use Rattle.report_text.specs.Report.{lineBytes}
 use Rattle.writer.proofs.Steps.{put-then}
-use borrow.Author.Needs.{needs}
 use Rattle.report_text.proofs.put_line.Statement.{statement}
 use Rattle.report_text.proofs.put_line.Tie as tie
 

@@ -1,13 +1,5 @@
 -- `put_lines` stores the lines one by one, ascending: those passed stand in the buffer. Assumes nothing.
-use mathlib.Core.Bool.{false}
-use mathlib.Core.List.{List}
-use mathlib.Core.Path.{_≡_, _∙_, refl}
-use Prim.Native.Nat.{ℕ, _-_, _≤_, _<_}
-use native.Mathlib.Nat.{add-comm}
-use native.Mathlib.Numerals.{add-one}
-use native.Mathlib.Omega.{arith}
-use borrow.Author.Needs.{needs}
-use lib.ListN.{length}
+use Rattle.common_laws.proofs.Base.{false, List, _≡_, _∙_, refl, ℕ, _-_, _≤_, _<_, add-comm, add-one, arith, needs, length}
 use Rattle.sizes.specs.Sizes as Size
 use Rattle.netlist_table.specs.Lines.{highestMentioned}
 use Rattle.netlist_table.proofs.HeldLines.{past-highest, highest-few}

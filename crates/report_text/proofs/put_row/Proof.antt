@@ -1,8 +1,7 @@
 -- `put_row` stores a line that is mentioned, and of another nothing. Assumes nothing.
-use mathlib.Core.Path.{sym, _∙_}
+use Rattle.common_laws.proofs.Base.{sym, _∙_, needs}
 use Rattle.reading.specs.Choice.{pick}
 use Rattle.writer.proofs.Steps.{put-none}
-use borrow.Author.Needs.{needs}
 use Rattle.report_text.proofs.put_row.Statement.{statement}
 use Rattle.report_text.proofs.put_row.Tie as tie
 

@@ -1,9 +1,8 @@
 -- `put_sweeps` stores the counts in their order. Assumes nothing.
-use mathlib.Core.List.{append-assoc}
+use Rattle.common_laws.proofs.Base.{append-assoc, needs}
 use Rattle.text.specs.Bytes.{bytes}
 use Rattle.report_text.specs.Report.{sweepsBytes}
 use Rattle.writer.proofs.Steps.{put-then}
-use borrow.Author.Needs.{needs}
 use Rattle.report_text.proofs.put_sweeps.Statement.{statement}
 use Rattle.report_text.proofs.put_sweeps.Tie as tie
 

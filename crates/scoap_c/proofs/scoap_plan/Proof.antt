@@ -1,9 +1,7 @@
 -- `scoap_plan` tells the answer of `write_plan` by one number. Assumes nothing.
-use mathlib.Core.Path.{refl}
-use denote.Ref.{now}
+use Rattle.common_laws.proofs.Base.{refl, now, needs}
 use Rattle.demands.specs.Own.{ownTables}
 use Rattle.answer_codes.proofs.Plan.{plan-line, plan-coded}
-use borrow.Author.Needs.{needs}
 use Rattle.scoap_c.proofs.scoap_plan.Statement.{statement}
 use Rattle.scoap_c.proofs.scoap_plan.Tie as tie
 

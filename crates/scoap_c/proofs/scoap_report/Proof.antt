@@ -1,9 +1,7 @@
 -- `scoap_report` tells the answer of the analysis by one number. Assumes nothing.
-use mathlib.Core.Path.{refl}
-use denote.Ref.{now}
+use Rattle.common_laws.proofs.Base.{refl, now, needs}
 use Rattle.demands.specs.Own.{ownTables}
 use Rattle.answer_codes.proofs.ReportCode.{report-line, report-coded}
-use borrow.Author.Needs.{needs}
 use Rattle.scoap_c.proofs.scoap_report.Statement.{statement}
 use Rattle.scoap_c.proofs.scoap_report.Tie as tie
 

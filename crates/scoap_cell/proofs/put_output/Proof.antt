@@ -1,6 +1,5 @@
 -- `put_output`: `unreadable`, or the entry, or its refusal. Assumes nothing.
-use borrow.Author.Needs.{needs}
-use borrow.Author.Tests.{lt-ltb}
+use Rattle.common_laws.proofs.Base.{needs, lt-ltb}
 use Rattle.truth_entry.specs.Generated.{generated}
 use Rattle.files.specs.Output.{OneLongRefused}
 use Rattle.files.proofs.Output.{long-shown, prints-outputs, file-unread, file-read}

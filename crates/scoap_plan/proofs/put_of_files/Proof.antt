@@ -1,6 +1,5 @@
 -- `put_of_files`: `unreadable`, or the text, or its refusal. Assumes nothing.
-use denote.Ref.{now}
-use borrow.Author.Needs.{needs}
+use Rattle.common_laws.proofs.Base.{now, needs}
 use Rattle.files.proofs.Output.{library-unread, netlist-unread, both-read}
 use Rattle.scoap_plan.proofs.Output.{plan-long, plan-outputs}
 use Rattle.scoap_plan.proofs.put_of_files.Statement.{statement}

@@ -1,6 +1,5 @@
 -- `put_output`: what is printed of the files, or the usage. Assumes nothing.
-use mathlib.Core.Path.{sym, _∙_}
-use borrow.Author.Needs.{needs}
+use Rattle.common_laws.proofs.Base.{sym, _∙_, needs}
 use Rattle.scoap_plan.proofs.Output.{asked-outputs, usage-outputs}
 use Rattle.scoap_plan.proofs.put_output.Statement.{statement}
 use Rattle.scoap_plan.proofs.put_output.Tie as tie

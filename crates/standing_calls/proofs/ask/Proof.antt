@@ -1,10 +1,5 @@
 -- `ask`: what is lent read with the pad, CO and SO run again, and handed over. Assumes nothing.
-use mathlib.Core.Bool.{false, _||_}
-use mathlib.Core.Path.{_≡_, refl, sym, subst, _∙_}
-use Prim.Native.Nat.{ℕ}
-use lib.ListN.{drop}
-use denote.Ref.{now}
-use borrow.Author.Needs.{needs}
+use Rattle.common_laws.proofs.Base.{false, _||_, _≡_, refl, sym, subst, _∙_, ℕ, drop, now, needs}
 use Rattle.sizes.specs.Sizes as Size
 use Rattle.reading.specs.Refusal.{read}
 use Rattle.calculation.specs.Stored.{Ready}

@@ -1,8 +1,5 @@
 -- `clear_later` goes by the number. Assumes nothing.
-use mathlib.Core.Bool.{true, false}
-use mathlib.Core.Path.{_≡_, refl, _∙_}
-use denote.Ref.{now}
-use borrow.Author.Needs.{needs}
+use Rattle.common_laws.proofs.Base.{true, false, _≡_, refl, _∙_, now, needs}
 use Rattle.reading.specs.Choice.{pick}
 use Rattle.reading.specs.Numbers as No
 use Rattle.table.proofs.Places.{cleared-all}

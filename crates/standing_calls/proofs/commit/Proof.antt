@@ -1,12 +1,5 @@
 -- `commit`: the ticket's count, what is lent read with the pad, and the pad stored. Assumes nothing.
-use mathlib.Core.Bool.{false, not}
-use mathlib.Core.Path.{_≡_, refl, sym, subst, _∙_}
-use Prim.Native.Nat.{ℕ, suc, _+_}
-use native.Mathlib.Omega.{arith}
-use lib.Dec.{eqb}
-use lib.ListN.{getD}
-use denote.Ref.{now}
-use borrow.Author.Needs.{needs}
+use Rattle.common_laws.proofs.Base.{false, not, _≡_, refl, sym, subst, _∙_, ℕ, suc, _+_, arith, eqb, getD, now, needs}
 use Rattle.reading.specs.Refusal.{Read, read}
 use Rattle.reading.specs.Verdict.{verdictRead}
 use Rattle.demands.specs.Outcome.{Given, givenTexts}

@@ -1,8 +1,5 @@
 -- `stand`: the analysis, and its numbers and counts laid into the standing table. Assumes nothing.
-use mathlib.Core.Path.{refl}
-use native.Mathlib.Omega.{arith}
-use denote.Ref.{now}
-use borrow.Author.Needs.{needs}
+use Rattle.common_laws.proofs.Base.{refl, arith, now, needs}
 use Rattle.demands.specs.Answer.{answerRead}
 use Rattle.demands.specs.Outcome.{Given, givenTexts}
 use Rattle.demands.proofs.Given.{texts-checked}

@@ -1,10 +1,5 @@
 -- `change`: the entry, what is lent as a standing analysis, and the change. Assumes nothing.
-use mathlib.Core.Path.{_≡_, refl, sym, subst, _∙_}
-use Prim.Native.Nat.{ℕ, _≤_}
-use native.Mathlib.Omega.{arith}
-use lib.ListN.{length}
-use denote.Ref.{now}
-use borrow.Author.Needs.{needs}
+use Rattle.common_laws.proofs.Base.{_≡_, refl, sym, subst, _∙_, ℕ, _≤_, arith, length, now, needs}
 use Rattle.sizes.specs.Sizes as Size
 use Rattle.reading.specs.Refusal.{read}
 use Rattle.demands.specs.Outcome.{Given, givenTexts}

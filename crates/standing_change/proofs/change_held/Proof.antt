@@ -1,8 +1,5 @@
 -- `change_held` reads the new library. Assumes nothing.
-use mathlib.Core.Path.{refl}
-use lib.ListN.{replicate}
-use denote.Ref.{now}
-use borrow.Author.Needs.{needs}
+use Rattle.common_laws.proofs.Base.{refl, replicate, now, needs}
 use Rattle.sizes.specs.Sizes as Size
 use Rattle.library_text.proofs.Walks.{zeros-none}
 use Rattle.standing_change.specs.Calls.{changedRead}

@@ -1,11 +1,5 @@
 -- `change_to` goes on where the library has only grown, and else reads the netlist and begins again. Assumes nothing.
-use mathlib.Core.Bool.{true, false}
-use mathlib.Core.List.{List}
-use mathlib.Core.Path.{_≡_, refl, sym, subst, _∙_}
-use Prim.Native.Nat.{ℕ, _≤_}
-use lib.ListN.{length, getD, drop}
-use denote.Ref.{now}
-use borrow.Author.Needs.{needs}
+use Rattle.common_laws.proofs.Base.{true, false, List, _≡_, refl, sym, subst, _∙_, ℕ, _≤_, length, getD, drop, now, needs}
 use Rattle.sizes.specs.Sizes as Size
 use Rattle.reading.specs.Refusal.{Read, read}
 use Rattle.library_table.specs.Cells.{Cell}

@@ -1,11 +1,5 @@
 -- `clear_pads` clears a part of the table. Assumes nothing.
-use mathlib.Core.List.{List, _++_}
-use mathlib.Core.Path.{ap, _∙_}
-use Prim.Native.Nat.{ℕ, _+_, _-_}
-use native.Mathlib.Omega.{arith}
-use lib.ListN.{take}
-use denote.Ref.{now}
-use borrow.Author.Needs.{needs}
+use Rattle.common_laws.proofs.Base.{List, _++_, ap, _∙_, ℕ, _+_, _-_, arith, take, now, needs}
 use Rattle.sizes.specs.Sizes as Size
 use Rattle.table.specs.Blocks.{cleared}
 use Rattle.standing_table.proofs.Slices.{part-is, part-put}

@@ -1,11 +1,5 @@
 -- `hand_observed` leaves one number more with each turn. Assumes nothing.
-use mathlib.Core.List.{List, _++_}
-use mathlib.Core.Path.{_≡_, refl, _∙_, ap, sym}
-use Prim.Native.Nat.{ℕ, _+_, _*_, _-_, _/_, _%_, _≤_}
-use native.Mathlib.Omega.{arith}
-use lib.ListN.{length, take, drop, set, getD, length-set}
-use lib.Seq.{take-all}
-use denote.Ref.{now}
+use Rattle.common_laws.proofs.Base.{List, _++_, _≡_, refl, _∙_, ap, sym, ℕ, _+_, _*_, _-_, _/_, _%_, _≤_, arith, length, take, drop, set, getD, length-set, take-all, now}
 use Rattle.sizes.specs.Sizes as Size
 use Rattle.netlist_table.proofs.Copied.{copy-next}
 use Rattle.standing_table.specs.StandingTable.{observedPlace, observedWords}

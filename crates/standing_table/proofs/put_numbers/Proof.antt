@@ -1,11 +1,5 @@
 -- `put_numbers` lends a part of the table. Assumes nothing.
-use mathlib.Core.List.{List, _++_}
-use mathlib.Core.Path.{ap, _∙_}
-use Prim.Native.Nat.{ℕ}
-use native.Mathlib.Omega.{arith}
-use lib.ListN.{take, drop, length-drop}
-use denote.Ref.{now}
-use borrow.Author.Needs.{needs}
+use Rattle.common_laws.proofs.Base.{List, _++_, ap, _∙_, ℕ, arith, take, drop, length-drop, now, needs}
 use Rattle.sizes.specs.Sizes as Size
 use Rattle.standing_table.proofs.Slices.{part-is, part-put}
 use Rattle.standing_table.proofs.put_numbers.Statement.{statement}

@@ -1,10 +1,5 @@
 -- `put_pad` runs CO and SO again, and stores the pad, the counts and the numbers. Assumes nothing.
-use mathlib.Core.Path.{_∙_}
-use Prim.Native.Nat.{_≤_}
-use native.Mathlib.Omega.{arith}
-use lib.ListN.{length}
-use denote.Ref.{now}
-use borrow.Author.Needs.{needs}
+use Rattle.common_laws.proofs.Base.{_∙_, _≤_, arith, length, now, needs}
 use Rattle.sizes.specs.Sizes as Size
 use Rattle.standing_table.proofs.Slices.{ready-size}
 use Rattle.standing_table.proofs.Lengths.{anew-length}

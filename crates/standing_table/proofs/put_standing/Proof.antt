@@ -1,11 +1,5 @@
 -- `put_standing` clears, hands over, and puts the counts. Assumes nothing.
-use mathlib.Core.List.{List}
-use mathlib.Core.Path.{ap, _∙_}
-use Prim.Native.Nat.{ℕ}
-use native.Mathlib.Omega.{arith}
-use lib.ListN.{set}
-use denote.Ref.{now}
-use borrow.Author.Needs.{needs}
+use Rattle.common_laws.proofs.Base.{List, ap, _∙_, ℕ, arith, set, now, needs}
 use Rattle.standing_table.proofs.StandingTable.{stored}
 use Rattle.standing_table.proofs.put_standing.Statement.{statement}
 use Rattle.standing_table.proofs.put_standing.Tie as tie

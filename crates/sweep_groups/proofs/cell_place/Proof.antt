@@ -1,6 +1,5 @@
 -- `cell_place` is where the gate's cell starts. Assumes nothing.
-use mathlib.Core.Path.{ap, _∙_}
-use borrow.Author.Needs.{needs}
+use Rattle.common_laws.proofs.Base.{ap, _∙_, needs}
 use Rattle.sizes.specs.Places.{cellPlace}
 use Rattle.sweep_groups.proofs.cell_place.Statement.{statement}
 use Rattle.sweep_groups.proofs.cell_place.Tie as tie

@@ -1,6 +1,5 @@
 -- `is_dominated` tests the columns, then the depth. Assumes nothing.
-use borrow.Author.Needs.{needs}
-use borrow.Author.Tests.{eq-eqb, ne-eqb}
+use Rattle.common_laws.proofs.Base.{needs, eq-eqb, ne-eqb}
 use Rattle.sweep_groups.specs.Sums.{dominated}
 use Rattle.sweep_groups.proofs.is_dominated.Statement.{statement}
 use Rattle.sweep_groups.proofs.is_dominated.Tie as tie

@@ -1,9 +1,5 @@
 -- `is_way` looks for a contradiction where rows are read as those of one wire. Assumes nothing.
-use mathlib.Core.Bool.{Bool, true, false, not}
-use mathlib.Core.Option.{none, some}
-use mathlib.Core.Path.{_≡_, refl, ap, _∙_}
-use Prim.Native.Nat.{ℕ}
-use borrow.Author.Needs.{needs}
+use Rattle.common_laws.proofs.Base.{Bool, true, false, not, none, some, _≡_, refl, ap, _∙_, ℕ, needs}
 use Rattle.reading.specs.Choice.{pick}
 use Rattle.sweep_groups.specs.Tables.{readRow, hasWay}
 use Rattle.sweep_groups.proofs.is_way.Statement.{statement}

@@ -1,11 +1,6 @@
 -- `least_sum`, from the last row to the first, keeps the least sum of the rows passed, and the row summed last. Assumes
 -- nothing.
-use mathlib.Core.Option.{some}
-use mathlib.Core.Path.{sym, _∙_}
-use Prim.Native.Nat.{_-_}
-use native.Mathlib.Omega.{arith}
-use borrow.Author.Needs.{needs}
-use borrow.Author.Tests.{not-false}
+use Rattle.common_laws.proofs.Base.{some, sym, _∙_, _-_, arith, needs, not-false}
 use Rattle.sweep_groups.proofs.Rows.{summed-all}
 use Rattle.sweep_groups.proofs.Dominated.{LeastBelow, below-none, below-same, below-more}
 use Rattle.sweep_groups.proofs.least_sum.Statement.{statement}

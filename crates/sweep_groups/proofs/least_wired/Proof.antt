@@ -1,12 +1,5 @@
 -- `least_wired`, from the last row to the first, keeps the least sum of the rows passed that are ways. Assumes nothing.
-use mathlib.Core.Bool.{true}
-use mathlib.Core.Path.{refl, sym, _∙_}
-use Prim.Native.Nat.{_+_, _*_, _-_, _≤_}
-use native.Mathlib.Omega.{arith}
-use borrow.Author.Needs.{needs}
-use borrow.Author.Tests.{not-true, not-false}
-use lib.ListN.{getD}
-use lib.Pow.{pow-mono}
+use Rattle.common_laws.proofs.Base.{true, refl, sym, _∙_, _+_, _*_, _-_, _≤_, arith, needs, not-true, not-false, getD, pow-mono}
 use Rattle.sizes.specs.Sizes as Size
 use Rattle.reading.specs.Choice.{pick}
 use Rattle.sweep_wires.specs.Wires.{SettingRow}

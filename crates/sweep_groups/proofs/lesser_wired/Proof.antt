@@ -1,9 +1,5 @@
 -- `lesser_wired` leaves out a row that is no way, and takes any other at the columns that are left of it. Assumes nothing.
-use mathlib.Core.Path.{refl, sym, _∙_}
-use Prim.Native.Nat.{_*_, _≤_}
-use native.Mathlib.Omega.{arith}
-use borrow.Author.Needs.{needs}
-use lib.Pow.{pow-mono}
+use Rattle.common_laws.proofs.Base.{refl, sym, _∙_, _*_, _≤_, arith, needs, pow-mono}
 use Rattle.sizes.specs.Sizes as Size
 use Rattle.reading.specs.Choice.{pick}
 use Rattle.sweep_wires.proofs.RowBits.{once-few}

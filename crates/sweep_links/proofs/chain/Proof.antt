@@ -1,7 +1,5 @@
 -- `chain` lays the chains of one gate more with each turn. Assumes nothing.
-use mathlib.Core.Path.{_≡_, _∙_}
-use Prim.Native.Nat.{_+_, _-_, _≤_}
-use native.Mathlib.Omega.{arith}
+use Rattle.common_laws.proofs.Base.{_≡_, _∙_, _+_, _-_, _≤_, arith}
 use Rattle.sizes.specs.Sizes as Size
 use Rattle.sweep_links.specs.Lines.{Chained, Kept}
 use Rattle.sweep_links.proofs.Lines.{stand-fewer, none-chained, kept-all, kept-then}

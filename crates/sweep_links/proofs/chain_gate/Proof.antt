@@ -1,9 +1,5 @@
 -- `chain_gate` puts one pin more in front with each turn. Assumes nothing.
-use mathlib.Core.List.{List}
-use mathlib.Core.Path.{_≡_, ap, _∙_}
-use Prim.Native.Nat.{ℕ, _+_, _*_, _-_, _≤_, _<_}
-use native.Mathlib.Omega.{arith}
-use lib.ListN.{length, getD}
+use Rattle.common_laws.proofs.Base.{List, _≡_, ap, _∙_, ℕ, _+_, _*_, _-_, _≤_, _<_, arith, length, getD}
 use Rattle.sizes.specs.Sizes as Size
 use Rattle.sweep_links.specs.Lines.{Highest, Highests, pinLine, Kept}
 use Rattle.sweep_links.proofs.Lines.{stand-fewer, chain-first, chain-next, kept-all, kept-set}

@@ -1,6 +1,5 @@
 -- `is_tied` reads what was told of the gate. Assumes nothing.
-use mathlib.Core.Path.{refl}
-use borrow.Author.Needs.{needs}
+use Rattle.common_laws.proofs.Base.{refl, needs}
 use Rattle.sweep_links.proofs.Lines.{tied-so, tied-not}
 use Rattle.sweep_links.proofs.is_tied.Statement.{statement}
 use Rattle.sweep_links.proofs.is_tied.Tie as tie

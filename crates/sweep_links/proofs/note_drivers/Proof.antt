@@ -1,8 +1,5 @@
 -- `note_drivers` notes one gate more with each turn. Assumes nothing.
-use mathlib.Core.Path.{_≡_, ap, _∙_}
-use Prim.Native.Nat.{ℕ, _+_, _-_, _≤_}
-use native.Mathlib.Omega.{arith}
-use lib.ListN.{length}
+use Rattle.common_laws.proofs.Base.{_≡_, ap, _∙_, ℕ, _+_, _-_, _≤_, arith, length}
 use Rattle.sizes.specs.Sizes as Size
 use Rattle.netlist_table.specs.Gates.{gateLine}
 use Rattle.sweep_links.specs.Lines.{Highests, drivenLine, Kept}

@@ -1,10 +1,5 @@
 -- `note_tied` has noted the gates passed. Assumes nothing.
-use mathlib.Core.Bool.{Bool}
-use mathlib.Core.List.{List}
-use mathlib.Core.Path.{_≡_, ap, _∙_}
-use Prim.Native.Nat.{ℕ, _+_, _-_, _≤_, _<_}
-use native.Mathlib.Omega.{arith}
-use borrow.Author.Needs.{needs}
+use Rattle.common_laws.proofs.Base.{Bool, List, _≡_, ap, _∙_, ℕ, _+_, _-_, _≤_, _<_, arith, needs}
 use Rattle.sizes.specs.Sizes as Size
 use Rattle.reading.specs.Choice.{pick}
 use Rattle.sweep_wires.specs.Wires.{tiedAt}

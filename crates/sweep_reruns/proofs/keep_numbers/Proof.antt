@@ -1,10 +1,5 @@
 -- `keep_numbers` keeps one place more with each turn. Assumes nothing.
-use mathlib.Core.Path.{_≡_, _∙_}
-use Prim.Native.Nat.{_-_, _≤_}
-use native.Mathlib.Omega.{arith}
-use native.Mathlib.Numerals.{add-one}
-use lib.ListN.{length}
-use borrow.Author.Needs.{needs}
+use Rattle.common_laws.proofs.Base.{_≡_, _∙_, _-_, _≤_, arith, add-one, length, needs}
 use Rattle.sizes.specs.Sizes as Size
 use Rattle.sweep_reruns.specs.Kept.{Kept}
 use Rattle.sweep_reruns.proofs.Kept.{kept-none, kept-next}

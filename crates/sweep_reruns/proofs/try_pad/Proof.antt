@@ -1,8 +1,5 @@
 -- `try_pad`: all gates but the one that drives the pad's line are idle. Assumes nothing.
-use mathlib.Core.Path.{refl}
-use Prim.Native.Nat.{_≤_}
-use native.Mathlib.Omega.{arith}
-use borrow.Author.Needs.{needs}
+use Rattle.common_laws.proofs.Base.{refl, _≤_, arith, needs}
 use Rattle.sizes.specs.Sizes as Size
 use Rattle.sweep_runs.proofs.FourRuns.{room}
 use Rattle.sweep_reruns.proofs.Trial.{line-range, line-driven, trial-fits, trial-ran}

@@ -1,10 +1,5 @@
 -- `calculate` lends the first of the numbers table, as many as there are numbers; what stands behind stays. Assumes nothing.
-use mathlib.Core.List.{_++_}
-use mathlib.Core.Path.{_≡_, sym, ap}
-use native.Mathlib.Omega.{arith}
-use lib.ListN.{length, take, drop}
-use lib.Seq.{length-take-le}
-use borrow.Author.Needs.{needs}
+use Rattle.common_laws.proofs.Base.{_++_, _≡_, sym, ap, arith, length, take, drop, length-take-le, needs}
 use Rattle.sizes.specs.Sizes as Size
 use Rattle.calculation.specs.Calculation.{Analysed}
 use Rattle.sweep_runs.proofs.calculate.Statement.{statement}

@@ -1,6 +1,5 @@
 -- `gate_of_turn` goes by the role. Assumes nothing.
-use mathlib.Core.Path.{sym}
-use borrow.Author.Needs.{needs}
+use Rattle.common_laws.proofs.Base.{sym, needs}
 use Rattle.sweep_groups.proofs.Roles.{role-set, role-observed}
 use Rattle.sweep_runs.proofs.gate_of_turn.Statement.{statement}
 use Rattle.sweep_runs.proofs.gate_of_turn.Tie as tie

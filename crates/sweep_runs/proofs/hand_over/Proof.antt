@@ -1,10 +1,5 @@
 -- `hand_over` leaves one number more with each turn. Assumes nothing.
-use mathlib.Core.List.{List, _++_}
-use mathlib.Core.Path.{_≡_, refl, _∙_, ap}
-use Prim.Native.Nat.{ℕ, _-_, _≤_}
-use native.Mathlib.Omega.{arith}
-use lib.ListN.{length, take, drop, set, getD, length-set}
-use lib.Seq.{take-all}
+use Rattle.common_laws.proofs.Base.{List, _++_, _≡_, refl, _∙_, ap, ℕ, _-_, _≤_, arith, length, take, drop, set, getD, length-set, take-all}
 use Rattle.sizes.specs.Sizes as Size
 use Rattle.netlist_table.proofs.Copied.{copy-next}
 use Rattle.sweep_runs.proofs.hand_over.Statement.{statement}

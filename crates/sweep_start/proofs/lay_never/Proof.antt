@@ -1,10 +1,6 @@
 -- `lay_never` fills the numbers from the first on. Assumes nothing.
-use mathlib.Core.List.{List, _++_, append-nil}
-use mathlib.Core.Path.{_≡_, refl, ap, _∙_}
-use Prim.Native.Nat.{ℕ, _≤_, _-_}
-use native.Mathlib.Omega.{arith}
+use Rattle.common_laws.proofs.Base.{List, _++_, append-nil, _≡_, refl, ap, _∙_, ℕ, _≤_, _-_, arith, length, drop, replicate, length-set, drop-of-length-le}
 use borrow.Author.Fill.{fill-more}
-use lib.ListN.{length, drop, replicate, length-set, drop-of-length-le}
 use Rattle.sizes.specs.Sizes as Size
 use Rattle.cost.specs.Cost.{never}
 use Rattle.sweep_start.proofs.lay_never.Statement.{statement}

@@ -1,15 +1,8 @@
 -- `line_price` asks for a line's range where there are ranges. Assumes nothing.
-use mathlib.Core.Bool.{Bool, true, false, not}
-use mathlib.Core.List.{List}
-use mathlib.Core.Path.{_≡_, sym, ap, _∙_}
-use Prim.Native.Nat.{ℕ, _+_}
-use lib.Dec.{eqb}
-use lib.ListN.{getD}
-use borrow.Author.Tests.{not-true, not-false}
+use Rattle.common_laws.proofs.Base.{Bool, true, false, not, List, _≡_, sym, ap, _∙_, ℕ, _+_, eqb, getD, not-true, not-false, needs}
 use Rattle.sizes.specs.Places.{rangePlace, rangedPlace}
 use Rattle.reading.specs.Choice.{pick}
 use Rattle.sweep_start.specs.Start.{priceWord, linePrice}
-use borrow.Author.Needs.{needs}
 use Rattle.sweep_start.proofs.line_price.Statement.{statement}
 use Rattle.sweep_start.proofs.line_price.Tie as tie
 

@@ -1,6 +1,5 @@
 -- `price` takes one end of a range apart. Assumes nothing.
-use borrow.Author.Needs.{needs}
-use borrow.Author.Tests.{eq-eqb, ne-eqb}
+use Rattle.common_laws.proofs.Base.{needs, eq-eqb, ne-eqb}
 use Rattle.reading.specs.Choice.{pick}
 use Rattle.sweep_start.specs.Start.{priceWord}
 use Rattle.sweep_start.proofs.price.Statement.{statement}

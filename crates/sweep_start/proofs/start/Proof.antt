@@ -1,11 +1,6 @@
 -- `start` lays the numbers of one line more with each turn, over numbers that are all never: those of the lines past the last
 -- that is marked stay so. Assumes nothing.
-use mathlib.Core.List.{List}
-use mathlib.Core.Path.{_≡_, sym, _∙_}
-use Prim.Native.Nat.{ℕ, _+_, _*_, _-_, _≤_, _<_}
-use native.Mathlib.Omega.{arith}
-use borrow.Author.Needs.{needs}
-use lib.ListN.{length, replicate, length-replicate}
+use Rattle.common_laws.proofs.Base.{List, _≡_, sym, _∙_, ℕ, _+_, _*_, _-_, _≤_, _<_, arith, needs, length, replicate, length-replicate}
 use Rattle.sizes.specs.Sizes as Size
 use Rattle.cost.specs.Cost.{never}
 use Rattle.sweep_start.proofs.StartLines.{Laid, laid-none, laid-next, laid-size, laid-all, marked-few}

@@ -1,7 +1,5 @@
 -- `start_line` stores the six numbers of a line, one behind the other. Assumes nothing.
-use native.Mathlib.Omega.{arith}
-use lib.ListN.{length-set}
-use borrow.Author.Needs.{needs}
+use Rattle.common_laws.proofs.Base.{arith, length-set, needs}
 use Rattle.sweep_start.proofs.StartLines.{line-laid}
 use Rattle.sweep_start.proofs.start_line.Statement.{statement}
 use Rattle.sweep_start.proofs.start_line.Tie as tie

@@ -1,8 +1,5 @@
 -- `is_lower` compares in the kind of both. Assumes nothing.
-use mathlib.Core.Path.{_≡_}
-use Prim.Native.Nat.{ℕ}
-use native.Mathlib.Omega.{arith}
-use borrow.Author.Needs.{needs}
+use Rattle.common_laws.proofs.Base.{_≡_, ℕ, arith, needs}
 use Rattle.sweep_sums.specs.Sums.{sumNumber, sumKind}
 use Rattle.sweep_sums.proofs.is_lower.Statement.{statement}
 use Rattle.sweep_sums.proofs.is_lower.Tie as tie

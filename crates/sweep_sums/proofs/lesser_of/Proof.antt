@@ -1,7 +1,5 @@
 -- `lesser_of` is the lesser, in the sum's own kind. Assumes nothing.
-use mathlib.Core.Path.{_≡_, refl}
-use Prim.Native.Nat.{ℕ}
-use borrow.Author.Needs.{needs}
+use Rattle.common_laws.proofs.Base.{_≡_, refl, ℕ, needs}
 use Rattle.cost.specs.Cost.{lesser}
 use Rattle.sweep_sums.specs.declared.Sum.{Sum}
 use Rattle.sweep_sums.specs.Sums.{sumNumber, sumKind, Summed}

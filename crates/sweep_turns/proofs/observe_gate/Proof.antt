@@ -1,11 +1,5 @@
 -- `observe_gate` visits the pins in order: with each turn one visit more is done. Assumes nothing.
-use mathlib.Core.Bool.{false}
-use mathlib.Core.List.{List, [], _∷_}
-use mathlib.Core.Path.{_≡_, refl, _∙_, ap, subst}
-use Prim.Native.Nat.{ℕ, _+_, _-_, _≤_, _<_}
-use native.Mathlib.Omega.{arith}
-use lib.ListN.{length, getD}
-use borrow.Author.Needs.{needs}
+use Rattle.common_laws.proofs.Base.{false, List, [], _∷_, _≡_, refl, _∙_, ap, subst, ℕ, _+_, _-_, _≤_, _<_, arith, length, getD, needs}
 use Rattle.sizes.specs.Sizes as Size
 use Rattle.reading.specs.Choice.{pick}
 use Rattle.plans.specs.Idle.{inTurn}

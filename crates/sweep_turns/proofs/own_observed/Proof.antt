@@ -1,8 +1,5 @@
 -- `own_observed` compares the two lines. Assumes nothing.
-use mathlib.Core.Bool.{true≢false}
-use mathlib.Core.Path.{sym, _∙_}
-use borrow.Author.Needs.{needs}
-use borrow.Author.Tests.{not-true, eqb-false}
+use Rattle.common_laws.proofs.Base.{true≢false, sym, _∙_, needs, not-true, eqb-false}
 use Rattle.sweep_turns.proofs.own_observed.Statement.{statement}
 use Rattle.sweep_turns.proofs.own_observed.Tie as tie
 

@@ -1,9 +1,5 @@
 -- `own_read` looks at the pins one after the other. Assumes nothing.
-use mathlib.Core.Bool.{true≢false}
-use mathlib.Core.Path.{_≡_, sym, _∙_}
-use Prim.Native.Nat.{_-_, _≤_}
-use native.Mathlib.Omega.{arith}
-use borrow.Author.Tests.{not-true}
+use Rattle.common_laws.proofs.Base.{true≢false, _≡_, sym, _∙_, _-_, _≤_, arith, not-true}
 use Rattle.sweep_turns.specs.Wakes.{OwnUnread}
 use Rattle.sweep_turns.proofs.Wakes.{unread-none, unread-more}
 use Rattle.sweep_turns.proofs.own_read.Statement.{statement}

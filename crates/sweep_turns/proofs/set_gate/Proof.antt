@@ -1,11 +1,6 @@
 -- `set_gate` visits the output's values in order: with each turn one visit more is done, and whoever is woken behind them is
 -- woken for all. Assumes nothing.
-use mathlib.Core.List.{List, [], _∷_}
-use mathlib.Core.Path.{_≡_, refl, _∙_, ap}
-use Prim.Native.Nat.{ℕ, _-_, _≤_, _<_}
-use native.Mathlib.Omega.{arith}
-use lib.ListN.{length, getD}
-use borrow.Author.Needs.{needs}
+use Rattle.common_laws.proofs.Base.{List, [], _∷_, _≡_, refl, _∙_, ap, ℕ, _-_, _≤_, _<_, arith, length, getD, needs}
 use Rattle.sizes.specs.Sizes as Size
 use Rattle.reading.specs.Choice.{pick}
 use Rattle.plans.specs.Idle.{inTurn}

@@ -1,7 +1,5 @@
 -- `visit_gate` reads the gate's cell and pins, and goes by the role. Assumes nothing.
-use mathlib.Core.Path.{_≡_}
-use native.Mathlib.Omega.{arith}
-use borrow.Author.Needs.{needs}
+use Rattle.common_laws.proofs.Base.{_≡_, arith, needs}
 use Rattle.sweep_groups.specs.Tables.{gatePins}
 use Rattle.sweep_groups.specs.Fits.{GateFits}
 use Rattle.sweep_turns.proofs.Turns.{read-fits, role-visits}

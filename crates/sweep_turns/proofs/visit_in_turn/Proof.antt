@@ -1,8 +1,5 @@
 -- `visit_in_turn` visits the group of its turn. Assumes nothing.
-use mathlib.Core.Path.{_≡_, ap, ap₂}
-use Prim.Native.Nat.{ℕ, _+_, _*_, _<_}
-use native.Mathlib.Omega.{arith}
-use borrow.Author.Needs.{needs}
+use Rattle.common_laws.proofs.Base.{_≡_, ap, ap₂, ℕ, _+_, _*_, _<_, arith, needs}
 use Rattle.sizes.specs.Sizes as Size
 use Rattle.sweep_groups.specs.Tables.{groupVisit, roleColumns}
 use Rattle.sweep_groups.specs.Fits.{GroupFits}

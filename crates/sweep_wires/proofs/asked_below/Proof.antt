@@ -1,9 +1,5 @@
 -- `asked_below` looks through the columns that stand below the column. Assumes nothing.
-use Prim.Native.Nat.{ℕ, _*_, _%_, _^_, _≤_, _<_}
-use native.Mathlib.Nat.{mod-lt}
-use native.Mathlib.Omega.{arith}
-use borrow.Author.Needs.{needs}
-use lib.Pow.{pow-pos, pow-mono}
+use Rattle.common_laws.proofs.Base.{ℕ, _*_, _%_, _^_, _≤_, _<_, mod-lt, arith, needs, pow-pos, pow-mono}
 use Rattle.sweep_wires.specs.Wires.{askedBelow}
 use Rattle.sweep_wires.proofs.asked_below.Statement.{statement}
 use Rattle.sweep_wires.proofs.asked_below.Tie as tie

@@ -1,6 +1,5 @@
 -- `asks` tests the column's line and its value. Assumes nothing.
-use borrow.Author.Needs.{needs}
-use borrow.Author.Tests.{eq-eqb, ne-eqb}
+use Rattle.common_laws.proofs.Base.{needs, eq-eqb, ne-eqb}
 use Rattle.sweep_wires.specs.Wires.{asksFor}
 use Rattle.sweep_wires.proofs.asks.Statement.{statement}
 use Rattle.sweep_wires.proofs.asks.Tie as tie

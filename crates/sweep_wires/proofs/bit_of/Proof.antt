@@ -1,8 +1,5 @@
 -- `bit_of` shifts within the word. Assumes nothing.
-use mathlib.Core.Path.{_∙_}
-use native.Mathlib.Omega.{arith}
-use borrow.Author.Needs.{needs}
-use lib.Pow.{shl-exact}
+use Rattle.common_laws.proofs.Base.{_∙_, arith, needs, shl-exact}
 use Rattle.sweep_wires.proofs.bit_of.Statement.{statement}
 use Rattle.sweep_wires.proofs.bit_of.Tie as tie
 

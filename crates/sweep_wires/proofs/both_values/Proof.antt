@@ -1,8 +1,5 @@
 -- `both_values` has passed no pin both of whose values the row names. Assumes nothing.
-use mathlib.Core.Bool.{false}
-use mathlib.Core.Path.{_≡_, refl, sym, _∙_}
-use Prim.Native.Nat.{_-_, _≤_}
-use native.Mathlib.Omega.{arith}
+use Rattle.common_laws.proofs.Base.{false, _≡_, refl, sym, _∙_, _-_, _≤_, arith}
 use Rattle.sweep_wires.specs.Wires.{anyBelow}
 use Rattle.sweep_wires.proofs.Any.{any-first, any-next, any-found, any-end, pinBoth, pins-both}
 use Rattle.sweep_wires.proofs.both_values.Statement.{statement}

@@ -1,8 +1,5 @@
 -- `cell_both` has passed no group with such a row. Assumes nothing.
-use mathlib.Core.Bool.{false}
-use mathlib.Core.Path.{_≡_, refl, sym, _∙_}
-use Prim.Native.Nat.{ℕ, _+_, _*_, _-_, _≤_}
-use native.Mathlib.Omega.{arith}
+use Rattle.common_laws.proofs.Base.{false, _≡_, refl, sym, _∙_, ℕ, _+_, _*_, _-_, _≤_, arith}
 use Rattle.sizes.specs.Sizes as Size
 use Rattle.sweep_wires.specs.Wires.{anyBelow, groupBoth, cellBoth}
 use Rattle.sweep_wires.proofs.Any.{any-first, any-next, any-found, any-end}

@@ -1,11 +1,5 @@
 -- `group_both` has passed no row that names both values of one pin. Assumes nothing.
-use mathlib.Core.Bool.{Bool, false}
-use mathlib.Core.List.{List}
-use mathlib.Core.Path.{_≡_, refl, sym, ap, _∙_}
-use Prim.Native.Nat.{ℕ, _+_, _*_, _-_, _≤_, _<_}
-use native.Mathlib.Omega.{arith}
-use borrow.Author.Needs.{needs}
-use lib.ListN.{getD}
+use Rattle.common_laws.proofs.Base.{Bool, false, List, _≡_, refl, sym, ap, _∙_, ℕ, _+_, _*_, _-_, _≤_, _<_, arith, needs, getD}
 use Rattle.sizes.specs.Sizes as Size
 use Rattle.calculation.specs.Ways.{bothValues}
 use Rattle.sweep_wires.specs.Wires.{anyBelow, groupBoth}

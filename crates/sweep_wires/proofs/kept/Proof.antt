@@ -1,7 +1,5 @@
 -- `kept` is the column's bit where no lower column asks for the same. Assumes nothing.
-use mathlib.Core.Path.{_≡_, sym, _∙_}
-use native.Mathlib.Omega.{arith}
-use borrow.Author.Needs.{needs}
+use Rattle.common_laws.proofs.Base.{_≡_, sym, _∙_, arith, needs}
 use Rattle.reading.specs.Choice.{pick}
 use Rattle.sweep_wires.proofs.kept.Statement.{statement}
 use Rattle.sweep_wires.proofs.kept.Tie as tie

@@ -1,6 +1,5 @@
 -- `names` tests the column's bit. Assumes nothing.
-use mathlib.Core.Path.{refl}
-use borrow.Author.Needs.{needs}
+use Rattle.common_laws.proofs.Base.{refl, needs}
 use Rattle.library_table.specs.Cells.{bit}
 use Rattle.sweep_wires.proofs.names.Statement.{statement}
 use Rattle.sweep_wires.proofs.names.Tie as tie

@@ -1,6 +1,5 @@
 -- `names_two` tests one bit after the other. Assumes nothing.
-use mathlib.Core.Path.{_≡_, sym, _∙_}
-use borrow.Author.Needs.{needs}
+use Rattle.common_laws.proofs.Base.{_≡_, sym, _∙_, needs}
 use Rattle.library_table.specs.Cells.{bit}
 use Rattle.sweep_wires.proofs.names_two.Statement.{statement}
 use Rattle.sweep_wires.proofs.names_two.Tie as tie

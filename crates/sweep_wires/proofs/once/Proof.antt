@@ -1,10 +1,5 @@
 -- `once` adds up the bits that are kept: with what the rest will add, it is the whole. Assumes nothing.
-use mathlib.Core.Bool.{not}
-use mathlib.Core.Path.{_≡_, refl, sym, _∙_}
-use Prim.Native.Nat.{ℕ, _+_, _-_, _%_, _<_, _^_}
-use native.Mathlib.Omega.{arith}
-use lib.Bits.{bitAnd, and-le-r}
-use lib.Count.{trailingZeros}
+use Rattle.common_laws.proofs.Base.{not, _≡_, refl, sym, _∙_, ℕ, _+_, _-_, _%_, _<_, _^_, arith, bitAnd, and-le-r, trailingZeros}
 use Rattle.sweep_sums.specs.Gone.{columnsGone}
 use Rattle.sweep_wires.specs.Wires.{SettingRow, columnValue, askedBelow, bitsOf, onceColumns}
 use Rattle.sweep_wires.proofs.Gone.{rest-row, row-word, column-inside, bits-on, bits-end, bits-most}

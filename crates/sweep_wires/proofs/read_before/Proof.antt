@@ -1,11 +1,5 @@
 -- `read_before` has passed no pin that reads the line. Assumes nothing.
-use mathlib.Core.Bool.{false}
-use mathlib.Core.Path.{_≡_, refl, sym, _∙_}
-use Prim.Native.Nat.{_+_, _-_, _≤_}
-use native.Mathlib.Omega.{arith}
-use borrow.Author.Tests.{eq-eqb, ne-eqb}
-use lib.Dec.{eqb}
-use lib.ListN.{getD}
+use Rattle.common_laws.proofs.Base.{false, _≡_, refl, sym, _∙_, _+_, _-_, _≤_, arith, eq-eqb, ne-eqb, eqb, getD}
 use Rattle.sweep_wires.specs.Wires.{anyBelow, readBefore}
 use Rattle.sweep_wires.proofs.Any.{any-first, any-next, any-found, any-end}
 use Rattle.sweep_wires.proofs.read_before.Statement.{statement}

@@ -1,8 +1,5 @@
 -- `shares_line` has passed no pin whose line one before it reads. Assumes nothing.
-use mathlib.Core.Bool.{false}
-use mathlib.Core.Path.{_≡_, refl, sym, _∙_}
-use Prim.Native.Nat.{_-_, _≤_}
-use native.Mathlib.Omega.{arith}
+use Rattle.common_laws.proofs.Base.{false, _≡_, refl, sym, _∙_, _-_, _≤_, arith}
 use Rattle.sweep_wires.specs.Wires.{anyBelow, readBefore, sharesLine}
 use Rattle.sweep_wires.proofs.Any.{any-first, any-next, any-found, any-end}
 use Rattle.sweep_wires.proofs.shares_line.Statement.{statement}

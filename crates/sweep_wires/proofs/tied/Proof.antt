@@ -1,7 +1,5 @@
 -- `tied` looks at the rows only where pins share a line. Assumes nothing.
-use mathlib.Core.Bool.{not}
-use mathlib.Core.Path.{_≡_, sym, ap, _∙_}
-use borrow.Author.Needs.{needs}
+use Rattle.common_laws.proofs.Base.{not, _≡_, sym, ap, _∙_, needs}
 use Rattle.sweep_wires.specs.Wires.{tiedAt}
 use Rattle.sweep_wires.proofs.tied.Statement.{statement}
 use Rattle.sweep_wires.proofs.tied.Tie as tie

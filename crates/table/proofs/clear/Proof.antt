@@ -1,11 +1,6 @@
 -- `clear` sets the first numbers to 0: those passed are. Assumes nothing.
-use mathlib.Core.List.{_++_}
-use mathlib.Core.Path.{_≡_, ap, _∙_, refl}
-use Prim.Native.Nat.{_≤_, _-_, min}
-use native.Mathlib.Omega.{arith}
+use Rattle.common_laws.proofs.Base.{_++_, _≡_, ap, _∙_, refl, _≤_, _-_, min, arith, needs, length, drop, replicate, length-set}
 use borrow.Author.Fill.{fill-more}
-use borrow.Author.Needs.{needs}
-use lib.ListN.{length, drop, replicate, length-set}
 use Rattle.table.specs.Blocks.{cleared}
 use Rattle.table.proofs.clear.Statement.{statement}
 use Rattle.table.proofs.clear.Tie as tie

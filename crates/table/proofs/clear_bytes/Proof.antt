@@ -1,12 +1,6 @@
 -- `clear_bytes` sets every byte to 0: those passed are. Assumes nothing.
-use mathlib.Core.List.{_++_, append-nil}
-use mathlib.Core.Path.{_≡_, ap, _∙_, refl}
-use Prim.Native.Nat.{_≤_, _-_}
-use native.Mathlib.Omega.{arith}
+use Rattle.common_laws.proofs.Base.{_++_, append-nil, _≡_, ap, _∙_, refl, _≤_, _-_, arith, needs, length, drop, replicate, length-set, drop-length}
 use borrow.Author.Fill.{fill-more}
-use borrow.Author.Needs.{needs}
-use lib.ListN.{length, drop, replicate, length-set}
-use lib.Seq.{drop-length}
 use Rattle.table.proofs.clear_bytes.Statement.{statement}
 use Rattle.table.proofs.clear_bytes.Tie as tie
 

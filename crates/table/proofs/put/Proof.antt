@@ -1,8 +1,5 @@
 -- `put` stores a number, or nothing past the end. Assumes nothing.
-use denote.Ref.{now}
-use mathlib.Core.Path.{sym}
-use lib.Seq.{set-out}
-use borrow.Author.Needs.{needs}
+use Rattle.common_laws.proofs.Base.{now, sym, set-out, needs}
 use Rattle.table.proofs.put.Statement.{statement}
 use Rattle.table.proofs.put.Tie as tie
 

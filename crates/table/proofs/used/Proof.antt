@@ -1,9 +1,5 @@
 -- `used` leaves one number with each turn that is 0. Assumes nothing.
-use mathlib.Core.Path.{_≡_, sym, ap, _∙_}
-use Prim.Native.Nat.{suc, _-_, _≤_}
-use native.Mathlib.Omega.{arith}
-use lib.ListN.{length}
-use borrow.Author.Needs.{needs}
+use Rattle.common_laws.proofs.Base.{_≡_, sym, ap, _∙_, suc, _-_, _≤_, arith, length, needs}
 use Rattle.table.specs.Blocks.{used}
 use Rattle.table.proofs.UsedPart.{used-none, last-zero, last-used, used-within}
 use Rattle.table.proofs.used.Statement.{statement}

@@ -1,8 +1,5 @@
 -- `used_by_eights` leaves eight numbers with each turn that are 0. Assumes nothing.
-use mathlib.Core.Path.{_≡_, refl, sym, _∙_}
-use Prim.Native.Nat.{_≤_}
-use native.Mathlib.Omega.{arith}
-use borrow.Author.Tests.{not-false}
+use Rattle.common_laws.proofs.Base.{_≡_, refl, sym, _∙_, _≤_, arith, not-false}
 use Rattle.table.specs.Blocks.{used}
 use Rattle.table.proofs.UsedPart.{used-eight}
 use Rattle.table.proofs.used_by_eights.Statement.{statement}

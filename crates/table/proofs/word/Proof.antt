@@ -1,8 +1,5 @@
 -- `word` reads a number, or 0 past the end. Assumes nothing.
-use denote.Ref.{now}
-use mathlib.Core.Path.{sym}
-use lib.ListN.{List·getD-eq-default}
-use borrow.Author.Needs.{needs}
+use Rattle.common_laws.proofs.Base.{now, sym, List·getD-eq-default, needs}
 use Rattle.table.proofs.word.Statement.{statement}
 use Rattle.table.proofs.word.Tie as tie
 

@@ -1,8 +1,5 @@
 -- `zeros` looks at eight numbers: those passed are told. Assumes nothing.
-use mathlib.Core.Path.{_≡_, refl}
-use Prim.Native.Nat.{_-_, _≤_}
-use native.Mathlib.Numerals.{add-one}
-use native.Mathlib.Omega.{arith}
+use Rattle.common_laws.proofs.Base.{_≡_, refl, _-_, _≤_, add-one, arith}
 use Rattle.table.specs.Blocks.{zeros}
 use Rattle.table.proofs.UsedPart.{zeros-more}
 use Rattle.table.proofs.zeros.Statement.{statement}

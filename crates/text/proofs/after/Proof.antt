@@ -1,7 +1,6 @@
 -- `text::after` meets its contract: each arm is a case of `nextAfter`.
 -- Assumes nothing.
-use borrow.Author.Needs.{needs}
-use mathlib.Core.Path.{sym}
+use Rattle.common_laws.proofs.Base.{needs, sym}
 use Rattle.text.proofs.Laws.{nextAfter-within, nextAfter-past}
 use Rattle.text.proofs.after.Statement.{statement}
 use Rattle.text.proofs.after.Tie as tie

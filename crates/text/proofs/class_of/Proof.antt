@@ -1,7 +1,6 @@
 -- `text::class_of` meets its contract: the tests that lead to an arm settle those of `classOf`.
 -- Assumes nothing.
-use mathlib.Core.Path.{sym}
-use native.Mathlib.Omega.{arith}
+use Rattle.common_laws.proofs.Base.{sym, arith}
 use Rattle.reading.specs.Choice.{pick}
 use Rattle.text.specs.Class.{between, classOf}
 use Rattle.text.proofs.Laws.{between-in, between-below, between-above, class-other}

@@ -1,9 +1,5 @@
 -- `eights` passes over eight bytes with each turn in which no line ends. Assumes nothing.
-use mathlib.Core.Path.{_≡_, sym, _∙_}
-use Prim.Native.Nat.{ℕ, _+_, _-_, _≤_}
-use native.Mathlib.Omega.{arith}
-use borrow.Author.Needs.{needs}
-use lib.ListN.{length, drop}
+use Rattle.common_laws.proofs.Base.{_≡_, sym, _∙_, ℕ, _+_, _-_, _≤_, arith, needs, length, drop}
 use Rattle.text.specs.Lines.{span}
 use Rattle.text.proofs.Steps.{span-past, none-ends}
 use Rattle.text.proofs.eights.Statement.{statement}

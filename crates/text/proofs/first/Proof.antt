@@ -1,13 +1,6 @@
 -- `text::first` meets its contract. The loop's invariant: what remains of the part from `i` on ends where the part ends.
 -- Assumes nothing.
-use mathlib.Core.Path.{_≡_, sym, _∙_}
-use Prim.Native.Nat.{suc, _+_, _-_, _≤_, _<_}
-use native.Mathlib.Omega.{arith}
-use borrow.Author.Needs.{needs}
-use borrow.Author.Tests.{eqb-true, eqb-false}
-use lib.Dec.{eqb}
-use lib.ListN.{length, getD, drop, length-take}
-use lib.Seq.{take-length}
+use Rattle.common_laws.proofs.Base.{_≡_, sym, _∙_, suc, _+_, _-_, _≤_, _<_, arith, needs, eqb-true, eqb-false, eqb, length, getD, drop, length-take, take-length}
 use Rattle.text.specs.Class.{endOf}
 use Rattle.text.specs.Lines.{span}
 use Rattle.text.proofs.Laws.{class-ends}

@@ -1,9 +1,5 @@
 -- `line_ends` looks at eight bytes: those passed are told. Assumes nothing.
-use mathlib.Core.Bool.{true}
-use mathlib.Core.Path.{_≡_, refl, _∙_}
-use Prim.Native.Nat.{_-_, _≤_}
-use native.Mathlib.Omega.{arith}
-use borrow.Author.Needs.{needs}
+use Rattle.common_laws.proofs.Base.{true, _≡_, refl, _∙_, _-_, _≤_, arith, needs}
 use Rattle.text.specs.Class.{endOf}
 use Rattle.text.specs.Lines.{someEnds}
 use Rattle.text.proofs.Laws.{class-ends}

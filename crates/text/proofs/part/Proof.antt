@@ -1,10 +1,5 @@
 -- `text::part` meets its contract. Assumes nothing.
-use mathlib.Core.Path.{sym, _∙_}
-use Prim.Native.Nat.{_-_, _≤_}
-use native.Mathlib.Omega.{arith}
-use borrow.Author.Needs.{needs}
-use lib.ListN.{length}
-use lib.Seq.{take-nil, drop-length}
+use Rattle.common_laws.proofs.Base.{sym, _∙_, _-_, _≤_, arith, needs, length, take-nil, drop-length}
 use Rattle.text.specs.Class.{endOf}
 use Rattle.text.proofs.Steps.{part-past, part-rest}
 use Rattle.text.proofs.part.Statement.{statement}

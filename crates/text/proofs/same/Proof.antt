@@ -1,9 +1,6 @@
 -- `text::same` meets its contract. The loop's invariant: the bytes passed are the same, so that the rest decides.
 -- Assumes nothing.
-use mathlib.Core.Path.{_≡_, refl, sym, _∙_}
-use Prim.Native.Nat.{_-_, _≤_, _<_}
-use native.Mathlib.Omega.{arith}
-use lib.ListN.{length, drop}
+use Rattle.common_laws.proofs.Base.{_≡_, refl, sym, _∙_, _-_, _≤_, _<_, arith, length, drop}
 use Rattle.text.specs.Lines.{sameBytes}
 use Rattle.text.proofs.Laws.{sameBytes-other}
 use Rattle.text.proofs.Steps.{sameBytes-good, sameBytes-bad, sameBytes-end}

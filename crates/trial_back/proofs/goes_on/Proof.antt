@@ -1,7 +1,5 @@
 -- `goes_on` says yes only where all three hold. Assumes nothing.
-use mathlib.Core.Bool.{true≢false}
-use mathlib.Core.Path.{sym}
-use native.Mathlib.Omega.{arith}
+use Rattle.common_laws.proofs.Base.{true≢false, sym, arith}
 use Rattle.trial_back.proofs.goes_on.Statement.{statement}
 use Rattle.trial_back.proofs.goes_on.Tie as tie
 

@@ -1,8 +1,5 @@
 -- `put_back` puts the pad's line back, and walks on from it. Assumes nothing.
-use mathlib.Core.Path.{_≡_, refl, sym, _∙_}
-use native.Mathlib.Omega.{arith}
-use borrow.Author.Needs.{needs}
-use denote.Ref.{now}
+use Rattle.common_laws.proofs.Base.{_≡_, refl, sym, _∙_, arith, needs, now}
 use Rattle.trial_back.proofs.Back.{put-begins, walk-begins}
 use Rattle.trial_back.proofs.put_back.Statement.{statement}
 use Rattle.trial_back.proofs.put_back.Tie as tie

@@ -1,9 +1,5 @@
 -- `put_driver` puts back the lines of the gate's pins, where there is a gate. Assumes nothing.
-use mathlib.Core.Path.{_≡_}
-use Prim.Native.Nat.{_+_, _-_}
-use native.Mathlib.Omega.{arith}
-use borrow.Author.Needs.{needs}
-use denote.Ref.{now}
+use Rattle.common_laws.proofs.Base.{_≡_, _+_, _-_, arith, needs, now}
 use Rattle.trial_back.proofs.Back.{driver-none, driver-pins}
 use Rattle.trial_back.proofs.put_driver.Statement.{statement}
 use Rattle.trial_back.proofs.put_driver.Tie as tie

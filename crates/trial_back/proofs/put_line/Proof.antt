@@ -1,8 +1,5 @@
 -- `put_line` puts back what had changed, and then puts the line on the stack. Assumes nothing.
-use mathlib.Core.Path.{_≡_, sym, _∙_}
-use native.Mathlib.Omega.{arith}
-use borrow.Author.Needs.{needs}
-use denote.Ref.{now}
+use Rattle.common_laws.proofs.Base.{_≡_, sym, _∙_, arith, needs, now}
 use Rattle.trial_back.proofs.Back.{put-none, put-one}
 use Rattle.trial_back.proofs.put_line.Statement.{statement}
 use Rattle.trial_back.proofs.put_line.Tie as tie

@@ -1,8 +1,5 @@
 -- `put_pin` puts back the line of a pin, where there is one. Assumes nothing.
-use mathlib.Core.Logic.{inl, inr}
-use mathlib.Core.Path.{_≡_, refl}
-use native.Mathlib.Omega.{arith}
-use borrow.Author.Needs.{needs}
+use Rattle.common_laws.proofs.Base.{inl, inr, _≡_, refl, arith, needs}
 use Rattle.trial_back.proofs.put_pin.Statement.{statement}
 use Rattle.trial_back.proofs.put_pin.Tie as tie
 

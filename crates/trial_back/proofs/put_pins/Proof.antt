@@ -1,9 +1,5 @@
 -- `put_pins` puts back one pin's line more with each turn. Assumes nothing.
-use mathlib.Core.Path.{_≡_, _∙_}
-use Prim.Native.Nat.{_-_, _≤_}
-use native.Mathlib.Omega.{arith}
-use borrow.Author.Needs.{needs}
-use denote.Ref.{now}
+use Rattle.common_laws.proofs.Base.{_≡_, _∙_, _-_, _≤_, arith, needs, now}
 use Rattle.sizes.specs.Sizes as Size
 use Rattle.trial_back.specs.Back.{PinsBack}
 use Rattle.trial_back.proofs.Back.{pins-none, pins-on}

@@ -1,10 +1,5 @@
 -- `walk_back` walks from line to line until the stack is empty. Assumes nothing.
-use mathlib.Core.Path.{_≡_, _∙_}
-use Prim.Native.Nat.{_-_, _≤_}
-use native.Mathlib.Omega.{arith}
-use borrow.Author.Needs.{needs}
-use borrow.Author.Tests.{eqb-true}
-use denote.Ref.{now}
+use Rattle.common_laws.proofs.Base.{_≡_, _∙_, _-_, _≤_, arith, needs, eqb-true, now}
 use Rattle.sizes.specs.Sizes as Size
 use Rattle.trial_back.specs.Back.{Walk}
 use Rattle.trial_back.proofs.Back.{walk-none, walk-on, walk-ends, driver-stands}

@@ -1,12 +1,5 @@
 -- `is_generated` meets its contract. Assumes nothing.
-use mathlib.Core.Bool.{true}
-use mathlib.Core.Path.{_≡_, refl, sym, _∙_}
-use Prim.Native.Nat.{_^_}
-use native.Mathlib.Omega.{arith}
-use lib.Dec.{ltb}
-use lib.ListN.{take, length-take}
-use borrow.Author.Needs.{needs}
-use borrow.Author.Tests.{lt-ltb, le-ltb, le-leb, lt-leb}
+use Rattle.common_laws.proofs.Base.{true, _≡_, refl, sym, _∙_, _^_, arith, ltb, take, length-take, needs, lt-ltb, le-ltb, le-leb, lt-leb}
 use Rattle.truth_rows.specs.Masks.{Bits}
 use Rattle.truth_cells.specs.Words.{generatedAt, pinsAt, tableAt, truthBytes}
 use Rattle.truth_cells.proofs.Steps.{truth-bits, bytes-ones}

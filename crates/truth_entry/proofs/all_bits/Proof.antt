@@ -1,10 +1,5 @@
 -- `all_bits` goes over the bytes: those left decide. Assumes nothing.
-use mathlib.Core.Bool.{Bool, true, false, _&&_, _||_, not}
-use mathlib.Core.Path.{_≡_, refl, sym, _∙_}
-use Prim.Native.Nat.{ℕ, _-_, _≤_, _<_}
-use native.Mathlib.Omega.{arith}
-use lib.Dec.{eqb}
-use lib.ListN.{length, drop, getD, drop-of-length-le}
+use Rattle.common_laws.proofs.Base.{Bool, true, false, _&&_, _||_, not, _≡_, refl, sym, _∙_, ℕ, _-_, _≤_, _<_, arith, eqb, length, drop, getD, drop-of-length-le}
 use Rattle.truth_tables.specs.Tables.{allOf}
 use Rattle.truth_rows.specs.Masks.{isBit}
 use Rattle.truth_entry.proofs.Tables.{bits-more}

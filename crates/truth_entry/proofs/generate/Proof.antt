@@ -1,9 +1,5 @@
 -- `generate` meets its contract. Assumes nothing.
-use mathlib.Core.Option.{some}
-use mathlib.Core.Path.{_≡_, refl, sym, ap, _∙_}
-use native.Mathlib.Omega.{arith}
-use lib.ListN.{length}
-use borrow.Author.Needs.{needs}
+use Rattle.common_laws.proofs.Base.{some, _≡_, refl, sym, ap, _∙_, arith, length, needs}
 use Rattle.reading.specs.Numbers as No
 use Rattle.text.specs.Numeral.{numeralRead}
 use Rattle.writer.proofs.Buffer.{refuses-writes, put-closed}

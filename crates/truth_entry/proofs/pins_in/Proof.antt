@@ -1,8 +1,5 @@
 -- `pins_in` meets its contract. Assumes nothing.
-use mathlib.Core.Bool.{Bool, _&&_}
-use mathlib.Core.Path.{_≡_, sym, ap, _∙_}
-use borrow.Author.Needs.{needs}
-use borrow.Author.Tests.{not-true, not-false}
+use Rattle.common_laws.proofs.Base.{Bool, _&&_, _≡_, sym, ap, _∙_, needs, not-true, not-false}
 use Rattle.reading.specs.Choice.{pick}
 use Rattle.text.specs.Numeral.{nameForm, numeralRead}
 use Rattle.truth_tables.specs.Tables.{allOf}

@@ -1,12 +1,5 @@
 -- `put_entry` cuts the line into its fields, each once. Assumes nothing.
-use mathlib.Core.Bool.{Bool, _&&_}
-use mathlib.Core.Path.{_≡_, refl, ap, _∙_}
-use Prim.Native.Nat.{_+_, _<_}
-use native.Mathlib.Omega.{arith}
-use lib.Dec.{eqb}
-use lib.ListN.{length, drop}
-use borrow.Author.Needs.{needs}
-use borrow.Author.Tests.{lt-ltb}
+use Rattle.common_laws.proofs.Base.{Bool, _&&_, _≡_, refl, ap, _∙_, _+_, _<_, arith, eqb, length, drop, needs, lt-ltb}
 use Rattle.sizes.specs.Sizes as Size
 use Rattle.reading.specs.Choice.{pick}
 use Rattle.reading.specs.Refusal.{_>>=_, _>>_, weigh}

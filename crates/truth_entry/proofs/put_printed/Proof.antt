@@ -1,8 +1,5 @@
 -- `put_printed` leaves the entry where it stands, or puts the refusal there. Assumes nothing.
-use mathlib.Core.Path.{_≡_}
-use native.Mathlib.Omega.{arith}
-use lib.ListN.{length}
-use borrow.Author.Needs.{needs}
+use Rattle.common_laws.proofs.Base.{_≡_, arith, length, needs}
 use Rattle.writer.proofs.Buffer.{writes-prints}
 use Rattle.truth_entry.proofs.Bounded.{room-enough}
 use Rattle.truth_entry.proofs.put_printed.Statement.{statement}

@@ -1,9 +1,5 @@
 -- `of_pin` meets its contract. Assumes nothing.
-use mathlib.Core.Path.{refl}
-use Prim.Native.Nat.{_+_, _-_, _*_, _≤_, _<_}
-use native.Mathlib.Nat.{pow-le-pow-right, one-le-pow}
-use native.Mathlib.Omega.{arith}
-use borrow.Author.Needs.{needs}
+use Rattle.common_laws.proofs.Base.{refl, _+_, _-_, _*_, _≤_, _<_, pow-le-pow-right, one-le-pow, arith, needs}
 use Rattle.truth_rows.specs.Asked.{askedNumber}
 use Rattle.truth_rows.proofs.Conditions.{observing-group}
 use Rattle.truth_rows.proofs.of_pin.Statement.{statement}

@@ -1,8 +1,5 @@
 -- `of_value` meets its contract. Assumes nothing.
-use Prim.Native.Nat.{_<_}
-use native.Mathlib.Nat.{pow-le-pow-right, one-le-pow}
-use native.Mathlib.Omega.{arith}
-use borrow.Author.Needs.{needs}
+use Rattle.common_laws.proofs.Base.{_<_, pow-le-pow-right, one-le-pow, arith, needs}
 use Rattle.truth_rows.specs.Asked.{askedNumber}
 use Rattle.truth_rows.proofs.Conditions.{setting-group}
 use Rattle.truth_rows.proofs.of_value.Statement.{statement}

@@ -1,6 +1,5 @@
 -- `code` tells a length by itself, a refusal by its one number. Assumes nothing.
-use mathlib.Core.Path.{refl, ap}
-use borrow.Author.Needs.{needs}
+use Rattle.common_laws.proofs.Base.{refl, ap, needs}
 use Rattle.writer.specs.Buffer.{writtenRead, codeOf}
 use Rattle.writer.proofs.code.Statement.{statement}
 use Rattle.writer.proofs.code.Tie as tie

@@ -1,6 +1,5 @@
 -- `refuse` clears the buffer. Assumes nothing.
-use mathlib.Core.Path.{refl}
-use borrow.Author.Needs.{needs}
+use Rattle.common_laws.proofs.Base.{refl, needs}
 use Rattle.writer.specs.Buffer.{writtenRead}
 use Rattle.writer.proofs.refuse.Statement.{statement}
 use Rattle.writer.proofs.refuse.Tie as tie

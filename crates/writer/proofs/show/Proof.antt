@@ -1,6 +1,5 @@
 -- `show` leaves a text where it stands, and puts a refusal there. Assumes nothing.
-use mathlib.Core.Path.{refl}
-use borrow.Author.Needs.{needs}
+use Rattle.common_laws.proofs.Base.{refl, needs}
 use Rattle.writer.specs.Buffer.{writtenRead, ShownBy}
 use Rattle.writer.proofs.show.Statement.{statement}
 use Rattle.writer.proofs.show.Tie as tie

@@ -1,13 +1,8 @@
 -- `advise_on` tries pads from the numbers of one analysis, in an array that they are laid into. Assumes nothing.
-use mathlib.Core.Path.{refl}
-use Prim.Native.Nat.{ℕ}
-use native.Mathlib.Omega.{arith}
-use lib.ListN.{replicate, length-replicate}
-use denote.Ref.{now}
+use Rattle.common_laws.proofs.Base.{refl, ℕ, arith, replicate, length-replicate, now, needs}
 use Rattle.sizes.specs.Sizes as Size
 use Rattle.advice_calls.proofs.LinesLaws.{barred-none}
 use Rattle.advice_calls.proofs.PadCosts.{stands-long, laid-whole}
-use borrow.Author.Needs.{needs}
 use Rattle.advice_calls.proofs.lines.advise_on.Statement.{statement}
 use Rattle.advice_calls.proofs.lines.advise_on.Tie as tie
 

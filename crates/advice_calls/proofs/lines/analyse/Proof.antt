@@ -1,6 +1,5 @@
 -- `analyse` makes the links, and the numbers at the low end of the ranges. Assumes nothing.
-use native.Mathlib.Omega.{arith}
-use denote.Ref.{now}
+use Rattle.common_laws.proofs.Base.{arith, now}
 use Rattle.sweep_runs.proofs.FourRuns.{link-fits}
 use Rattle.advice_calls.proofs.PadCosts.{analysis-stands}
 use Rattle.advice_calls.proofs.lines.analyse.Statement.{statement}

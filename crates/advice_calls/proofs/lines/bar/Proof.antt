@@ -1,7 +1,6 @@
 -- `bar` bars the line that an entry names, where it names one. Assumes nothing.
-use denote.Ref.{now}
+use Rattle.common_laws.proofs.Base.{now, needs}
 use Rattle.advice_calls.proofs.LinesLaws.{bars-here, bars-none}
-use borrow.Author.Needs.{needs}
 use Rattle.advice_calls.proofs.lines.bar.Statement.{statement}
 use Rattle.advice_calls.proofs.lines.bar.Tie as tie
 

@@ -1,10 +1,6 @@
 -- `bar_all` bars what one entry more names, from the last to the first. Assumes nothing.
-use Prim.Native.Nat.{_≤_}
-use native.Mathlib.Omega.{arith}
-use lib.ListN.{length, drop}
-use denote.Ref.{now}
+use Rattle.common_laws.proofs.Base.{_≤_, arith, length, drop, now, needs}
 use Rattle.advice_calls.proofs.LinesLaws.{barred-begins, barred-on, barred-ends}
-use borrow.Author.Needs.{needs}
 use Rattle.advice_calls.specs.Parts.{Barred}
 use Rattle.advice_calls.proofs.lines.bar_all.Statement.{statement}
 use Rattle.advice_calls.proofs.lines.bar_all.Tie as tie

@@ -1,8 +1,5 @@
 -- `better` keeps the lower line where both leave the same. Assumes nothing.
-use mathlib.Core.Path.{refl}
-use native.Mathlib.Omega.{arith}
-use borrow.Author.Needs.{needs}
-use borrow.Author.Tests.{le-leb, lt-leb}
+use Rattle.common_laws.proofs.Base.{refl, arith, needs, le-leb, lt-leb}
 use Rattle.reading.specs.Choice.{pick}
 use Rattle.calculation.specs.Advice.{before}
 use Rattle.advice_calls.proofs.lines.better.Statement.{statement}

@@ -1,8 +1,5 @@
 -- `choose` has the best of the lines above one, with each turn of one line more. Assumes nothing.
-use mathlib.Core.List.{List}
-use mathlib.Core.Path.{_≡_}
-use Prim.Native.Nat.{ℕ, _≤_}
-use native.Mathlib.Omega.{arith}
+use Rattle.common_laws.proofs.Base.{List, _≡_, ℕ, _≤_, arith, needs}
 use Rattle.sizes.specs.Sizes as Size
 use Rattle.library_table.specs.Cells.{Cell}
 use Rattle.netlist_table.specs.Netlist.{Statement}
@@ -10,7 +7,6 @@ use Rattle.calculation.specs.Advice.{allowed, leaves, largest, best}
 use Rattle.advice_calls.specs.Parts.{Barred, Stands}
 use Rattle.advice_calls.proofs.LinesLaws.{above, line-range, best-begins, best-next}
 use Rattle.advice_calls.proofs.Candidate.{laid-still, best-ends}
-use borrow.Author.Needs.{needs}
 use Rattle.advice_calls.proofs.lines.choose.Statement.{statement}
 use Rattle.advice_calls.proofs.lines.choose.Tie as tie
 

@@ -1,6 +1,5 @@
 -- `lay_back` walks back; where that ends early it lays all numbers. Assumes nothing.
-use native.Mathlib.Omega.{arith}
-use denote.Ref.{now}
+use Rattle.common_laws.proofs.Base.{arith, now}
 use Rattle.advice_calls.proofs.PadCosts.{laid-whole}
 use Rattle.advice_calls.proofs.lines.lay_back.Statement.{statement}
 use Rattle.advice_calls.proofs.lines.lay_back.Tie as tie

@@ -1,10 +1,5 @@
 -- `left_by` adds the costs of the mentioned lines, from the highest down. Assumes nothing.
-use mathlib.Core.List.{map}
-use mathlib.Core.Path.{_≡_}
-use Prim.Native.Nat.{_≤_}
-use native.Mathlib.Omega.{arith}
-use denote.Ref.{now}
-use borrow.Author.Needs.{needs}
+use Rattle.common_laws.proofs.Base.{map, _≡_, _≤_, arith, now, needs}
 use Rattle.sizes.specs.Sizes as Size
 use Rattle.netlist_table.specs.Lines.{mentionAt}
 use Rattle.advice_calls.specs.Parts.{costAt, leftOf}

@@ -1,7 +1,6 @@
 -- `may_pad` reads two marks, and whether the list names the line. Assumes nothing.
-use denote.Ref.{now}
+use Rattle.common_laws.proofs.Base.{now, needs}
 use Rattle.advice_calls.proofs.LinesLaws.{may-told}
-use borrow.Author.Needs.{needs}
 use Rattle.advice_calls.proofs.lines.may_pad.Statement.{statement}
 use Rattle.advice_calls.proofs.lines.may_pad.Tie as tie
 

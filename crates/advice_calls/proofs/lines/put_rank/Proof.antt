@@ -1,9 +1,6 @@
 -- `put_rank` stores the four numbers of a line, one behind the other. Assumes nothing.
-use native.Mathlib.Omega.{arith}
-use denote.Ref.{now}
-use lib.ListN.{length-set}
+use Rattle.common_laws.proofs.Base.{arith, now, length-set, needs}
 use Rattle.advice_calls.proofs.Ranks.{rank-stored}
-use borrow.Author.Needs.{needs}
 use Rattle.advice_calls.proofs.lines.put_rank.Statement.{statement}
 use Rattle.advice_calls.proofs.lines.put_rank.Tie as tie
 

@@ -1,9 +1,8 @@
 -- `rank_line` lays the rank of a line that may be padded, never of any other. Assumes nothing.
-use denote.Ref.{now}
+use Rattle.common_laws.proofs.Base.{now, needs}
 use Rattle.sweep_runs.proofs.FourRuns.{room}
 use Rattle.advice_calls.proofs.LinesLaws.{line-least, line-most}
 use Rattle.advice_calls.proofs.Candidate.{may-said, may-free, ranked, unranked}
-use borrow.Author.Needs.{needs}
 use Rattle.advice_calls.proofs.lines.rank_line.Statement.{statement}
 use Rattle.advice_calls.proofs.lines.rank_line.Tie as tie
 

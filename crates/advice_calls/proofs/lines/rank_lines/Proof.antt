@@ -1,10 +1,5 @@
 -- `rank_lines` has the ranks of the lines above one, with each turn of one line more. Assumes nothing.
-use mathlib.Core.List.{List}
-use mathlib.Core.Path.{_≡_, refl, _∙_}
-use Prim.Native.Nat.{ℕ, _≤_}
-use native.Mathlib.Omega.{arith}
-use lib.ListN.{length}
-use denote.Ref.{now}
+use Rattle.common_laws.proofs.Base.{List, _≡_, refl, _∙_, ℕ, _≤_, arith, length, now, needs}
 use Rattle.sizes.specs.Sizes as Size
 use Rattle.library_table.specs.Cells.{Cell}
 use Rattle.netlist_table.specs.Netlist.{Statement}
@@ -13,7 +8,6 @@ use Rattle.advice_calls.specs.Parts.{Barred, Stands}
 use Rattle.advice_calls.proofs.LinesLaws.{above, above-few, line-range, count-begins, count-next}
 use Rattle.advice_calls.proofs.Ranks.{four, RanksLaid, ranks-none, ranks-laid}
 use Rattle.advice_calls.proofs.Candidate.{laid-still, ranks-end}
-use borrow.Author.Needs.{needs}
 use Rattle.advice_calls.proofs.lines.rank_lines.Statement.{statement}
 use Rattle.advice_calls.proofs.lines.rank_lines.Tie as tie
 

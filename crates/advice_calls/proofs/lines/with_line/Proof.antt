@@ -1,7 +1,6 @@
 -- `with_line` adds the cost of a line that is mentioned. Assumes nothing.
-use denote.Ref.{now}
+use Rattle.common_laws.proofs.Base.{now, needs}
 use Rattle.advice_calls.proofs.PadCosts.{line-added, line-passed}
-use borrow.Author.Needs.{needs}
 use Rattle.advice_calls.proofs.lines.with_line.Statement.{statement}
 use Rattle.advice_calls.proofs.lines.with_line.Tie as tie
 

@@ -1,8 +1,5 @@
 -- `conclude` calculates, and writes the report from the tables, or both. Assumes nothing.
-use mathlib.Core.List.{List}
-use mathlib.Core.Path.{refl}
-use denote.Ref.{now}
-use lib.ListN.{length}
+use Rattle.common_laws.proofs.Base.{List, refl, now, length, needs}
 use Rattle.reading.specs.Numbers as No
 use Rattle.library_table.specs.Cells.{Cell}
 use Rattle.netlist_table.specs.Netlist.{Statement}
@@ -12,7 +9,6 @@ use Rattle.writer.proofs.Buffer.{put-closed}
 use Rattle.demands.specs.Answer.{answerRead}
 use Rattle.demands.specs.Outcome.{reports}
 use Rattle.analysis_call.proofs.Told.{both-put, ends-long, ends-fitting}
-use borrow.Author.Needs.{needs}
 use Rattle.analysis_call.proofs.end.conclude.Statement.{statement}
 use Rattle.analysis_call.proofs.end.conclude.Tie as tie
 

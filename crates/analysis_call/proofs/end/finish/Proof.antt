@@ -1,9 +1,8 @@
 -- `finish` tells a refusal, or makes the numbers. Assumes nothing.
-use denote.Ref.{now}
+use Rattle.common_laws.proofs.Base.{now, needs}
 use Rattle.demands.specs.Answer.{lentOf}
 use Rattle.demands.specs.Outcome.{Lent}
 use Rattle.analysis_call.proofs.EndLaws.{finished-entry, finished-later, finished-made, finished-long}
-use borrow.Author.Needs.{needs}
 use Rattle.analysis_call.proofs.end.finish.Statement.{statement}
 use Rattle.analysis_call.proofs.end.finish.Tie as tie
 

@@ -1,8 +1,5 @@
 -- `put_second` puts the second report behind the first. Assumes nothing.
-use mathlib.Core.Bool.{true}
-use mathlib.Core.Path.{_≡_, sym, ap, _∙_}
-use borrow.Author.Tests.{not-true, not-false}
-use borrow.Author.Needs.{needs}
+use Rattle.common_laws.proofs.Base.{true, _≡_, sym, ap, _∙_, not-true, not-false, needs}
 use Rattle.writer.proofs.Steps.{put-none, put-then}
 use Rattle.analysis_call.proofs.Told.{second-none, second-some, held-report}
 use Rattle.analysis_call.proofs.end.put_second.Statement.{statement}

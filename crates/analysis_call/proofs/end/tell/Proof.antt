@@ -1,7 +1,6 @@
 -- `tell` tells a refusal, or makes the numbers. Assumes nothing.
-use denote.Ref.{now}
+use Rattle.common_laws.proofs.Base.{now, needs}
 use Rattle.analysis_call.proofs.EndLaws.{told-entry, told-later, told-made}
-use borrow.Author.Needs.{needs}
 use Rattle.analysis_call.proofs.end.tell.Statement.{statement}
 use Rattle.analysis_call.proofs.end.tell.Tie as tie
 

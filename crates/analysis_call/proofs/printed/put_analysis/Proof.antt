@@ -1,11 +1,8 @@
 -- `put_analysis` leaves the report where it stands, or puts the refusal there. Assumes nothing.
-use mathlib.Core.Path.{_≡_, refl}
-use denote.Ref.{now}
-use lib.ListN.{length}
+use Rattle.common_laws.proofs.Base.{_≡_, refl, now, length, needs}
 use Rattle.sizes.specs.Sizes as Size
 use Rattle.demands.specs.Own.{ownTables}
 use Rattle.analysis_call.proofs.PrintedLaws.{analysis-printed, accepted-shown, refused-shown}
-use borrow.Author.Needs.{needs}
 use Rattle.analysis_call.proofs.printed.put_analysis.Statement.{statement}
 use Rattle.analysis_call.proofs.printed.put_analysis.Tie as tie
 

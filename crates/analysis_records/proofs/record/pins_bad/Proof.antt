@@ -1,10 +1,6 @@
 -- `pins_bad` looks for a pin out of range before the first 0: none of those passed is one. Assumes nothing.
-use mathlib.Core.Path.{_≡_, refl, sym, ap, _∙_}
-use Prim.Native.Nat.{_-_}
-use native.Mathlib.Omega.{arith}
-use borrow.Author.Needs.{needs}
+use Rattle.common_laws.proofs.Base.{_≡_, refl, sym, ap, _∙_, _-_, arith, needs, length, drop}
 use Rattle.sizes.specs.Sizes as Size
-use lib.ListN.{length, drop}
 use Rattle.netlist_table.specs.Netlist.{anyLineBad}
 use Rattle.analysis_records.specs.Records.{pinsBefore}
 use Rattle.analysis_records.proofs.RecordLaws.{before-end, before-none, bad-more, bad-here}

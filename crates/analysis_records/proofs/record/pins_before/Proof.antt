@@ -1,9 +1,6 @@
 -- `pins_before` counts the pins before the first 0: none of those passed is 0. Assumes nothing.
-use mathlib.Core.Path.{_≡_, ap}
-use Prim.Native.Nat.{_+_, _-_, _≤_}
-use native.Mathlib.Omega.{arith}
+use Rattle.common_laws.proofs.Base.{_≡_, ap, _+_, _-_, _≤_, arith, length, drop}
 use Rattle.sizes.specs.Sizes as Size
-use lib.ListN.{length, drop}
 use Rattle.analysis_records.specs.Records.{pinsBefore}
 use Rattle.analysis_records.proofs.RecordLaws.{before-end, before-more, before-none}
 use Rattle.analysis_records.proofs.record.pins_before.Statement.{statement}

@@ -1,12 +1,9 @@
 -- `step` checks a record where nothing is refused so far. Assumes nothing.
-use mathlib.Core.Path.{sym, _∙_}
-use borrow.Author.Tests.{eq-eqb, ne-eqb}
-use denote.Ref.{now}
+use Rattle.common_laws.proofs.Base.{sym, _∙_, eq-eqb, ne-eqb, now, needs}
 use Rattle.reading.specs.Choice.{pick}
 use Rattle.analysis_texts.proofs.Reached.{entry-shut, later-shut}
 use Rattle.analysis_records.specs.Steps.{progressAfter}
 use Rattle.analysis_records.proofs.RecordLaws.{stepped-stays, stepped-checks}
-use borrow.Author.Needs.{needs}
 use Rattle.analysis_records.proofs.record.step.Statement.{statement}
 use Rattle.analysis_records.proofs.record.step.Tie as tie
 

@@ -1,9 +1,6 @@
 -- `take_apart` says a record's statement: a gate by its pins before the first 0, else an input or an output. Assumes nothing.
-use mathlib.Core.Bool.{Bool, _&&_}
-use mathlib.Core.Path.{refl, ap}
-use lib.Dec.{eqb, ltb}
+use Rattle.common_laws.proofs.Base.{Bool, _&&_, refl, ap, eqb, ltb, needs}
 use Rattle.analysis_records.proofs.RecordLaws.{gate-says, mark-says}
-use borrow.Author.Needs.{needs}
 use Rattle.analysis_records.proofs.record.take_apart.Statement.{statement}
 use Rattle.analysis_records.proofs.record.take_apart.Tie as tie
 

@@ -1,9 +1,6 @@
 -- `zero_from` looks for a pin that is not 0: none of those passed is one. Assumes nothing.
-use mathlib.Core.Path.{_≡_, refl, sym, _∙_}
-use Prim.Native.Nat.{_-_}
-use native.Mathlib.Omega.{arith}
+use Rattle.common_laws.proofs.Base.{_≡_, refl, sym, _∙_, _-_, arith, length, drop}
 use Rattle.sizes.specs.Sizes as Size
-use lib.ListN.{length, drop}
 use Rattle.analysis_records.specs.Records.{allZero}
 use Rattle.analysis_records.proofs.RecordLaws.{zero-not, zero-more, zero-none}
 use Rattle.analysis_records.proofs.record.zero_from.Statement.{statement}

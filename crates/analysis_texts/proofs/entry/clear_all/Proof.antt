@@ -1,9 +1,7 @@
 -- `clear_all` sets all that was lent to zero. Assumes nothing.
-use mathlib.Core.Path.{_∙_}
-use denote.Ref.{now}
+use Rattle.common_laws.proofs.Base.{_∙_, now, needs}
 use Rattle.table.proofs.Places.{cleared-all}
 use Rattle.demands.specs.Outcome.{zeroed}
-use borrow.Author.Needs.{needs}
 use Rattle.analysis_texts.proofs.entry.clear_all.Statement.{statement}
 use Rattle.analysis_texts.proofs.entry.clear_all.Tie as tie
 

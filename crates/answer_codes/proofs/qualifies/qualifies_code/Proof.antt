@@ -1,8 +1,6 @@
 -- `qualifies_code` tells by one number what the tables of the two texts say. Assumes nothing.
-use mathlib.Core.Path.{refl}
-use denote.Ref.{now}
+use Rattle.common_laws.proofs.Base.{refl, now, needs}
 use Rattle.answer_codes.proofs.QualifiesLaws.{entry-line, later-line, qualifies-entry, qualifies-later, qualifies-accepted}
-use borrow.Author.Needs.{needs}
 use Rattle.answer_codes.proofs.qualifies.qualifies_code.Statement.{statement}
 use Rattle.answer_codes.proofs.qualifies.qualifies_code.Tie as tie
 

@@ -1,6 +1,5 @@
 -- `Spatial::compare` says how the cost stands to the other, with the lesser of the two. Assumes nothing.
-use borrow.Author.Needs.{needs}
-use mathlib.Core.Path.{sym}
+use Rattle.common_laws.proofs.Base.{needs, sym}
 use Rattle.cost.specs.Order.{spatialOrder}
 use Rattle.cost.proofs.Laws.{compared-as}
 use Rattle.cost.proofs.Spatial.compare.Statement.{statement}

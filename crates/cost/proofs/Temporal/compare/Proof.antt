@@ -1,6 +1,5 @@
 -- `Temporal::compare` says how the cost stands to the other, with the lesser of the two. Assumes nothing.
-use borrow.Author.Needs.{needs}
-use mathlib.Core.Path.{sym}
+use Rattle.common_laws.proofs.Base.{needs, sym}
 use Rattle.cost.specs.Order.{temporalOrder}
 use Rattle.cost.proofs.Laws.{compared-as}
 use Rattle.cost.proofs.Temporal.compare.Statement.{statement}

@@ -1,11 +1,6 @@
 -- `bytes_at` meets its contract. The loop's invariant: the bytes passed stand there, so that the rest decides.
 -- Assumes nothing.
-use mathlib.Core.Path.{_≡_, sym, ap, _∙_}
-use Prim.Native.Nat.{ℕ, _+_, _-_, _≤_, _<_}
-use native.Mathlib.Nat.{add-zero}
-use native.Mathlib.Omega.{arith}
-use lib.ListN.{length, drop}
-use borrow.Author.Needs.{needs}
+use Rattle.common_laws.proofs.Base.{_≡_, sym, ap, _∙_, ℕ, _+_, _-_, _≤_, _<_, add-zero, arith, length, drop, needs}
 use Rattle.sizes.specs.Places.{cellPlace}
 use Rattle.library_table.specs.Layout.{bytesAt}
 use Rattle.library_table.proofs.Names.{bytesAt-good, bytesAt-bad, bytesAt-end}

@@ -1,6 +1,5 @@
 -- `cell_place` meets its contract. Assumes nothing.
-use mathlib.Core.Path.{refl}
-use borrow.Author.Needs.{needs}
+use Rattle.common_laws.proofs.Base.{refl, needs}
 use Rattle.library_table.proofs.cells.cell_place.Statement.{statement}
 use Rattle.library_table.proofs.cells.cell_place.Tie as tie
 

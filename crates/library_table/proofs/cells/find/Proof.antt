@@ -1,9 +1,6 @@
 -- `find` meets its contract. The loop's invariant: no cell passed has the name, so that the rest decides.
 -- Assumes nothing.
-use mathlib.Core.Path.{_≡_, sym, _∙_}
-use Prim.Native.Nat.{_-_, _≤_}
-use native.Mathlib.Omega.{arith}
-use borrow.Author.Needs.{needs}
+use Rattle.common_laws.proofs.Base.{_≡_, sym, _∙_, _-_, _≤_, arith, needs}
 use Rattle.library_table.specs.Layout.{foundFrom, foundAt}
 use Rattle.library_table.proofs.Names.{found-start, found-here, found-on, found-end}
 use Rattle.library_table.proofs.cells.find.Statement.{statement}

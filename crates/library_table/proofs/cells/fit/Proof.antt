@@ -1,9 +1,6 @@
 -- `fit` walks over the pins of the cells that the table counts. The loop's invariant: no cell passed has too many, so that the
 -- rest decides. Assumes nothing.
-use mathlib.Core.Path.{_≡_, sym, _∙_}
-use Prim.Native.Nat.{_-_, _≤_}
-use native.Mathlib.Omega.{arith}
-use borrow.Author.Needs.{needs}
+use Rattle.common_laws.proofs.Base.{_≡_, sym, _∙_, _-_, _≤_, arith, needs}
 use Rattle.library_table.specs.Layout.{narrowFrom, cellsFit}
 use Rattle.library_table.proofs.Names.{fit-many, fit-start, narrow-more, narrow-not, narrow-end}
 use Rattle.library_table.proofs.cells.fit.Statement.{statement}

@@ -1,8 +1,5 @@
 -- `name_at` meets its contract. Assumes nothing.
-use mathlib.Core.Path.{_≡_, sym, _∙_}
-use borrow.Author.Needs.{needs}
-use borrow.Author.Tests.{eq-eqb, ne-eqb}
-use lib.ListN.{length, getD}
+use Rattle.common_laws.proofs.Base.{_≡_, sym, _∙_, needs, eq-eqb, ne-eqb, length, getD}
 use Rattle.sizes.specs.Places.{cellPlace}
 use Rattle.library_table.specs.Layout.{nameAt}
 use Rattle.library_table.proofs.cells.name_at.Statement.{statement}

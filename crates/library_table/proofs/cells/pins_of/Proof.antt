@@ -1,6 +1,5 @@
 -- `pins_of` meets its contract. Assumes nothing.
-use native.Mathlib.Omega.{arith}
-use borrow.Author.Needs.{needs}
+use Rattle.common_laws.proofs.Base.{arith, needs}
 use Rattle.library_table.proofs.cells.pins_of.Statement.{statement}
 use Rattle.library_table.proofs.cells.pins_of.Tie as tie
 

@@ -1,6 +1,5 @@
 -- `told` hands back the table, or its empty front. Assumes nothing.
-use mathlib.Core.Path.{sym, _∙_}
-use borrow.Author.Needs.{needs}
+use Rattle.common_laws.proofs.Base.{sym, _∙_, needs}
 use Rattle.library_table.proofs.Names.{tells-fit, tells-none}
 use Rattle.library_table.proofs.cells.told.Statement.{statement}
 use Rattle.library_table.proofs.cells.told.Tie as tie

@@ -1,8 +1,7 @@
 -- `group_for` meets its contract. Assumes nothing.
-use borrow.Author.Tests.{eq-eqb, ne-eqb}
+use Rattle.common_laws.proofs.Base.{eq-eqb, ne-eqb, needs}
 use Rattle.reading.specs.Choice.{pick}
 use Rattle.library_text.specs.Groups.{groupFor}
-use borrow.Author.Needs.{needs}
 use Rattle.library_text.proofs.groups.group_for.Statement.{statement}
 use Rattle.library_text.proofs.groups.group_for.Tie as tie
 

@@ -1,7 +1,5 @@
 -- `number_of` meets its contract: each return is a case of the number, by the tests of the definition. Assumes nothing.
-use mathlib.Core.Bool.{Bool, true, false, not, _&&_, _||_}
-use mathlib.Core.Path.{_≡_}
-use lib.Dec.{leb, ltb, eqb}
+use Rattle.common_laws.proofs.Base.{Bool, true, false, not, _&&_, _||_, _≡_, leb, ltb, eqb}
 use Rattle.sizes.specs.Sizes as Size
 use Rattle.reading.specs.Choice.{pick}
 use Rattle.reading.specs.Numbers as No

@@ -1,7 +1,6 @@
 -- `opened` meets its contract. Assumes nothing.
-use mathlib.Core.Path.{refl}
+use Rattle.common_laws.proofs.Base.{refl, needs}
 use Rattle.library_text.specs.Groups.{opened}
-use borrow.Author.Needs.{needs}
 use Rattle.library_text.proofs.groups.opened.Statement.{statement}
 use Rattle.library_text.proofs.groups.opened.Tie as tie
 

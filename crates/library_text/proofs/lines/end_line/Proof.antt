@@ -1,9 +1,5 @@
 -- `end_line` meets its contract. Assumes nothing.
-use mathlib.Core.Bool.{_&&_}
-use mathlib.Core.List.{List}
-use mathlib.Core.Path.{_≡_, sym, _∙_}
-use Prim.Native.Nat.{ℕ}
-use borrow.Author.Tests.{not-true, not-false}
+use Rattle.common_laws.proofs.Base.{_&&_, List, _≡_, sym, _∙_, ℕ, not-true, not-false, arith, needs}
 use Rattle.text.specs.Bytes.{bytes}
 use Rattle.text.specs.Lines.{fields}
 use Rattle.library_table.specs.Library.{Reading}
@@ -11,8 +7,6 @@ use Rattle.library_text.specs.Headers.{endFormed}
 use Rattle.library_text.specs.Walk.{Shows}
 use Rattle.library_text.proofs.Headers.{end-told}
 use Rattle.library_text.proofs.Entries.{AtEnd, at-end, end-refused, end-read}
-use native.Mathlib.Omega.{arith}
-use borrow.Author.Needs.{needs}
 use Rattle.library_text.proofs.lines.end_line.Statement.{statement}
 use Rattle.library_text.proofs.lines.end_line.Tie as tie
 

@@ -1,15 +1,9 @@
 -- `header_number` meets its contract: each return is a case of the number. Assumes nothing.
-use mathlib.Core.Bool.{false}
-use mathlib.Core.Path.{_≡_, sym, ap, _∙_}
-use Prim.Native.Nat.{ℕ}
-use lib.Dec.{ltb}
-use lib.ListN.{getD}
-use borrow.Author.Tests.{lt-ltb, le-ltb, le-leb, lt-leb}
+use Rattle.common_laws.proofs.Base.{false, _≡_, sym, ap, _∙_, ℕ, ltb, getD, lt-ltb, le-ltb, le-leb, lt-leb, needs}
 use Rattle.reading.specs.Choice.{pick}
 use Rattle.library_table.specs.Library.{pinsBad}
 use Rattle.library_table.specs.Layout.{foundAt}
 use Rattle.library_text.specs.Headers.{headerNumber}
-use borrow.Author.Needs.{needs}
 use Rattle.library_text.proofs.lines.header_number.Statement.{statement}
 use Rattle.library_text.proofs.lines.header_number.Tie as tie
 

@@ -1,12 +1,8 @@
 -- `header_pins` meets its contract. Assumes nothing.
-use mathlib.Core.Bool.{Bool, _&&_}
-use mathlib.Core.Path.{_≡_, sym, ap, _∙_}
-use lib.Dec.{ltb}
-use borrow.Author.Tests.{not-true, not-false}
+use Rattle.common_laws.proofs.Base.{Bool, _&&_, _≡_, sym, ap, _∙_, ltb, not-true, not-false, needs}
 use Rattle.reading.specs.Choice.{pick}
 use Rattle.text.specs.Numeral.{nameForm, numeralRead}
 use Rattle.library_text.specs.Headers.{headings, pinsIn}
-use borrow.Author.Needs.{needs}
 use Rattle.library_text.proofs.lines.header_pins.Statement.{statement}
 use Rattle.library_text.proofs.lines.header_pins.Tie as tie
 

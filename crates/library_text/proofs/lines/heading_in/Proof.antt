@@ -1,9 +1,8 @@
 -- `heading_in` meets its contract. Assumes nothing.
-use mathlib.Core.Path.{sym, _∙_}
+use Rattle.common_laws.proofs.Base.{sym, _∙_, needs}
 use Rattle.reading.specs.Choice.{pick}
 use Rattle.text.specs.Bytes.{bytes}
 use Rattle.library_text.specs.Headers.{headingIn}
-use borrow.Author.Needs.{needs}
 use Rattle.library_text.proofs.lines.heading_in.Statement.{statement}
 use Rattle.library_text.proofs.lines.heading_in.Tie as tie
 

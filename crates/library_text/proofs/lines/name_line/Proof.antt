@@ -1,10 +1,5 @@
 -- `name_line` meets its contract: three fields, each cut once. Assumes nothing.
-use mathlib.Core.Bool.{Bool}
-use mathlib.Core.List.{List, []}
-use mathlib.Core.Option.{some}
-use mathlib.Core.Path.{_≡_, sym, ap, _∙_}
-use Prim.Native.Nat.{ℕ}
-use lib.ListN.{getD, drop}
+use Rattle.common_laws.proofs.Base.{Bool, List, [], some, _≡_, sym, ap, _∙_, ℕ, getD, drop, needs}
 use Rattle.text.specs.Lines.{fields, fieldsFrom}
 use Rattle.text.specs.Numeral.{numeralRead}
 use Rattle.text.proofs.Laws.{fieldsFrom-start}
@@ -14,7 +9,6 @@ use Rattle.library_text.specs.Headers.{headingIn, pinsIn, headerNumber}
 use Rattle.text.proofs.Cursors.{field-nth, field-next, field-last}
 use Rattle.library_text.proofs.Entries.{name-bad, name-refused, name-read}
 use Rattle.library_text.proofs.Headers.{headingNo, pinsOf, pins-form}
-use borrow.Author.Needs.{needs}
 use Rattle.library_text.proofs.lines.name_line.Statement.{statement}
 use Rattle.library_text.proofs.lines.name_line.Tie as tie
 

@@ -1,6 +1,5 @@
 -- `read_line` meets its contract. Assumes nothing.
-use native.Mathlib.Omega.{arith}
-use borrow.Author.Needs.{needs}
+use Rattle.common_laws.proofs.Base.{arith, needs}
 use Rattle.library_text.proofs.lines.read_line.Statement.{statement}
 use Rattle.library_text.proofs.lines.read_line.Tie as tie
 

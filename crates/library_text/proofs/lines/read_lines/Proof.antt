@@ -1,9 +1,6 @@
 -- `read_lines` meets its contract. The loop's invariant: the reading so far, from which the rest of the text decides.
 -- Assumes nothing.
-use mathlib.Core.List.{List, _++_}
-use mathlib.Core.Path.{_≡_, refl, sym, ap, _∙_}
-use Prim.Native.Nat.{ℕ, _+_, _-_, _≤_, _<_}
-use lib.ListN.{length, drop}
+use Rattle.common_laws.proofs.Base.{List, _++_, _≡_, refl, sym, ap, _∙_, ℕ, _+_, _-_, _≤_, _<_, length, drop, arith, needs}
 use Rattle.sizes.specs.Sizes as Size
 use Rattle.text.specs.Lines.{fields, part}
 use Rattle.reading.specs.Refusal.{Read, read}
@@ -16,8 +13,6 @@ use Rattle.library_table.specs.Layout.{libraryWords}
 use Rattle.library_text.specs.Walk.{Leaves}
 use Rattle.library_text.proofs.Entries.{state-fits}
 use Rattle.library_text.proofs.Walks.{Walked, walk-start, walk-unended, walk-refused, walk-on, walk-broken, walk-done}
-use native.Mathlib.Omega.{arith}
-use borrow.Author.Needs.{needs}
 use Rattle.library_text.proofs.lines.read_lines.Statement.{statement}
 use Rattle.library_text.proofs.lines.read_lines.Tie as tie
 

@@ -1,14 +1,11 @@
 -- `row_line` meets its contract. Assumes nothing.
-use mathlib.Core.List.{List}
-use Prim.Native.Nat.{ℕ}
+use Rattle.common_laws.proofs.Base.{List, ℕ, arith, needs}
 use Rattle.text.specs.Lines.{fields}
 use Rattle.library_table.specs.Library.{Reading}
 use Rattle.library_text.specs.Passes.{RowsRead}
 use Rattle.library_text.specs.Walk.{wordAt, Shows}
 use Rattle.text.proofs.Cursors.{fields-some}
 use Rattle.library_text.proofs.Entries.{AtWord, at-word, row-refused, row-read}
-use native.Mathlib.Omega.{arith}
-use borrow.Author.Needs.{needs}
 use Rattle.library_text.proofs.lines.row_line.Statement.{statement}
 use Rattle.library_text.proofs.lines.row_line.Tie as tie
 

@@ -1,9 +1,8 @@
 -- `asked_for` meets its contract. Assumes nothing.
-use mathlib.Core.Path.{sym, _∙_}
+use Rattle.common_laws.proofs.Base.{sym, _∙_, needs}
 use Rattle.reading.specs.Choice.{pick}
 use Rattle.library_text.specs.Passes.{askedOf}
 use Rattle.library_text.proofs.Passes.{groupCount-by, columnCount-by, leastColumns-by}
-use borrow.Author.Needs.{needs}
 use Rattle.library_text.proofs.rows.asked_for.Statement.{statement}
 use Rattle.library_text.proofs.rows.asked_for.Tie as tie
 

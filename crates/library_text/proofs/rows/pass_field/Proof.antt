@@ -1,15 +1,11 @@
 -- `pass_field` meets its contract: an M, a Z, a row, or what is none of them. Assumes nothing.
-use mathlib.Core.Bool.{false}
-use mathlib.Core.Path.{_≡_, refl, sym, _∙_}
-use Prim.Native.Nat.{_≤_}
+use Rattle.common_laws.proofs.Base.{false, _≡_, refl, sym, _∙_, _≤_, arith, needs}
 use Rattle.sizes.specs.Sizes as Size
 use Rattle.reading.specs.Choice.{pick}
 use Rattle.library_table.specs.Library.{isJoin, isZ}
 use Rattle.library_text.specs.Groups.{farthest, rowPut}
 use Rattle.library_text.specs.Passes.{fieldPassed, fieldStored}
 use Rattle.library_text.proofs.Passes.{value-row, bad-row, group-small}
-use native.Mathlib.Omega.{arith}
-use borrow.Author.Needs.{needs}
 use Rattle.library_text.proofs.rows.pass_field.Statement.{statement}
 use Rattle.library_text.proofs.rows.pass_field.Tie as tie
 

@@ -1,16 +1,12 @@
 -- `pass_fields` meets its contract. The loop's invariant: from what is passed and stored, the fields still to come lead to
 -- what is promised.
 -- Assumes nothing.
-use mathlib.Core.Path.{_≡_, refl, sym, _∙_}
-use Prim.Native.Nat.{_+_, _-_}
-use lib.ListN.{length}
+use Rattle.common_laws.proofs.Base.{_≡_, refl, sym, _∙_, _+_, _-_, length, arith, needs}
 use Rattle.text.specs.Lines.{fieldsFrom}
 use Rattle.library_text.specs.Groups.{Small}
 use Rattle.library_text.specs.Passes.{nonePassed, passed, stored}
 use Rattle.text.proofs.Cursors.{cursor-on}
 use Rattle.library_text.proofs.Passes.{passed-turn, passed-ended, stored-turn, stored-ended, small-on, field-small}
-use native.Mathlib.Omega.{arith}
-use borrow.Author.Needs.{needs}
 use Rattle.library_text.proofs.rows.pass_fields.Statement.{statement}
 use Rattle.library_text.proofs.rows.pass_fields.Tie as tie
 

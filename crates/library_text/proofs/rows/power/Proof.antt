@@ -1,9 +1,5 @@
 -- `power` meets its contract. Assumes nothing.
-use mathlib.Core.Path.{_≡_, refl}
-use Prim.Native.Nat.{_-_, _^_, _≤_, _<_}
-use native.Mathlib.Nat.{pow-suc, pow-le-pow-right}
-use native.Mathlib.Numerals.{add-one}
-use native.Mathlib.Omega.{arith}
+use Rattle.common_laws.proofs.Base.{_≡_, refl, _-_, _^_, _≤_, _<_, pow-suc, pow-le-pow-right, add-one, arith}
 use Rattle.library_text.proofs.rows.power.Statement.{statement}
 use Rattle.library_text.proofs.rows.power.Tie as tie
 

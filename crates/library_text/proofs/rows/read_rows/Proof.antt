@@ -1,16 +1,11 @@
 -- `read_rows` meets its contract: the word, then the walk. Assumes nothing.
-use mathlib.Core.List.{[]}
-use mathlib.Core.Path.{_≡_, sym, _∙_}
-use lib.ListN.{getD}
-use borrow.Author.Tests.{not-true, not-false}
+use Rattle.common_laws.proofs.Base.{[], _≡_, sym, _∙_, getD, not-true, not-false, arith, needs}
 use Rattle.reading.specs.Choice.{pick}
 use Rattle.text.specs.Lines.{fields, sameBytes}
 use Rattle.text.proofs.Laws.{fieldsFrom-start}
 use Rattle.library_table.specs.Library.{wordBytes}
 use Rattle.text.proofs.Cursors.{field-nth, field-next, fields-some}
 use Rattle.library_text.proofs.Passes.{asked-place, rowNumber-walk, walk-read}
-use native.Mathlib.Omega.{arith}
-use borrow.Author.Needs.{needs}
 use Rattle.library_text.proofs.rows.read_rows.Statement.{statement}
 use Rattle.library_text.proofs.rows.read_rows.Tie as tie
 

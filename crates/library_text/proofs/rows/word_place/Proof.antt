@@ -1,6 +1,5 @@
 -- `word_place` meets its contract. Assumes nothing.
-use native.Mathlib.Omega.{arith}
-use borrow.Author.Needs.{needs}
+use Rattle.common_laws.proofs.Base.{arith, needs}
 use Rattle.library_table.proofs.Places.{first-most}
 use Rattle.library_text.proofs.rows.word_place.Statement.{statement}
 use Rattle.library_text.proofs.rows.word_place.Tie as tie

@@ -1,9 +1,6 @@
 -- `bounds_bad` tests both prices, and their order. Assumes nothing.
-use mathlib.Core.Bool.{Bool, _||_}
-use mathlib.Core.Path.{ap₂}
-use lib.Dec.{ltb}
+use Rattle.common_laws.proofs.Base.{Bool, _||_, ap₂, ltb, needs}
 use Rattle.netlist_table.specs.Netlist.{boundsBad}
-use borrow.Author.Needs.{needs}
 use Rattle.netlist_admission.proofs.causes.bounds_bad.Statement.{statement}
 use Rattle.netlist_admission.proofs.causes.bounds_bad.Tie as tie
 

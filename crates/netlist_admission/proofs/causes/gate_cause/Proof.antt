@@ -1,12 +1,8 @@
 -- `gate_cause` weighs a gate's own numbers. Assumes nothing.
-use mathlib.Core.Bool.{Bool, not, _||_}
-use mathlib.Core.Path.{sym, ap, _∙_}
-use Prim.Native.Nat.{ℕ}
-use lib.Dec.{leb, eqb}
+use Rattle.common_laws.proofs.Base.{Bool, not, _||_, sym, ap, _∙_, ℕ, leb, eqb, needs}
 use Rattle.library_table.specs.Cells.{noCell}
 use Rattle.netlist_table.proofs.Causes.{pinsAt-cell}
 use Rattle.netlist_admission.proofs.GateCauses.{gate-flags}
-use borrow.Author.Needs.{needs}
 use Rattle.netlist_admission.proofs.causes.gate_cause.Statement.{statement}
 use Rattle.netlist_admission.proofs.causes.gate_cause.Tie as tie
 

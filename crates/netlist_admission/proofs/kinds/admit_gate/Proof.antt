@@ -1,14 +1,11 @@
 -- `admit_gate` checks a gate and admits it. Assumes nothing.
-use mathlib.Core.List.{List}
-use mathlib.Core.Path.{_≡_, sym, _∙_}
-use lib.ListN.{getD}
+use Rattle.common_laws.proofs.Base.{List, _≡_, sym, _∙_, getD, needs}
 use Rattle.sizes.specs.Places.{driverPlace}
 use Rattle.library_table.specs.Cells.{Cell}
 use Rattle.netlist_table.specs.Netlist.{Gate}
 use Rattle.netlist_table.specs.Admission.{IsGate, gateCause}
 use Rattle.library_table.specs.Layout.{CellsTold}
 use Rattle.netlist_admission.proofs.Outcomes.{gate-own, gate-driven, gate-admitted}
-use borrow.Author.Needs.{needs}
 use Rattle.netlist_admission.proofs.kinds.admit_gate.Statement.{statement}
 use Rattle.netlist_admission.proofs.kinds.admit_gate.Tie as tie
 

@@ -1,14 +1,9 @@
 -- `admit_mark` checks a mark and admits it. Assumes nothing.
-use mathlib.Core.Bool.{false}
-use mathlib.Core.List.{List}
-use mathlib.Core.Path.{_≡_, sym, ap, _∙_}
-use Prim.Native.Nat.{ℕ}
-use lib.ListN.{set}
+use Rattle.common_laws.proofs.Base.{false, List, _≡_, sym, ap, _∙_, ℕ, set, needs}
 use Rattle.sizes.specs.Places.{mentionPlace}
 use Rattle.netlist_table.specs.Netlist.{lineBad}
 use Rattle.netlist_table.specs.Admission.{markPlace}
 use Rattle.netlist_admission.proofs.Outcomes.{mark-bad, mark-second, mark-admitted}
-use borrow.Author.Needs.{needs}
 use Rattle.netlist_admission.proofs.kinds.admit_mark.Statement.{statement}
 use Rattle.netlist_admission.proofs.kinds.admit_mark.Tie as tie
 

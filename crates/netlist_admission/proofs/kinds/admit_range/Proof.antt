@@ -1,17 +1,10 @@
 -- `admit_range` checks a range and admits it. Assumes nothing.
-use mathlib.Core.Bool.{Bool, not, _||_}
-use mathlib.Core.List.{List, [], _∷_}
-use mathlib.Core.Path.{_≡_, sym, _∙_}
-use Prim.Native.Nat.{ℕ, _≤_}
-use native.Mathlib.Omega.{arith}
-use lib.Dec.{eqb}
-use lib.ListN.{getD}
+use Rattle.common_laws.proofs.Base.{Bool, not, _||_, List, [], _∷_, _≡_, sym, _∙_, ℕ, _≤_, arith, eqb, getD, needs}
 use Rattle.sizes.specs.Places.{driverPlace, rangePlace}
 use Rattle.reading.specs.Numbers as No
 use Rattle.netlist_table.specs.Lowest.{lowest}
 use Rattle.netlist_table.specs.Netlist.{Range, lineBad, boundsBad}
 use Rattle.netlist_admission.proofs.Outcomes.{rangeFlags, range-fits, range-refused, range-admitted}
-use borrow.Author.Needs.{needs}
 use Rattle.netlist_admission.proofs.kinds.admit_range.Statement.{statement}
 use Rattle.netlist_admission.proofs.kinds.admit_range.Tie as tie
 

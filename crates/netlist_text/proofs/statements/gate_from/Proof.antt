@@ -1,15 +1,10 @@
 -- `gate_from` reads a gate, field by field. Assumes nothing.
-use mathlib.Core.Bool.{true}
-use mathlib.Core.List.{List}
-use mathlib.Core.Path.{_≡_, refl, sym, ap, _∙_}
-use Prim.Native.Nat.{ℕ}
-use borrow.Author.Tests.{not-true, not-false}
+use Rattle.common_laws.proofs.Base.{true, List, _≡_, refl, sym, ap, _∙_, ℕ, not-true, not-false, needs}
 use Rattle.text.specs.Lines.{part, nextAfter}
 use Rattle.text.specs.Numeral.{nameForm}
 use Rattle.library_table.specs.Library.{cellNamed}
 use Rattle.netlist_text.proofs.Forms.{stands-none, number-good, number-bad, gate-none, gate-name-bad, gate-no-line}
 use Rattle.netlist_text.proofs.Forms.{gate-line-bad, gate-lines, gathered-gate}
-use borrow.Author.Needs.{needs}
 use Rattle.netlist_text.proofs.statements.gate_from.Statement.{statement}
 use Rattle.netlist_text.proofs.statements.gate_from.Tie as tie
 

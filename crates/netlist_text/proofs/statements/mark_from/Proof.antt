@@ -1,10 +1,9 @@
 -- `mark_from` reads the one number of a mark. Assumes nothing.
-use mathlib.Core.Path.{_≡_, ap, _∙_}
+use Rattle.common_laws.proofs.Base.{_≡_, ap, _∙_, needs}
 use Rattle.text.specs.Lines.{part, nextAfter}
 use Rattle.netlist_table.specs.Netlist.{markOf}
 use Rattle.netlist_table.specs.Admission.{StandsFor}
 use Rattle.netlist_text.proofs.Forms.{stands-none, number-good, number-bad, lone-none, lone-many, lone-one}
-use borrow.Author.Needs.{needs}
 use Rattle.netlist_text.proofs.statements.mark_from.Statement.{statement}
 use Rattle.netlist_text.proofs.statements.mark_from.Tie as tie
 

@@ -1,10 +1,5 @@
 -- `pins_from` gathers the pins of the fields: those passed are. Assumes nothing.
-use mathlib.Core.Bool.{Bool, true, _||_}
-use mathlib.Core.List.{List}
-use mathlib.Core.Path.{_≡_, refl, sym, ap, _∙_}
-use Prim.Native.Nat.{ℕ, _+_, _-_, _≤_}
-use native.Mathlib.Omega.{arith}
-use lib.ListN.{length}
+use Rattle.common_laws.proofs.Base.{Bool, true, _||_, List, _≡_, refl, sym, ap, _∙_, ℕ, _+_, _-_, _≤_, arith, length, needs}
 use Rattle.text.specs.Lines.{part, nextAfter}
 use Rattle.text.proofs.Laws.{nextAfter-within}
 use Rattle.sizes.specs.Sizes as Size
@@ -13,7 +8,6 @@ use Rattle.table.proofs.Places.{length-fitted}
 use Rattle.netlist_text.specs.declared.statements.Pins.{Pins}
 use Rattle.netlist_table.specs.Netlist.{anyLineBad}
 use Rattle.netlist_text.proofs.Forms.{number-good, number-bad, pins-more, Passed, passed-start, passed-more, passed-bad, passed-end}
-use borrow.Author.Needs.{needs}
 use Rattle.netlist_text.proofs.statements.pins_from.Statement.{statement}
 use Rattle.netlist_text.proofs.statements.pins_from.Tie as tie
 

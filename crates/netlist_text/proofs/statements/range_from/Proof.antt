@@ -1,7 +1,6 @@
 -- `range_from` reads three numbers, gathered as pins are. Assumes nothing.
-use mathlib.Core.Path.{refl}
+use Rattle.common_laws.proofs.Base.{refl, needs}
 use Rattle.netlist_text.proofs.Forms.{gathered-range}
-use borrow.Author.Needs.{needs}
 use Rattle.netlist_text.proofs.statements.range_from.Statement.{statement}
 use Rattle.netlist_text.proofs.statements.range_from.Tie as tie
 

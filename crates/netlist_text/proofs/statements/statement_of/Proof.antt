@@ -1,14 +1,10 @@
 -- `statement_of` reads the statement of a line by its first field. Assumes nothing.
-use mathlib.Core.Bool.{Bool, false, _&&_}
-use mathlib.Core.List.{List}
-use mathlib.Core.Path.{_≡_, refl, sym, ap, _∙_}
-use Prim.Native.Nat.{ℕ}
+use Rattle.common_laws.proofs.Base.{Bool, false, _&&_, List, _≡_, refl, sym, ap, _∙_, ℕ, needs}
 use Rattle.reading.specs.Choice.{pick}
 use Rattle.text.specs.Bytes.{bytes}
 use Rattle.text.specs.Lines.{part, nextAfter, sameBytes}
 use Rattle.netlist_table.specs.Netlist.{input, output, opened, declaring, statementOf}
 use Rattle.netlist_text.proofs.Forms.{stands-none, same-is, all-fields}
-use borrow.Author.Needs.{needs}
 use Rattle.netlist_text.proofs.statements.statement_of.Statement.{statement}
 use Rattle.netlist_text.proofs.statements.statement_of.Tie as tie
 

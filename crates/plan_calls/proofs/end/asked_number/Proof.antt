@@ -1,7 +1,5 @@
 -- `asked_number` reads the number where there is one. Assumes nothing.
-use mathlib.Core.Path.{refl, sym, _∙_}
-use native.Mathlib.Omega.{arith}
-use borrow.Author.Needs.{needs}
+use Rattle.common_laws.proofs.Base.{refl, sym, _∙_, arith, needs}
 use Rattle.reading.specs.Choice.{pick}
 use Rattle.plan_calls.specs.Concluded.{askedNumber}
 use Rattle.plan_calls.proofs.EndLaws.{InRange, in-range}

@@ -1,6 +1,5 @@
 -- `calculate_plan`: the numbers, and the plan. Assumes nothing.
-use denote.Ref.{now}
-use borrow.Author.Needs.{needs}
+use Rattle.common_laws.proofs.Base.{now, needs}
 use Rattle.plan_calls.proofs.EndLaws.{analysis-held}
 use Rattle.plan_calls.proofs.end.calculate_plan.Statement.{statement}
 use Rattle.plan_calls.proofs.end.calculate_plan.Tie as tie

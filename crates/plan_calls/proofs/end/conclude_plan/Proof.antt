@@ -1,8 +1,5 @@
 -- `conclude_plan` refuses by 18, or writes and closes, perhaps by 19. Assumes nothing.
-use mathlib.Core.Path.{_∙_}
-use Prim.Native.Nat.{_≤_}
-use native.Mathlib.Omega.{arith}
-use borrow.Author.Needs.{needs}
+use Rattle.common_laws.proofs.Base.{_∙_, _≤_, arith, needs}
 use Rattle.cost.specs.Cost.{most}
 use Rattle.calculation.specs.Calculation.{analysed}
 use Rattle.plan_calls.specs.Concluded.{askedNumber}

@@ -1,8 +1,5 @@
 -- `as_written` goes by the heading. Assumes nothing.
-use mathlib.Core.Path.{refl}
-use native.Mathlib.Omega.{arith}
-use borrow.Author.Needs.{needs}
-use borrow.Author.Tests.{eq-eqb, ne-eqb}
+use Rattle.common_laws.proofs.Base.{refl, arith, needs, eq-eqb, ne-eqb}
 use Rattle.reading.specs.Choice.{pick}
 use Rattle.plan_marks.specs.Rows.{asWritten}
 use Rattle.plan_marks.proofs.rows.as_written.Statement.{statement}

@@ -1,7 +1,5 @@
 -- `asking_columns` goes by how the gate's rows are read. Assumes nothing.
-use mathlib.Core.Bool.{true, false}
-use mathlib.Core.Path.{refl}
-use borrow.Author.Needs.{needs}
+use Rattle.common_laws.proofs.Base.{true, false, refl, needs}
 use Rattle.reading.specs.Choice.{pick}
 use Rattle.plan_marks.specs.Rows.{askingColumns}
 use Rattle.plan_marks.proofs.rows.asking_columns.Statement.{statement}

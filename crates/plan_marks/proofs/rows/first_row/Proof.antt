@@ -1,11 +1,5 @@
 -- `first_row` goes from the first row on, and stops at the first that comes to the least sum. Assumes nothing.
-use mathlib.Core.Logic.{⊎-elim}
-use mathlib.Core.Path.{sym, _∙_}
-use Prim.Native.Nat.{_+_, _*_, _-_, _<_}
-use native.Mathlib.Omega.{arith}
-use borrow.Author.Needs.{needs}
-use borrow.Author.Tests.{not-true, not-false}
-use lib.ListN.{getD}
+use Rattle.common_laws.proofs.Base.{⊎-elim, sym, _∙_, _+_, _*_, _-_, _<_, arith, needs, not-true, not-false, getD}
 use Rattle.sizes.specs.Sizes as Size
 use Rattle.sweep_groups.specs.Tables.{readRow}
 use Rattle.sweep_groups.specs.Fits.{ReadFits}

@@ -1,8 +1,5 @@
 -- `note` stores four numbers, one after the other. Assumes nothing.
-use mathlib.Core.Path.{_≡_, refl}
-use Prim.Native.Nat.{ℕ, suc, _+_, _*_}
-use native.Mathlib.Omega.{arith}
-use borrow.Author.Needs.{needs}
+use Rattle.common_laws.proofs.Base.{_≡_, refl, ℕ, suc, _+_, _*_, arith, needs}
 use Rattle.plan_marks.proofs.visits.note.Statement.{statement}
 use Rattle.plan_marks.proofs.visits.note.Tie as tie
 

@@ -1,12 +1,5 @@
 -- `visit` gathers the costs of the gate's columns, and lowers the number where the least row sum is below it. Assumes nothing.
-use mathlib.Core.Bool.{Bool}
-use mathlib.Core.List.{List}
-use mathlib.Core.Path.{_≡_, refl, sym, ap, ap₂, _∙_}
-use Prim.Native.Nat.{ℕ, _+_, _*_, _^_, _≤_, _<_}
-use native.Mathlib.Omega.{arith}
-use lib.ListN.{length, getD}
-use borrow.Author.Needs.{needs}
-use borrow.Author.Tests.{not-true, not-false}
+use Rattle.common_laws.proofs.Base.{Bool, List, _≡_, refl, sym, ap, ap₂, _∙_, ℕ, _+_, _*_, _^_, _≤_, _<_, arith, length, getD, needs, not-true, not-false}
 use Rattle.sizes.specs.Sizes as Size
 use Rattle.sizes.specs.Places.{groupPlace}
 use Rattle.reading.specs.Choice.{pick}

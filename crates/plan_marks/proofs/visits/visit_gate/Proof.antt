@@ -1,9 +1,5 @@
 -- `visit_gate` makes both visits, and after a lowered number the gates that read the line are awake. Assumes nothing.
-use mathlib.Core.Path.{sym, _∙_}
-use native.Mathlib.Omega.{arith}
-use lib.ListN.{getD}
-use borrow.Author.Needs.{needs}
-use borrow.Author.Tests.{not-true, not-false}
+use Rattle.common_laws.proofs.Base.{sym, _∙_, arith, getD, needs, not-true, not-false}
 use Rattle.netlist_table.proofs.HeldGates.{line-at}
 use Rattle.sweep_groups.specs.Fits.{GateFits}
 use Rattle.sweep_turns.proofs.VisitsLaws.{swept-length}

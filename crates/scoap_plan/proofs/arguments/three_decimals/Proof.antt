@@ -1,6 +1,5 @@
 -- `three_decimals` is `threeDecimals`, numeral by numeral. Assumes nothing.
-use mathlib.Core.Path.{refl}
-use borrow.Author.Needs.{needs}
+use Rattle.common_laws.proofs.Base.{refl, needs}
 use Rattle.text.specs.Numeral.{numeralRead}
 use Rattle.scoap_plan.specs.Arguments.{threeDecimals}
 use Rattle.scoap_plan.proofs.arguments.three_decimals.Statement.{statement}

@@ -1,10 +1,5 @@
 -- `begin_again` calculates from the start, and lays what that comes to. Assumes nothing.
-use mathlib.Core.Path.{_≡_, subst}
-use Prim.Native.Nat.{ℕ, _≤_}
-use native.Mathlib.Omega.{arith}
-use lib.ListN.{length, length-replicate}
-use denote.Ref.{now}
-use borrow.Author.Needs.{needs}
+use Rattle.common_laws.proofs.Base.{_≡_, subst, ℕ, _≤_, arith, length, length-replicate, now, needs}
 use Rattle.sizes.specs.Sizes as Size
 use Rattle.calculation.specs.Calculation.{Analysed}
 use Rattle.standing_table.proofs.Slices.{ready-size}

@@ -1,9 +1,5 @@
 -- `go_on_from` runs from the numbers that stand, and lays what the runs come to. Assumes nothing.
-use mathlib.Core.Path.{_≡_, subst}
-use Prim.Native.Nat.{_≤_}
-use lib.ListN.{length}
-use denote.Ref.{now}
-use borrow.Author.Needs.{needs}
+use Rattle.common_laws.proofs.Base.{_≡_, subst, _≤_, length, now, needs}
 use Rattle.sizes.specs.Sizes as Size
 use Rattle.calculation.specs.Calculation.{Analysed}
 use Rattle.standing_table.proofs.Slices.{ready-size}

@@ -1,8 +1,5 @@
 -- `put_kept` lays the analysis behind as many pads as the table counts. Assumes nothing.
-use mathlib.Core.Path.{_∙_}
-use native.Mathlib.Omega.{arith}
-use denote.Ref.{now}
-use borrow.Author.Needs.{needs}
+use Rattle.common_laws.proofs.Base.{_∙_, arith, now, needs}
 use Rattle.calculation.specs.Stored.{whole}
 use Rattle.standing_change.proofs.RunsLaws.{kept-stored}
 use Rattle.standing_change.proofs.runs.put_kept.Statement.{statement}

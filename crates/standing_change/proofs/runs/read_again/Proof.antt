@@ -1,7 +1,5 @@
 -- `read_again`: the netlist, and the pads. Assumes nothing.
-use mathlib.Core.Path.{sym, subst}
-use denote.Ref.{now}
-use borrow.Author.Needs.{needs}
+use Rattle.common_laws.proofs.Base.{sym, subst, now, needs}
 use Rattle.reading.specs.Verdict.{verdictRead}
 use Rattle.netlist_text.specs.Reader.{NoStatements}
 use Rattle.netlist_text.proofs.Walk.{cleared-none}

@@ -1,11 +1,5 @@
 -- `runs_from` lends the numbers of the standing table. Assumes nothing.
-use mathlib.Core.List.{List}
-use mathlib.Core.Path.{sym, subst}
-use Prim.Native.Nat.{ℕ, _≤_}
-use native.Mathlib.Omega.{arith}
-use lib.ListN.{length}
-use denote.Ref.{now}
-use borrow.Author.Needs.{needs}
+use Rattle.common_laws.proofs.Base.{List, sym, subst, ℕ, _≤_, arith, length, now, needs}
 use Rattle.sizes.specs.Sizes as Size
 use Rattle.calculation.specs.Stored.{Ready}
 use Rattle.sweep_reruns.specs.Kept.{GoneOn}

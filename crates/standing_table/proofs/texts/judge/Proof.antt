@@ -1,6 +1,5 @@
 -- `judge` tells 23 before 24. Assumes nothing.
-use mathlib.Core.Bool.{not}
-use borrow.Author.Needs.{needs}
+use Rattle.common_laws.proofs.Base.{not, needs}
 use Rattle.reading.specs.Verdict.{verdictRead}
 use Rattle.standing_table.proofs.TextsLaws.{taken-first, stale-next, none-refused}
 use Rattle.standing_table.proofs.texts.judge.Statement.{statement}

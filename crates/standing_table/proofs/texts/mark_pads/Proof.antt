@@ -1,12 +1,5 @@
 -- `mark_pads` counts the pads, and marks them. Assumes nothing.
-use mathlib.Core.Bool.{Bool}
-use mathlib.Core.List.{List}
-use mathlib.Core.Path.{_≡_, _∙_, subst}
-use Prim.Native.Nat.{ℕ, _≤_}
-use native.Mathlib.Omega.{arith}
-use lib.ListN.{getD, take, drop}
-use denote.Ref.{now}
-use borrow.Author.Needs.{needs}
+use Rattle.common_laws.proofs.Base.{Bool, List, _≡_, _∙_, subst, ℕ, _≤_, arith, getD, take, drop, now, needs}
 use Rattle.sizes.specs.Sizes as Size
 use Rattle.reading.specs.Verdict.{verdictRead}
 use Rattle.library_table.specs.Cells.{Cell}

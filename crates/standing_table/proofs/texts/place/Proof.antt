@@ -1,10 +1,5 @@
 -- `place` refuses a line that takes no pad, and marks another. Assumes nothing.
-use mathlib.Core.Option.{some}
-use mathlib.Core.Path.{sym, _∙_}
-use borrow.Author.Tests.{not-true, not-false}
-use native.Mathlib.Omega.{arith}
-use denote.Ref.{now}
-use borrow.Author.Needs.{needs}
+use Rattle.common_laws.proofs.Base.{some, sym, _∙_, not-true, not-false, arith, now, needs}
 use Rattle.library_table.proofs.Names.{holds-told}
 use Rattle.netlist_table.specs.Netlist.{mark, output}
 use Rattle.netlist_table.specs.Admission.{StandsFor}

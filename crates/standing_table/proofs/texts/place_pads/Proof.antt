@@ -1,15 +1,6 @@
 -- `place_pads` marks one pad after the other. Assumes nothing.
-use mathlib.Core.Bool.{Bool, true}
-use mathlib.Core.List.{List}
-use mathlib.Core.Path.{_≡_, refl, sym, subst, _∙_}
-use Prim.Native.Nat.{ℕ, _-_, _≤_}
-use native.Mathlib.Numerals.{add-one}
-use native.Mathlib.Omega.{arith}
-use lib.ListN.{length, getD, take, drop, length-drop}
-use lib.Seq.{getD-drop}
-use denote.Ref.{now}
-use borrow.Author.Needs.{needs}
-use borrow.Author.Tests.{not-true, not-false}
+use Rattle.common_laws.proofs.Base.{Bool, true, List, _≡_, refl, sym, subst, _∙_, ℕ, _-_, _≤_, add-one, arith, length, getD, take, drop, length-drop, getD-drop, now, needs}
+use Rattle.common_laws.proofs.Base.{not-true, not-false}
 use Rattle.sizes.specs.Sizes as Size
 use Rattle.library_table.specs.Cells.{Cell}
 use Rattle.netlist_table.specs.Netlist.{Statement}

@@ -1,7 +1,5 @@
 -- `read_both` tells how far the reading came as a verdict. Assumes nothing.
-use mathlib.Core.Bool.{false}
-use denote.Ref.{now}
-use borrow.Author.Needs.{needs}
+use Rattle.common_laws.proofs.Base.{false, now, needs}
 use Rattle.demands.specs.Outcome.{Given, givenTexts}
 use Rattle.demands.proofs.Given.{texts-checked}
 use Rattle.analysis_texts.specs.Progress.{Reached}

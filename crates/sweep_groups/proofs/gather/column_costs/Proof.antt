@@ -1,8 +1,5 @@
 -- `column_costs` gathers the columns of the role, unless they are gathered already. Assumes nothing.
-use Prim.Native.Nat.{_<_}
-use native.Mathlib.Omega.{arith}
-use borrow.Author.Needs.{needs}
-use borrow.Author.Tests.{not-true}
+use Rattle.common_laws.proofs.Base.{_<_, arith, needs, not-true}
 use Rattle.sizes.specs.Sizes as Size
 use Rattle.sweep_groups.proofs.Gathered.{gather-observed}
 use Rattle.sweep_groups.proofs.Roles.{role-set, role-observed}

@@ -1,7 +1,5 @@
 -- `line_costs` gathers the two columns of one line more with each turn. Assumes nothing.
-use mathlib.Core.Path.{_≡_}
-use Prim.Native.Nat.{_+_, _*_, _-_, _≤_, _<_}
-use native.Mathlib.Omega.{arith}
+use Rattle.common_laws.proofs.Base.{_≡_, _+_, _*_, _-_, _≤_, _<_, arith}
 use Rattle.sizes.specs.Sizes as Size
 use Rattle.sweep_groups.specs.Fits.{Gathered}
 use Rattle.sweep_groups.proofs.Gathered.{gather-none, gather-line}

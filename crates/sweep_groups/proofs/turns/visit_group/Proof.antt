@@ -1,6 +1,5 @@
 -- `visit_group` goes by the role. Assumes nothing.
-use mathlib.Core.Path.{sym}
-use borrow.Author.Needs.{needs}
+use Rattle.common_laws.proofs.Base.{sym, needs}
 use Rattle.sweep_groups.proofs.Roles.{role-set, role-observed}
 use Rattle.sweep_groups.proofs.turns.visit_group.Statement.{statement}
 use Rattle.sweep_groups.proofs.turns.visit_group.Tie as tie

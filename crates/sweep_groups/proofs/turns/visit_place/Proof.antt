@@ -1,8 +1,5 @@
 -- `visit_place` goes by the role: the place of the gate's own line at a value, or of a pin's line observed. Assumes nothing.
-use mathlib.Core.Path.{sym, _∙_}
-use Prim.Native.Nat.{_+_, _<_}
-use native.Mathlib.Omega.{arith}
-use borrow.Author.Needs.{needs}
+use Rattle.common_laws.proofs.Base.{sym, _∙_, _+_, _<_, arith, needs}
 use Rattle.sizes.specs.Sizes as Size
 use Rattle.sweep_groups.proofs.Roles.{role-set, role-observed}
 use Rattle.sweep_groups.proofs.turns.visit_place.Statement.{statement}

@@ -1,8 +1,5 @@
 -- `all_awake` sets every bit. Assumes nothing.
-use mathlib.Core.Path.{refl}
-use Prim.Native.Nat.{ℕ, _/_, _%_}
-use native.Mathlib.Omega.{arith}
-use lib.ListN.{getD-replicate}
+use Rattle.common_laws.proofs.Base.{refl, ℕ, _/_, _%_, arith, getD-replicate}
 use Rattle.sizes.specs.Sizes as Size
 use Rattle.sweep_links.specs.Turns.{bitAt}
 use Rattle.sweep_links.proofs.Bits.{ones-bit}

@@ -1,7 +1,5 @@
 -- `next_awake` goes by the rest of each word: no turn passed is awake. Assumes nothing.
-use mathlib.Core.Path.{_≡_, refl}
-use Prim.Native.Nat.{ℕ, _/_, _%_, _-_, _^_, _≤_, _<_}
-use native.Mathlib.Omega.{arith}
+use Rattle.common_laws.proofs.Base.{_≡_, refl, ℕ, _/_, _%_, _-_, _^_, _≤_, _<_, arith}
 use lib.Count.{trailing-le}
 use Rattle.sizes.specs.Sizes as Size
 use Rattle.sweep_links.specs.Turns.{bitAt}

@@ -1,8 +1,5 @@
 -- `wake_driver` wakes the gate that is noted for the line. Assumes nothing.
-use mathlib.Core.Path.{_≡_, refl, ap, _∙_}
-use Prim.Native.Nat.{_-_}
-use native.Mathlib.Omega.{arith}
-use borrow.Author.Needs.{needs}
+use Rattle.common_laws.proofs.Base.{_≡_, refl, ap, _∙_, _-_, arith, needs}
 use Rattle.sweep_links.specs.Turns.{bitAt}
 use Rattle.sweep_links.proofs.Turns.{wakes-only}
 use Rattle.sweep_links.proofs.Lines.{driver-noted}

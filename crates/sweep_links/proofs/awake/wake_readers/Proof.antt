@@ -1,9 +1,5 @@
 -- `wake_readers` walks along the chain of the line. Assumes nothing.
-use mathlib.Core.List.{List}
-use mathlib.Core.Path.{_≡_, _∙_}
-use Prim.Native.Nat.{ℕ, _*_, _≤_}
-use native.Mathlib.Omega.{arith}
-use borrow.Author.Needs.{needs}
+use Rattle.common_laws.proofs.Base.{List, _≡_, _∙_, ℕ, _*_, _≤_, arith, needs}
 use Rattle.sizes.specs.Sizes as Size
 use Rattle.sweep_links.specs.Lines.{Chained}
 use Rattle.sweep_links.proofs.AwakeLines.{Walked, walk-starts, walk-goes, walk-ends}

@@ -1,6 +1,5 @@
 -- `word` reads a word. Assumes nothing.
-use native.Mathlib.Omega.{arith}
-use borrow.Author.Needs.{needs}
+use Rattle.common_laws.proofs.Base.{arith, needs}
 use Rattle.sweep_links.proofs.awake.word.Statement.{statement}
 use Rattle.sweep_links.proofs.awake.word.Tie as tie
 

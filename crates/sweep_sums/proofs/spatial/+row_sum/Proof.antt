@@ -1,8 +1,6 @@
 -- `spatial::row_sum` is the sum of the row's columns. The measure is how many columns the row names: without the lowest they
 -- are one fewer. Assumes nothing.
-use Prim.Native.Nat.{ℕ, _<_}
-use native.Mathlib.Omega.{arith}
-use lib.Count.{ones}
+use Rattle.common_laws.proofs.Base.{ℕ, _<_, arith, ones}
 use borrow.Fn.Kinds.{In}
 use borrow.Fn.PlainCycle.{Measures, is, falls, and}
 use Rattle.cost.proofs.Spatial.plus.Reads as plus-reads

@@ -1,11 +1,5 @@
 -- `lowest_already` says so only of a number that is observed, and at most the cost. Assumes nothing.
-use mathlib.Core.Bool.{Bool, true, true≢false, not}
-use mathlib.Core.Path.{_≡_, sym, ap, _∙_}
-use Prim.Native.Nat.{ℕ, _≤_}
-use native.Mathlib.Omega.{arith}
-use borrow.Author.Needs.{needs}
-use borrow.Author.Tests.{not-true, ltb-false}
-use lib.Dec.{ltb}
+use Rattle.common_laws.proofs.Base.{Bool, true, true≢false, not, _≡_, sym, ap, _∙_, ℕ, _≤_, arith, needs, not-true, ltb-false, ltb}
 use Rattle.cost.specs.Cost.{never, counted}
 use Rattle.sweep_sums.specs.declared.Sum.{Sum}
 use Rattle.sweep_sums.specs.Sums.{Summed, sumNumber}

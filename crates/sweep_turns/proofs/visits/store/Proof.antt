@@ -1,10 +1,5 @@
 -- `store` leaves the sum's number at its place, and its answer compares it with the one that stood there. Assumes nothing.
-use mathlib.Core.Path.{_≡_, refl, sym, _∙_, ap}
-use native.Mathlib.Omega.{arith}
-use lib.ListN.{getD, set, length-set}
-use lib.Seq.{set-getD}
-use borrow.Author.Tests.{eq-eqb, ne-eqb}
-use borrow.Author.Needs.{needs}
+use Rattle.common_laws.proofs.Base.{_≡_, refl, sym, _∙_, ap, arith, getD, set, length-set, set-getD, eq-eqb, ne-eqb, needs}
 use Rattle.plans.specs.Sweep.{at}
 use Rattle.plans.proofs.Laws.{at-getD}
 use Rattle.sweep_turns.proofs.visits.store.Statement.{statement}

@@ -1,9 +1,5 @@
 -- `visit` stores the lesser of the number and the least row sum. Assumes nothing.
-use mathlib.Core.Path.{refl, sym, _∙_}
-use Prim.Native.Nat.{_<_}
-use native.Mathlib.Omega.{arith}
-use lib.ListN.{length}
-use borrow.Author.Needs.{needs}
+use Rattle.common_laws.proofs.Base.{refl, sym, _∙_, _<_, arith, length, needs}
 use Rattle.sweep_groups.specs.Tables.{readRow, groupVisit}
 use Rattle.sweep_groups.proofs.Gathered.{group-same, read-narrow}
 use Rattle.sweep_turns.proofs.VisitsLaws.{visited, led-still}

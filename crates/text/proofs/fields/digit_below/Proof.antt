@@ -1,14 +1,6 @@
 -- `fields::digit_below` meets its contract: a byte of class `Digit`, below the end of the base's digits.
 -- Assumes nothing.
-use mathlib.Core.Bool.{Bool, true, false, _&&_}
-use mathlib.Core.List.{[], _∷_}
-use mathlib.Core.Logic.{inl, inr}
-use mathlib.Core.Path.{_≡_, refl, sym, ap}
-use Prim.Native.Nat.{ℕ, _+_, _≤_}
-use native.Mathlib.Omega.{arith}
-use lib.Dec.{ltb}
-use borrow.Author.Needs.{needs}
-use borrow.Author.Tests.{lt-leb}
+use Rattle.common_laws.proofs.Base.{Bool, true, false, _&&_, [], _∷_, inl, inr, _≡_, refl, sym, ap, ℕ, _+_, _≤_, arith, ltb, needs, lt-leb}
 use denote.Enum.Declared.{tagOf}
 use types.Run.{OneOf}
 use Rattle.text.specs.declared.Class.{Class}

@@ -1,15 +1,7 @@
 -- `fields::digits` meets its contract. The loop's invariant: the bytes passed are digits, so that the rest decides; going on
 -- from the sum gives the value; and the sum is below the base's power for the digits passed.
 -- Assumes nothing.
-use mathlib.Core.Bool.{true}
-use mathlib.Core.Path.{_≡_, refl, sym, _∙_}
-use Prim.Native.Nat.{ℕ, _+_, _*_, _-_, _^_, _≤_, _<_}
-use native.Mathlib.Nat.{pow-zero}
-use native.Mathlib.Numerals.{add-one}
-use native.Mathlib.Omega.{arith}
-use lib.ListN.{length, getD, drop}
-use borrow.Author.Needs.{needs}
-use borrow.Author.Tests.{not-true, not-false}
+use Rattle.common_laws.proofs.Base.{true, _≡_, refl, sym, _∙_, ℕ, _+_, _*_, _-_, _^_, _≤_, _<_, pow-zero, add-one, arith, length, getD, drop, needs, not-true, not-false}
 use Rattle.reading.specs.Choice.{pick}
 use Rattle.text.specs.Numeral.{digitBelow, allDigits, value, numeralRead}
 use Rattle.text.proofs.FieldLaws.{digit-low, digit-step}

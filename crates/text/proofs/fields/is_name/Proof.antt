@@ -1,11 +1,6 @@
 -- `fields::is_name` meets its contract. The loop's invariant: the length is good and so are the bytes passed, so that the rest
 -- decides. Assumes nothing.
-use mathlib.Core.Path.{_≡_, sym, _∙_}
-use Prim.Native.Nat.{_-_, _≤_, _<_}
-use native.Mathlib.Omega.{arith}
-use lib.ListN.{length, drop}
-use borrow.Author.Needs.{needs}
-use borrow.Author.Tests.{not-true, not-false}
+use Rattle.common_laws.proofs.Base.{_≡_, sym, _∙_, _-_, _≤_, _<_, arith, length, drop, needs, not-true, not-false}
 use Rattle.sizes.specs.Sizes as Size
 use Rattle.text.specs.Numeral.{allName, nameForm}
 use Rattle.text.proofs.FieldSteps.{allName-good, allName-bad, allName-end, nameForm-empty, nameForm-long, nameForm-bytes}

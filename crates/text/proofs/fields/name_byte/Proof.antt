@@ -1,13 +1,6 @@
 -- `fields::name_byte` meets its contract: the class of the byte decides.
 -- Assumes nothing.
-use mathlib.Core.Bool.{false}
-use mathlib.Core.List.{[], _∷_}
-use mathlib.Core.Logic.{inl, inr}
-use mathlib.Core.Path.{_≡_, refl, sym, ap, _∙_}
-use Prim.Native.Nat.{ℕ, _≤_}
-use native.Mathlib.Omega.{arith}
-use borrow.Author.Needs.{needs}
-use borrow.Author.Tests.{lt-leb}
+use Rattle.common_laws.proofs.Base.{false, [], _∷_, inl, inr, _≡_, refl, sym, ap, _∙_, ℕ, _≤_, arith, needs, lt-leb}
 use denote.Enum.Declared.{tagOf}
 use types.Run.{OneOf}
 use Rattle.text.specs.declared.Class.{Class}

@@ -1,10 +1,6 @@
 -- `fields::octal` meets its contract: the power of 8 for at most ten digits fits.
 -- Assumes nothing.
-use mathlib.Core.Path.{_≡_, ap, _∙_}
-use Prim.Native.Nat.{ℕ, _≤_, min}
-use native.Mathlib.Nat.{pow-le-pow-right}
-use native.Mathlib.Omega.{arith}
-use borrow.Author.Needs.{needs}
+use Rattle.common_laws.proofs.Base.{_≡_, ap, _∙_, ℕ, _≤_, min, pow-le-pow-right, arith, needs}
 use Rattle.text.specs.Numeral.{numeral}
 use Rattle.text.proofs.fields.octal.Statement.{statement}
 use Rattle.text.proofs.fields.octal.Tie as tie

@@ -1,15 +1,7 @@
 -- `fields::read` meets its contract: each return is a case of `wellFormed`, and a well-formed field has so few digits that its
 -- value fits.
 -- Assumes nothing.
-use mathlib.Core.Bool.{true}
-use mathlib.Core.Logic.{⊎-elim}
-use mathlib.Core.Path.{_≡_, sym, _∙_}
-use Prim.Native.Nat.{_≤_, _<_}
-use native.Mathlib.Nat.{pow-le-pow-right}
-use native.Mathlib.Omega.{arith}
-use lib.ListN.{length, getD}
-use borrow.Author.Needs.{needs}
-use borrow.Author.Tests.{ne-eqb}
+use Rattle.common_laws.proofs.Base.{true, ⊎-elim, _≡_, sym, _∙_, _≤_, _<_, pow-le-pow-right, arith, length, getD, needs, ne-eqb}
 use Rattle.text.specs.Numeral.{noLeadingZero, numeral, numeralRead}
 use Rattle.text.proofs.FieldLaws.{numeral-bad}
 use Rattle.text.proofs.FieldSteps.{noLeadingZero-short, noLeadingZero-long, wellFormed-empty, wellFormed-long, wellFormed-zero, wellFormed-bytes}

@@ -1,6 +1,5 @@
 -- `admits` meets its contract. Assumes nothing.
-use mathlib.Core.Path.{refl}
-use borrow.Author.Tests.{eq-eqb, ne-eqb}
+use Rattle.common_laws.proofs.Base.{refl, eq-eqb, ne-eqb}
 use Rattle.reading.specs.Choice.{pick}
 use Rattle.truth_cells.specs.Words.{admits}
 use Rattle.truth_cells.proofs.bits.admits.Statement.{statement}

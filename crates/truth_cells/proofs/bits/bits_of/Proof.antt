@@ -1,11 +1,5 @@
 -- `bits_of` has one value more of the truth table with each turn. Assumes nothing.
-use mathlib.Core.List.{List, map}
-use mathlib.Core.Path.{_≡_, refl, _∙_}
-use Prim.Native.Nat.{ℕ, _-_, _^_, _≤_, _<_}
-use native.Mathlib.Nat.{pow-le-pow-right}
-use native.Mathlib.Omega.{arith}
-use lib.ListN.{length, take, length-set}
-use borrow.Author.Needs.{needs}
+use Rattle.common_laws.proofs.Base.{List, map, _≡_, refl, _∙_, ℕ, _-_, _^_, _≤_, _<_, pow-le-pow-right, arith, length, take, length-set, needs}
 use Rattle.truth_rows.specs.Masks.{upFrom}
 use Rattle.truth_cells.specs.Words.{metAt, truthBits, bitByte, truthBytes}
 use Rattle.truth_cells.proofs.Steps.{bits-next}

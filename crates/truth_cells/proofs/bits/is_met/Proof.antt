@@ -1,11 +1,5 @@
 -- `is_met` goes over the pins from the first on, to one that has not the value named. Assumes nothing.
-use mathlib.Core.Path.{_≡_, refl, sym, _∙_}
-use Prim.Native.Nat.{ℕ, _-_, _^_, _≤_, _<_}
-use native.Mathlib.Nat.{one-le-pow}
-use native.Mathlib.Omega.{arith}
-use lib.Pow.{pow-pos}
-use borrow.Author.Needs.{needs}
-use borrow.Author.Tests.{not-true, not-false}
+use Rattle.common_laws.proofs.Base.{_≡_, refl, sym, _∙_, ℕ, _-_, _^_, _≤_, _<_, one-le-pow, arith, pow-pos, needs, not-true, not-false}
 use Rattle.truth_cells.specs.Words.{metBy}
 use Rattle.truth_cells.proofs.Steps.{met-more}
 use Rattle.truth_cells.proofs.bits.is_met.Statement.{statement}

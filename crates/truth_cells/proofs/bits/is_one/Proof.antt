@@ -1,8 +1,5 @@
 -- `is_one` goes over the rows of the group, to one that the setting meets. Assumes nothing.
-use mathlib.Core.Path.{_≡_, refl, sym, _∙_}
-use Prim.Native.Nat.{_-_, _≤_}
-use native.Mathlib.Omega.{arith}
-use borrow.Author.Needs.{needs}
+use Rattle.common_laws.proofs.Base.{_≡_, refl, sym, _∙_, _-_, _≤_, arith, needs}
 use Rattle.sizes.specs.Sizes as Size
 use Rattle.truth_cells.specs.Words.{rowsAt, metFrom, metAt}
 use Rattle.truth_cells.proofs.Steps.{met-next, met-none}

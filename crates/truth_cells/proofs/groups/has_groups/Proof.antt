@@ -1,6 +1,5 @@
 -- `has_groups` meets its contract. Assumes nothing.
-use mathlib.Core.Path.{refl}
-use borrow.Author.Needs.{needs}
+use Rattle.common_laws.proofs.Base.{refl, needs}
 use Rattle.truth_cells.specs.Words.{groupsOf}
 use Rattle.truth_cells.proofs.groups.has_groups.Statement.{statement}
 use Rattle.truth_cells.proofs.groups.has_groups.Tie as tie

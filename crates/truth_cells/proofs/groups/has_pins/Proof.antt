@@ -1,10 +1,5 @@
 -- `has_pins` goes over the pins, to one whose group is another. Assumes nothing.
-use mathlib.Core.List.{map}
-use mathlib.Core.Path.{_≡_, refl, sym, _∙_}
-use Prim.Native.Nat.{_+_, _-_, _≤_}
-use native.Mathlib.Nat.{add-zero}
-use native.Mathlib.Omega.{arith}
-use borrow.Author.Tests.{not-true, not-false}
+use Rattle.common_laws.proofs.Base.{map, _≡_, refl, sym, _∙_, _+_, _-_, _≤_, add-zero, arith, not-true, not-false}
 use Rattle.truth_tables.specs.Entries.{groupsFrom, observingGroups}
 use Rattle.truth_rows.specs.Masks.{isOne}
 use Rattle.truth_cells.specs.Words.{groupsAre}

@@ -1,11 +1,5 @@
 -- `has_rows` goes over the rows from the highest down, and over those of the group from the first on. Assumes nothing.
-use mathlib.Core.List.{map}
-use mathlib.Core.Path.{_≡_, refl, sym, _∙_}
-use Prim.Native.Nat.{_+_, _≤_, _<_}
-use native.Mathlib.Nat.{pow-le-pow-right}
-use native.Mathlib.Omega.{arith}
-use borrow.Author.Needs.{needs}
-use borrow.Author.Tests.{not-true, not-false}
+use Rattle.common_laws.proofs.Base.{map, _≡_, refl, sym, _∙_, _+_, _≤_, _<_, pow-le-pow-right, arith, needs, not-true, not-false}
 use Rattle.truth_tables.specs.Tables.{keep}
 use Rattle.truth_rows.specs.Asked.{askedNumber}
 use Rattle.truth_rows.specs.Masks.{primeRow, downFrom, primeRows}

@@ -1,7 +1,5 @@
 -- `has_values` meets its contract. Assumes nothing.
-use mathlib.Core.Bool.{true}
-use mathlib.Core.Path.{_≡_, refl, sym}
-use borrow.Author.Needs.{needs}
+use Rattle.common_laws.proofs.Base.{true, _≡_, refl, sym, needs}
 use Rattle.truth_tables.specs.Entries.{settingGroups}
 use Rattle.truth_rows.specs.Masks.{isBit, isOne}
 use Rattle.truth_cells.proofs.Steps.{groups-two}

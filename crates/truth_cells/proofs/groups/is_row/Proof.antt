@@ -1,6 +1,5 @@
 -- `is_row` meets its contract. Assumes nothing.
-use mathlib.Core.Path.{refl}
-use borrow.Author.Needs.{needs}
+use Rattle.common_laws.proofs.Base.{refl, needs}
 use Rattle.truth_cells.specs.Words.{rowIs}
 use Rattle.truth_cells.proofs.groups.is_row.Statement.{statement}
 use Rattle.truth_cells.proofs.groups.is_row.Tie as tie

@@ -1,10 +1,5 @@
 -- `put_pins` prints pin by pin. Assumes nothing.
-use mathlib.Core.List.{map}
-use mathlib.Core.Path.{_≡_, refl, _∙_}
-use Prim.Native.Nat.{_-_, _≤_}
-use native.Mathlib.Omega.{arith}
-use lib.ListN.{length}
-use borrow.Author.Needs.{needs}
+use Rattle.common_laws.proofs.Base.{map, _≡_, refl, _∙_, _-_, _≤_, arith, length, needs}
 use Rattle.writer.proofs.Steps.{put-then}
 use Rattle.truth_tables.specs.Entries.{lineBytes}
 use Rattle.truth_rows.specs.Masks.{isOne}

@@ -1,6 +1,5 @@
 -- `put_values` meets its contract. Assumes nothing.
-use mathlib.Core.Path.{refl}
-use borrow.Author.Needs.{needs}
+use Rattle.common_laws.proofs.Base.{refl, needs}
 use Rattle.writer.proofs.Steps.{put-then}
 use Rattle.truth_tables.specs.Entries.{settingGroups}
 use Rattle.truth_rows.specs.Masks.{isBit, isOne}

@@ -1,10 +1,5 @@
 -- `asked` meets its contract. Assumes nothing.
-use mathlib.Core.Bool.{not}
-use mathlib.Core.Path.{refl, ap}
-use native.Mathlib.Nat.{mod-le}
-use native.Mathlib.Omega.{arith}
-use borrow.Author.Needs.{needs}
-use borrow.Author.Tests.{eq-eqb, ne-eqb}
+use Rattle.common_laws.proofs.Base.{not, refl, ap, mod-le, arith, needs, eq-eqb, ne-eqb}
 use Rattle.reading.specs.Choice.{pick}
 use Rattle.truth_rows.specs.Masks.{askAt}
 use Rattle.truth_rows.proofs.Pins.{scaled-most}

@@ -1,8 +1,5 @@
 -- `byte_at` meets its contract. Assumes nothing.
-use mathlib.Core.Path.{sym}
-use native.Mathlib.Omega.{arith}
-use lib.ListN.{List·getD-eq-default}
-use borrow.Author.Needs.{needs}
+use Rattle.common_laws.proofs.Base.{sym, arith, List·getD-eq-default, needs}
 use Rattle.truth_rows.proofs.masks.byte_at.Statement.{statement}
 use Rattle.truth_rows.proofs.masks.byte_at.Tie as tie
 

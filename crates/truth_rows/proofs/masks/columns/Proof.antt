@@ -1,10 +1,5 @@
 -- `columns` goes over the pins from the last on. Assumes nothing.
-use mathlib.Core.Path.{_≡_, refl, sym, ap, _∙_}
-use Prim.Native.Nat.{ℕ, _-_, _*_, _/_, _%_, _^_, _≤_, _<_}
-use native.Mathlib.Nat.{mul-le-mul, pow-suc, pow-le-pow-right}
-use native.Mathlib.Numerals.{add-one}
-use native.Mathlib.Omega.{arith}
-use borrow.Author.Needs.{needs}
+use Rattle.common_laws.proofs.Base.{_≡_, refl, sym, ap, _∙_, ℕ, _-_, _*_, _/_, _%_, _^_, _≤_, _<_, mul-le-mul, pow-suc, pow-le-pow-right, add-one, arith, needs}
 use Rattle.truth_tables.specs.Entries.{termColumns}
 use Rattle.truth_rows.specs.Masks.{termOf}
 use Rattle.truth_rows.proofs.Pins.{columns-more, columns-below, third}

@@ -1,11 +1,5 @@
 -- `cover` goes over the pins from the last on. Assumes nothing.
-use mathlib.Core.Path.{_≡_, refl, sym, ap, _∙_}
-use Prim.Native.Nat.{ℕ, _-_, _*_, _/_, _%_, _^_, _≤_, _<_}
-use native.Mathlib.Nat.{mul-le-mul}
-use native.Mathlib.Numerals.{add-one}
-use native.Mathlib.Omega.{arith}
-use lib.Dec.{eqb}
-use borrow.Author.Needs.{needs}
+use Rattle.common_laws.proofs.Base.{_≡_, refl, sym, ap, _∙_, ℕ, _-_, _*_, _/_, _%_, _^_, _≤_, _<_, mul-le-mul, add-one, arith, eqb, needs}
 use Rattle.reading.specs.Choice.{pick}
 use Rattle.truth_tables.specs.Tables.{digit, settings, meets}
 use Rattle.truth_rows.specs.Masks.{maskOf, coverMask, termBut}

@@ -1,6 +1,5 @@
 -- `digit` meets its contract. Assumes nothing.
-use mathlib.Core.Path.{refl}
-use borrow.Author.Tests.{eq-eqb, ne-eqb}
+use Rattle.common_laws.proofs.Base.{refl, eq-eqb, ne-eqb}
 use Rattle.reading.specs.Choice.{pick}
 use Rattle.truth_rows.proofs.masks.digit.Statement.{statement}
 use Rattle.truth_rows.proofs.masks.digit.Tie as tie

@@ -1,11 +1,5 @@
 -- `is_prime` goes over the pins from the last on, to one that can be dropped. Assumes nothing.
-use mathlib.Core.Bool.{true, and-false}
-use mathlib.Core.Path.{_≡_, refl, sym}
-use Prim.Native.Nat.{_-_, _/_, _^_, _≤_}
-use native.Mathlib.Numerals.{add-one}
-use native.Mathlib.Omega.{arith}
-use borrow.Author.Needs.{needs}
-use borrow.Author.Tests.{not-true, not-false}
+use Rattle.common_laws.proofs.Base.{true, and-false, _≡_, refl, sym, _-_, _/_, _^_, _≤_, add-one, arith, needs, not-true, not-false}
 use Rattle.truth_rows.specs.Masks.{coverMask, termBut, implied, fixed, primeRow}
 use Rattle.truth_rows.proofs.Pins.{third, fixed-not}
 use Rattle.truth_rows.proofs.masks.is_prime.Statement.{statement}

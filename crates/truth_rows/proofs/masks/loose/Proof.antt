@@ -1,7 +1,5 @@
 -- `loose` meets its contract. Assumes nothing.
-use mathlib.Core.Path.{refl, _∙_}
-use borrow.Author.Needs.{needs}
-use borrow.Author.Tests.{eq-eqb, ne-eqb}
+use Rattle.common_laws.proofs.Base.{refl, _∙_, needs, eq-eqb, ne-eqb}
 use Rattle.truth_rows.specs.Masks.{implied, loose}
 use Rattle.truth_rows.proofs.masks.loose.Statement.{statement}
 use Rattle.truth_rows.proofs.masks.loose.Tie as tie

@@ -1,9 +1,5 @@
 -- `number` meets its contract. Assumes nothing.
-use mathlib.Core.Path.{refl, ap}
-use Prim.Native.Nat.{_+_, _*_, _/_, _%_, _^_, _≤_, _<_}
-use native.Mathlib.Nat.{pow-le-pow-right, mod-le}
-use native.Mathlib.Omega.{arith}
-use borrow.Author.Needs.{needs}
+use Rattle.common_laws.proofs.Base.{refl, ap, _+_, _*_, _/_, _%_, _^_, _≤_, _<_, pow-le-pow-right, mod-le, arith, needs}
 use Rattle.truth_rows.specs.Masks.{spread, numberOf}
 use Rattle.truth_rows.proofs.Pins.{scaled-most, columns-below}
 use Rattle.truth_rows.proofs.masks.number.Statement.{statement}

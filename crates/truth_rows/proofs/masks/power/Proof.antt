@@ -1,9 +1,6 @@
 -- `power` meets its contract. Assumes nothing.
-use mathlib.Core.Path.{_≡_, refl, sym}
-use Prim.Native.Nat.{ℕ, _-_, _*_, _^_, _≤_, _<_}
-use native.Mathlib.Nat.{pow-zero, pow-suc, pow-le-pow-left, pow-le-pow-right, mul-le-mul}
-use native.Mathlib.Numerals.{add-one}
-use native.Mathlib.Omega.{arith}
+use Rattle.common_laws.proofs.Base.{_≡_, refl, sym, ℕ, _-_, _*_, _^_, _≤_, _<_, pow-zero, pow-suc, pow-le-pow-right, mul-le-mul, add-one, arith}
+use native.Mathlib.Nat.{pow-le-pow-left}
 use Rattle.truth_rows.proofs.masks.power.Statement.{statement}
 use Rattle.truth_rows.proofs.masks.power.Tie as tie
 

@@ -1,11 +1,5 @@
 -- `wanted` goes over the settings from the last on. Assumes nothing.
-use mathlib.Core.Bool.{true, false}
-use mathlib.Core.List.{map}
-use mathlib.Core.Path.{_≡_, refl, sym}
-use Prim.Native.Nat.{ℕ, _-_, _≤_}
-use native.Mathlib.Nat.{sub-self}
-use native.Mathlib.Omega.{arith}
-use borrow.Author.Needs.{needs}
+use Rattle.common_laws.proofs.Base.{true, false, map, _≡_, refl, sym, ℕ, _-_, _≤_, sub-self, arith, needs}
 use Rattle.truth_tables.specs.Tables.{digit}
 use Rattle.truth_rows.specs.Masks.{maskOf, askAt, upFrom}
 use Rattle.truth_rows.proofs.Pins.{up-more, mask-up}

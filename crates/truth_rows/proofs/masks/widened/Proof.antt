@@ -1,8 +1,5 @@
 -- `widened` puts a pin's digit before a mask. Assumes nothing.
-use mathlib.Core.Path.{_≡_, refl, sym}
-use Prim.Native.Nat.{ℕ, suc, _+_, _*_, _-_, _≤_, _<_}
-use native.Mathlib.Nat.{mul-le-mul}
-use native.Mathlib.Omega.{arith}
+use Rattle.common_laws.proofs.Base.{_≡_, refl, sym, ℕ, suc, _+_, _*_, _-_, _≤_, _<_, mul-le-mul, arith}
 use Rattle.truth_rows.specs.Masks.{widened}
 use Rattle.truth_rows.proofs.masks.widened.Statement.{statement}
 use Rattle.truth_rows.proofs.masks.widened.Tie as tie

@@ -1,8 +1,5 @@
 -- `put_byte` stores a byte, or none past the end. Assumes nothing.
-use mathlib.Core.Path.{sym}
-use native.Mathlib.Omega.{arith}
-use lib.Seq.{set-out}
-use borrow.Author.Needs.{needs}
+use Rattle.common_laws.proofs.Base.{sym, arith, set-out, needs}
 use Rattle.writer.proofs.bytes.put_byte.Statement.{statement}
 use Rattle.writer.proofs.bytes.put_byte.Tie as tie
 

@@ -1,11 +1,5 @@
 -- `put_bytes` stores bytes one by one: those passed stand in the buffer. Assumes nothing.
-use mathlib.Core.Path.{_≡_, _∙_, refl}
-use Prim.Native.Nat.{_≤_, _<_, _-_}
-use native.Mathlib.Numerals.{add-one}
-use native.Mathlib.Omega.{arith}
-use borrow.Author.Needs.{needs}
-use lib.ListN.{length, take}
-use lib.Seq.{take-suc, take-length}
+use Rattle.common_laws.proofs.Base.{_≡_, _∙_, refl, _≤_, _<_, _-_, add-one, arith, needs, length, take, take-suc, take-length}
 use Rattle.writer.specs.Put.{Put}
 use Rattle.writer.proofs.Steps.{put-none, put-then}
 use Rattle.writer.proofs.bytes.put_bytes.Statement.{statement}

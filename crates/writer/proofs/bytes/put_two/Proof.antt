@@ -1,9 +1,5 @@
 -- `put_two` stores a number's tens and its ones. Assumes nothing.
-use mathlib.Core.Path.{refl}
-use native.Mathlib.Omega.{arith}
-use native.Mathlib.Numerals.{add-one}
-use lib.ListN.{length-set}
-use borrow.Author.Needs.{needs}
+use Rattle.common_laws.proofs.Base.{refl, arith, add-one, length-set, needs}
 use Rattle.writer.proofs.bytes.put_two.Statement.{statement}
 use Rattle.writer.proofs.bytes.put_two.Tie as tie
 

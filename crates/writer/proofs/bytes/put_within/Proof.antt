@@ -1,10 +1,5 @@
 -- `put_within` stores two digits a turn, from the last on; the measure is what is left of the number. Assumes nothing.
-use mathlib.Core.Path.{_≡_, refl, ap, _∙_}
-use Prim.Native.Nat.{_≤_}
-use native.Mathlib.Nat.{mod-eq-of-lt}
-use native.Mathlib.Omega.{arith}
-use lib.ListN.{length}
-use borrow.Author.Needs.{needs}
+use Rattle.common_laws.proofs.Base.{_≡_, refl, ap, _∙_, _≤_, mod-eq-of-lt, arith, length, needs}
 use Rattle.writer.proofs.Decimal.{decimal-one, decimal-single, decimal-two}
 use Rattle.writer.proofs.Passed.{Passed, two-more, passed-none, passed-more, passed-all}
 use Rattle.writer.proofs.bytes.put_within.Statement.{statement}

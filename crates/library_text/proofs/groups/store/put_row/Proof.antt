@@ -1,9 +1,6 @@
 -- `put_row` meets its contract. Assumes nothing.
-use mathlib.Core.Path.{_≡_}
-use Prim.Native.Nat.{ℕ, _+_, _*_}
-use native.Mathlib.Omega.{arith}
+use Rattle.common_laws.proofs.Base.{_≡_, ℕ, _+_, _*_, arith, needs}
 use Rattle.library_text.specs.Groups.{rowPut}
-use borrow.Author.Needs.{needs}
 use Rattle.library_text.proofs.groups.store.put_row.Statement.{statement}
 use Rattle.library_text.proofs.groups.store.put_row.Tie as tie
 

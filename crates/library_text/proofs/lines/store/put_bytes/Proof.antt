@@ -1,12 +1,7 @@
 -- `put_bytes` meets its contract. The loop's invariant: with the bytes still to come put in, the table is what is promised.
 -- Assumes nothing.
-use mathlib.Core.Path.{_≡_, refl, sym, _∙_}
-use Prim.Native.Nat.{_+_, _-_, _≤_, _<_}
-use lib.ListN.{length, drop, length-set}
-use lib.Seq.{sets}
+use Rattle.common_laws.proofs.Base.{_≡_, refl, sym, _∙_, _+_, _-_, _≤_, _<_, length, drop, length-set, sets, arith, needs}
 use Rattle.library_text.proofs.LineStores.{sets-start, sets-turn, sets-ended}
-use native.Mathlib.Omega.{arith}
-use borrow.Author.Needs.{needs}
 use Rattle.library_text.proofs.lines.store.put_bytes.Statement.{statement}
 use Rattle.library_text.proofs.lines.store.put_bytes.Tie as tie
 

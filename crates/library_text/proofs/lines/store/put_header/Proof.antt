@@ -1,13 +1,7 @@
 -- `put_header` meets its contract. Assumes nothing.
-use mathlib.Core.List.{List}
-use mathlib.Core.Path.{ap, _∙_}
-use Prim.Native.Nat.{ℕ, _+_}
-use lib.ListN.{length, set}
-use lib.Seq.{sets}
+use Rattle.common_laws.proofs.Base.{List, ap, _∙_, ℕ, _+_, length, set, sets, arith, needs}
 use Rattle.sizes.specs.Sizes as Size
 use Rattle.library_text.specs.Headers.{headerPut}
-use native.Mathlib.Omega.{arith}
-use borrow.Author.Needs.{needs}
 use Rattle.library_text.proofs.lines.store.put_header.Statement.{statement}
 use Rattle.library_text.proofs.lines.store.put_header.Tie as tie
 

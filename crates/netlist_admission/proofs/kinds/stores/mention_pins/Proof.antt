@@ -1,12 +1,8 @@
 -- `mention_pins` marks the lines of the pins: those passed are. Assumes nothing.
-use mathlib.Core.Path.{_≡_, refl, ap, _∙_}
-use Prim.Native.Nat.{_≤_, _-_, min}
-use native.Mathlib.Omega.{arith}
-use lib.ListN.{length, take, length-set}
+use Rattle.common_laws.proofs.Base.{_≡_, refl, ap, _∙_, _≤_, _-_, min, arith, length, take, length-set, needs}
 use Rattle.sizes.specs.Sizes as Size
 use Rattle.netlist_table.specs.Admission.{mentionAll}
 use Rattle.netlist_table.proofs.Stores.{mention-start, mention-step}
-use borrow.Author.Needs.{needs}
 use Rattle.netlist_admission.proofs.kinds.stores.mention_pins.Statement.{statement}
 use Rattle.netlist_admission.proofs.kinds.stores.mention_pins.Tie as tie
 

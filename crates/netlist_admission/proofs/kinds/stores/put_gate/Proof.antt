@@ -1,14 +1,8 @@
 -- `put_gate` stores a gate's numbers. Assumes nothing.
-use mathlib.Core.List.{List}
-use mathlib.Core.Path.{_≡_}
-use Prim.Native.Nat.{ℕ, suc, _+_}
-use native.Mathlib.Omega.{arith}
-use lib.ListN.{set, take}
-use lib.Seq.{sets}
+use Rattle.common_laws.proofs.Base.{List, _≡_, ℕ, suc, _+_, arith, set, take, sets, needs}
 use Rattle.sizes.specs.Places.{gatePlace}
 use Rattle.sizes.specs.Sizes as Size
 use Rattle.netlist_table.specs.Admission.{gateStored}
-use borrow.Author.Needs.{needs}
 use Rattle.netlist_admission.proofs.kinds.stores.put_gate.Statement.{statement}
 use Rattle.netlist_admission.proofs.kinds.stores.put_gate.Tie as tie
 

@@ -1,13 +1,8 @@
 -- `put_pins` stores the lines of a gate's pins: those passed. Assumes nothing.
-use mathlib.Core.Path.{_≡_, refl, ap, _∙_}
-use Prim.Native.Nat.{_+_, _-_, _^_, _≤_, _<_}
-use native.Mathlib.Omega.{arith}
-use lib.ListN.{length, take, length-set}
-use lib.Seq.{sets}
+use Rattle.common_laws.proofs.Base.{_≡_, refl, ap, _∙_, _+_, _-_, _^_, _≤_, _<_, arith, length, take, length-set, sets, needs}
 use Rattle.sizes.specs.Places.{gatePlace}
 use Rattle.sizes.specs.Sizes as Size
 use Rattle.netlist_table.proofs.Stores.{sets-step}
-use borrow.Author.Needs.{needs}
 use Rattle.netlist_admission.proofs.kinds.stores.put_pins.Statement.{statement}
 use Rattle.netlist_admission.proofs.kinds.stores.put_pins.Tie as tie
 

@@ -1,13 +1,9 @@
 -- `store_gate` stores a gate behind those before it. Assumes nothing.
-use mathlib.Core.List.{List}
-use mathlib.Core.Path.{_≡_}
-use Prim.Native.Nat.{ℕ, min}
-use lib.ListN.{set, take}
+use Rattle.common_laws.proofs.Base.{List, _≡_, ℕ, min, set, take, needs}
 use Rattle.sizes.specs.Places.{driverPlace, mentionPlace}
 use Rattle.sizes.specs.Sizes as Size
 use Rattle.netlist_table.specs.declared.RawStatement.{RawStatement}
 use Rattle.netlist_table.specs.Admission.{mentionAll, gateStored, oneMore, gateAdded}
-use borrow.Author.Needs.{needs}
 use Rattle.netlist_admission.proofs.kinds.stores.store_gate.Statement.{statement}
 use Rattle.netlist_admission.proofs.kinds.stores.store_gate.Tie as tie
 

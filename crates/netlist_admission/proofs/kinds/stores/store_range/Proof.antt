@@ -1,14 +1,10 @@
 -- `store_range` stores a range's number, and marks its line and the table. Assumes nothing.
-use mathlib.Core.List.{List}
-use mathlib.Core.Path.{_≡_}
-use Prim.Native.Nat.{ℕ, _+_, _*_}
-use lib.ListN.{set}
+use Rattle.common_laws.proofs.Base.{List, _≡_, ℕ, _+_, _*_, set, needs}
 use Rattle.sizes.specs.Places.{mentionPlace, rangePlace, rangedPlace}
 use Rattle.sizes.specs.Sizes as Size
 use Rattle.netlist_table.specs.Netlist.{Range}
 use Rattle.netlist_table.specs.Layout.{packed}
 use Rattle.netlist_table.specs.Admission.{mentionAll, rangeStored}
-use borrow.Author.Needs.{needs}
 use Rattle.netlist_admission.proofs.kinds.stores.store_range.Statement.{statement}
 use Rattle.netlist_admission.proofs.kinds.stores.store_range.Tie as tie
 

@@ -1,8 +1,5 @@
 -- `cell_of` reads the first number of the gate. Assumes nothing.
-use mathlib.Core.Path.{ap}
-use Prim.Native.Nat.{ℕ}
-use lib.ListN.{getD}
-use borrow.Author.Needs.{needs}
+use Rattle.common_laws.proofs.Base.{ap, ℕ, getD, needs}
 use Rattle.netlist_table.proofs.gates.unchecked.cell_of.Statement.{statement}
 use Rattle.netlist_table.proofs.gates.unchecked.cell_of.Tie as tie
 

@@ -1,10 +1,5 @@
 -- `lines_of` copies one line more of the gate with each turn. Assumes nothing.
-use mathlib.Core.List.{List, _++_, append-nil}
-use mathlib.Core.Path.{_≡_, refl, sym, _∙_, ap}
-use Prim.Native.Nat.{ℕ, _+_, _-_, _≤_, _<_}
-use native.Mathlib.Omega.{arith}
-use lib.ListN.{length, getD, set, take, drop, replicate, length-drop}
-use lib.Seq.{getD-drop}
+use Rattle.common_laws.proofs.Base.{List, _++_, append-nil, _≡_, refl, sym, _∙_, ap, ℕ, _+_, _-_, _≤_, _<_, arith, length, getD, set, take, drop, replicate, length-drop, getD-drop}
 use Rattle.sizes.specs.Sizes as Size
 use Rattle.sizes.specs.Places.{gatePlace}
 use Rattle.netlist_table.specs.Gates.{gateLines}

@@ -1,8 +1,5 @@
 -- `pass_row` meets its contract. Assumes nothing.
-use mathlib.Core.Bool.{not}
-use mathlib.Core.Path.{_≡_, refl, sym, _∙_}
-use borrow.Author.Needs.{needs}
-use borrow.Author.Tests.{not-true, not-false}
+use Rattle.common_laws.proofs.Base.{not, _≡_, refl, sym, _∙_, needs, not-true, not-false}
 use Rattle.reading.specs.Choice.{pick}
 use Rattle.writer.proofs.Steps.{put-none}
 use Rattle.truth_rows.specs.Asked.{askedNumber}

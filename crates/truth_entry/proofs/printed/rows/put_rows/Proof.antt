@@ -1,8 +1,5 @@
 -- `put_rows` goes over the rows from the highest down. Assumes nothing.
-use mathlib.Core.Path.{_≡_, refl, _∙_}
-use native.Mathlib.Omega.{arith}
-use lib.ListN.{length}
-use borrow.Author.Needs.{needs}
+use Rattle.common_laws.proofs.Base.{_≡_, refl, _∙_, arith, length, needs}
 use Rattle.text.specs.Bytes.{bytes}
 use Rattle.truth_entry.proofs.GroupRows.{Progress, progress-none, progress-more, progress-all, progress-empty}
 use Rattle.truth_entry.proofs.printed.rows.put_rows.Statement.{statement}
