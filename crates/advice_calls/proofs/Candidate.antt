@@ -1,5 +1,4 @@
 -- One line more, by whether it may be padded.
--- Assumes nothing.
 use Rattle.common_laws.proofs.Base.{Bool, true, false, List, _≡_, sym, _∙_, ap, ℕ, _+_, _*_, _-_, add-one, length, sets}
 use Rattle.sizes.specs.Sizes as Size
 use Rattle.reading.specs.Choice.{pick}

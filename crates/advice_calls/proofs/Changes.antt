@@ -1,6 +1,5 @@
 -- What a pad on trial changed: CO alone, of lines that are reached from the pad's through lines that changed. So a walk back from
 -- it finds all.
--- Assumes nothing.
 use Rattle.common_laws.proofs.Base.{true, false, List, List·Memᴰ, _⊎_, inl, inr, _≡_, refl, sym, _∙_, ap, subst, ℕ, suc, _+_, _*_, _-_, _/_, _%_, _≤_, _<_, ℕ-discrete, decLt}
 use Rattle.common_laws.proofs.Base.{arith, eqb-true, eqb, length, getD, set, length-set, List·getD-eq-default, getD-set-other}
 use Rattle.sizes.specs.Sizes as Size

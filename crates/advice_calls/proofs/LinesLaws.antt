@@ -1,5 +1,4 @@
 -- The lines from the highest down, and which of them may be padded.
--- Assumes nothing.
 use Rattle.common_laws.proofs.Base.{Bool, true, false, not, _&&_, _||_, List, [], _∷_, _≡_, refl, sym, _∙_, ap, ℕ, zero, suc, _-_, _≤_, _<_, ℕ-discrete, arith, eq-eqb, ne-eqb, eqb}
 use Rattle.common_laws.proofs.Base.{length, getD, drop, set, replicate, length-replicate, length-set, getD-replicate, drop-cons, drop-length, getD-set-same, getD-set-other}
 use Rattle.sizes.specs.Sizes as Size

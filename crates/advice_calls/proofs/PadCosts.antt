@@ -1,5 +1,4 @@
 -- What a pad leaves: the costs of the mentioned lines, one after the other, and the trial that comes to them.
--- Assumes nothing.
 use Rattle.common_laws.proofs.Base.{Bool, true, false, List, [], _∷_, _++_, map, append-nil, _≡_, refl, sym, _∙_, ap, ap₂, ℕ, zero, suc, _+_, _*_, _-_, _≤_, _<_, max, le-of-eq}
 use Rattle.common_laws.proofs.Base.{add-one, arith, le-leb, lt-leb, eq-eqb, ne-eqb, leb, length, getD, drop, length-map, length-set, drop-of-length-le}
 use Rattle.sizes.specs.Sizes as Size

@@ -1,5 +1,4 @@
 -- From the parts of the two calls to their promises.
--- Assumes nothing.
 use Rattle.common_laws.proofs.Base.{true, false, List, [], _∷_, _++_, _≡_, refl, sym, _∙_, ap, subst, ℕ, _+_, _*_, _-_, _≤_, _<_, arith, length, getD, set, drop, getD-set-same}
 use Rattle.common_laws.proofs.Base.{getD-set-other}
 use Rattle.sizes.specs.Sizes as Size

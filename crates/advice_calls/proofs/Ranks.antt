@@ -1,5 +1,4 @@
 -- The table of ranks, from the highest line down.
--- Assumes nothing.
 use Rattle.common_laws.proofs.Base.{List, [], _∷_, _++_, append-assoc, _≡_, refl, sym, _∙_, ap, ℕ, zero, suc, _+_, _*_, _-_, _≤_, _<_, arith, length, getD, take, drop, set}
 use Rattle.common_laws.proofs.Base.{length-append, List·getD-append, sets, sets-eq, take-take, drop-at, length-take-le, getD-append-add, getD-drop}
 use lib.Seq.{take-append-le}

@@ -1,5 +1,4 @@
 -- What the adviser's two calls answer, and what they leave in the answer that they are lent. Document 02, K13.
--- Assumes nothing.
 use mathlib.Core.List.{List, _++_}
 use Prim.Native.Nat.{ℕ}
 use lib.ListN.{length, set, drop}

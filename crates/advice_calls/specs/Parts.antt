@@ -1,5 +1,4 @@
 -- What the parts of an advice and of ranks ask and leave.
--- Assumes nothing.
 use mathlib.Core.Bool.{Bool, false, not, _&&_, _||_}
 use mathlib.Core.List.{List, _++_}
 use mathlib.Core.Path.{_≡_}

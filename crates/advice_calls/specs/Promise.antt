@@ -1,6 +1,5 @@
 -- What the adviser's two calls promise. Document 02, K13: `g` is what a call was given to read, `said` what it answered. By
 -- equation of every answer that is lent (`adviceCall`, `rankCall`), and what that says of an accepted pair of texts.
--- Assumes nothing.
 use mathlib.Core.Bool.{true, false}
 use mathlib.Core.List.{List}
 use mathlib.Core.Logic.{_↔_}

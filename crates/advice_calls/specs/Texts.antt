@@ -1,5 +1,4 @@
 -- What reading both texts comes to, for a call that lends an answer.
--- Assumes nothing.
 use mathlib.Core.List.{List}
 use Prim.Native.Nat.{ℕ}
 use Rattle.reading.specs.Refusal.{Read}

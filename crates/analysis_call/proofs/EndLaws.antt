@@ -1,5 +1,4 @@
 -- The end of a call, from what `conclude` and `clear_all` do.
--- Assumes nothing.
 use Rattle.common_laws.proofs.Base.{List, _++_, _≡_, refl, sym, _∙_, ℕ, length, drop, replicate}
 use Rattle.reading.specs.Numbers as No
 use Rattle.reading.specs.Refusal.{Read, refused, read}

@@ -1,6 +1,5 @@
 -- What is printed of two texts, from the answer of the analysis on tables of the published sizes and a buffer of 65,536 bytes:
 -- 1 cannot arise there, and 17 goes by that buffer.
--- Assumes nothing.
 use Rattle.common_laws.proofs.Base.{_||_, List, [], _∷_, _++_, _≡_, refl, sym, ap, _∙_, ℕ, _+_, _≤_, arith, ltb, length, drop, take-append-seam}
 use Rattle.sizes.specs.Sizes as Size
 use Rattle.reading.specs.Choice.{pick}

@@ -1,5 +1,4 @@
 -- From where reading left a call, and its end, to its promise.
--- Assumes nothing.
 use Rattle.common_laws.proofs.Base.{List, _++_, _≡_, refl, sym, ap, _∙_, ℕ, ltb, length, drop}
 use Rattle.sizes.specs.Sizes as Size
 use Rattle.reading.specs.Choice.{pick}

@@ -1,5 +1,4 @@
 -- The report that the code writes from the tables is that of the definitions.
--- Assumes nothing.
 use Rattle.common_laws.proofs.Base.{Bool, true, false, List, [], _++_, _≡_, refl, sym, ap, _∙_, ℕ, _+_, _≤_, ltb, length, drop, List·getD-append}
 use Rattle.sizes.specs.Sizes as Size
 use Rattle.reading.specs.Choice.{pick}

@@ -1,5 +1,4 @@
 -- What the end of a call does: the numbers and the report of what was read, 17, and clearing.
--- Assumes nothing.
 use mathlib.Core.List.{List, _++_}
 use mathlib.Core.Path.{_≡_}
 use Prim.Native.Nat.{ℕ}

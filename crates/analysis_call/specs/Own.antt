@@ -1,5 +1,4 @@
 -- What an analysis on tables of the caller's own answers, and leaves in the report buffer. Of the tables it says nothing.
--- Assumes nothing.
 use mathlib.Core.List.{List}
 use mathlib.Core.Path.{_≡_}
 use Prim.Native.Nat.{ℕ}

@@ -1,5 +1,4 @@
 -- What `put_analysis` does: it puts what `scoap` prints (demands/specs/Printed.antt) into a buffer.
--- Assumes nothing.
 use mathlib.Core.List.{List}
 use mathlib.Core.Path.{_≡_}
 use Prim.Native.Nat.{ℕ}

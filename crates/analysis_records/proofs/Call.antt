@@ -1,5 +1,4 @@
 -- The call over records: what comes before the walk, the walk, and the end make the promise.
--- Assumes nothing.
 use Rattle.common_laws.proofs.Base.{Bool, or-false, _&&_, List, [], _∷_, _≡_, refl, sym, ap, subst, _∙_, ℕ, _+_, _≤_, arith, ltb, length, drop}
 use Rattle.sizes.specs.Sizes as Size
 use Rattle.table.specs.Blocks.{cleared}

@@ -1,5 +1,4 @@
 -- What the proofs of this crate and of its callers cite of the definitions.
--- Assumes nothing.
 use Rattle.common_laws.proofs.Base.{true, false, List, [], _∷_, _++_, append-nil, append-assoc, flatMap, none, _≡_, refl, sym, ap, _∙_, ℕ, suc, _+_, arith, eqb, length}
 use Rattle.common_laws.proofs.Base.{length-append, eqb-true, eqb-false}
 use Rattle.reading.specs.Choice.{pick}

@@ -1,5 +1,4 @@
 -- What the proofs of this crate cite of the definitions.
--- Assumes nothing.
 use Rattle.common_laws.proofs.Base.{Bool, true, false, _&&_, List, [], _∷_, _++_, inl, Option, _≡_, refl, sym, ap, _∙_, ℕ, _+_, _≤_, _<_, add-one, arith, eqb, ltb, length, getD}
 use Rattle.common_laws.proofs.Base.{drop, drop-of-length-le, drop-cons, ne-eqb, le-ltb, eqb-true, eqb-false}
 use Rattle.sizes.specs.Sizes as Size

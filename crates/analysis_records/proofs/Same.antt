@@ -1,6 +1,5 @@
 -- The two callers tied: where the records say the same as a netlist text, statement by statement, the call over records and
 -- the call over texts answer and leave the same.
--- Assumes nothing.
 use Rattle.common_laws.proofs.Base.{Bool, or-false, List, [], _∷_, Option, _≡_, refl, sym, ap, _∙_, ℕ, _≤_, ltb, length, le-ltb}
 use Rattle.sizes.specs.Sizes as Size
 use Rattle.reading.specs.Numbers as No

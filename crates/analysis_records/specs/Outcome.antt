@@ -1,5 +1,4 @@
 -- What a caller that lends records gives to be read, and what comes before the walk over them.
--- Assumes nothing.
 use mathlib.Core.List.{List}
 use mathlib.Core.Path.{_≡_}
 use Prim.Native.Nat.{ℕ, _≤_}

@@ -1,6 +1,5 @@
 -- The netlist as a list of records. Document 01, "Callers": "kind (0 input, 1 output, 2 gate), cell index (from 0 in library
 -- order), line, eight pins, 0 after the last." Document 02, K5: "In record lists, kind 3 is open."
--- Assumes nothing.
 use mathlib.Core.Bool.{Bool, true, _&&_}
 use mathlib.Core.List.{List, [], _∷_}
 use mathlib.Core.Option.{Option, none, some}

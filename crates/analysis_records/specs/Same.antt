@@ -1,5 +1,4 @@
 -- The two callers tied. Document 01, "Callers": "Records follow the same checks".
--- Assumes nothing.
 use mathlib.Core.List.{List}
 use mathlib.Core.Path.{_≡_}
 use Prim.Native.Nat.{ℕ, _≤_}

@@ -1,5 +1,4 @@
 -- One record of a list, checked after the statements that the netlist table holds.
--- Assumes nothing.
 use mathlib.Core.List.{List, _++_}
 use mathlib.Core.Path.{_≡_}
 use Prim.Native.Nat.{ℕ}

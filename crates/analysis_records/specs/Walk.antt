@@ -1,5 +1,4 @@
 -- The walk over a list of records: what holds once some of them are done.
--- Assumes nothing.
 use mathlib.Core.List.{List, [], _++_}
 use mathlib.Core.Path.{_≡_}
 use Prim.Native.Nat.{ℕ, _+_}

@@ -1,5 +1,4 @@
 -- A call over two texts that is lent one answer, from where reading left it: its promise, refused or accepted.
--- Assumes nothing.
 use Rattle.common_laws.proofs.Base.{_||_, List, [], _∷_, _≡_, refl, sym, ap, subst, _∙_, ℕ, _≤_, _<_, length, replicate}
 use Rattle.sizes.specs.Sizes as Size
 use Rattle.reading.specs.Numbers as No

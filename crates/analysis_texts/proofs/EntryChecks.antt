@@ -1,5 +1,4 @@
 -- What `begin` does: the entry, and the library text behind it.
--- Assumes nothing.
 use Rattle.common_laws.proofs.Base.{List, _++_, _≡_, sym, ℕ, length, drop}
 use Rattle.sizes.specs.Sizes as Size
 use Rattle.reading.specs.Refusal.{refused, read}

@@ -1,5 +1,4 @@
 -- Reading the netlist text, from what the reader of crate `netlist_text` says of it.
--- Assumes nothing.
 use Rattle.common_laws.proofs.Base.{List, _++_, _≡_, refl, ap, _∙_, ℕ, drop}
 use Rattle.sizes.specs.Sizes as Size
 use Rattle.reading.specs.Verdict.{verdictRead}

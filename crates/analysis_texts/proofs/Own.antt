@@ -1,5 +1,4 @@
 -- A call's own tables are zero before they are read into.
--- Assumes nothing.
 use Rattle.common_laws.proofs.Base.{List, _≡_, sym, subst, ℕ, replicate, length-replicate}
 use Rattle.table.specs.Blocks.{cleared}
 use Rattle.table.proofs.Places.{cleared-all}

@@ -1,5 +1,4 @@
 -- Where a call stands behind its entry, the library and the netlist, however the netlist was given.
--- Assumes nothing.
 use Rattle.common_laws.proofs.Base.{List, _++_, _≡_, refl, sym, ap, subst, _∙_, ℕ, _≤_, arith, length, drop, replicate}
 use Rattle.sizes.specs.Sizes as Size
 use Rattle.reading.specs.Refusal.{Read, refused, read, _>>=_}

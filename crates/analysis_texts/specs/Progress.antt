@@ -1,5 +1,4 @@
 -- How far a call has come: the entry and the library, the netlist.
--- Assumes nothing.
 use mathlib.Core.List.{List, _++_}
 use mathlib.Core.Path.{_≡_}
 use Prim.Native.Nat.{ℕ, _≤_}

@@ -1,5 +1,4 @@
 -- Whose the library and the netlist table of a call are.
--- Assumes nothing.
 use mathlib.Core.List.{List}
 use mathlib.Core.Path.{_≡_}
 use Prim.Native.Nat.{ℕ}

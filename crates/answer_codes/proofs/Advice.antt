@@ -1,5 +1,4 @@
 -- The numbers of the calls for C of the pad adviser, from the answers of the calls in Rattle.
--- Assumes nothing.
 use Rattle.common_laws.proofs.Base.{List, _↔_, _≡_, refl, sym, ap, subst, _∙_, ℕ, _≤_, arith, leb-true}
 use Rattle.sizes.specs.Sizes as Size
 use Rattle.reading.specs.Refusal.{Read, refused, read, _>>=_}

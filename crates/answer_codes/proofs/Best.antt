@@ -1,5 +1,4 @@
 -- The number of `scoap_best`, from the answer of `best_within`.
--- Assumes nothing.
 use Rattle.common_laws.proofs.Base.{List, _≡_, sym, _∙_, ℕ, arith}
 use Rattle.sizes.specs.Sizes as Size
 use Rattle.reading.specs.Numbers as No

@@ -1,5 +1,4 @@
 -- The number of a call, from what the call keeps.
--- Assumes nothing.
 use Rattle.common_laws.proofs.Base.{_≡_, ℕ}
 use Rattle.reading.specs.Refusal.{Read, refused}
 use Rattle.demands.specs.Call.{Call, Kept}

@@ -1,5 +1,4 @@
 -- The numbers that the generator's and the built-in library's calls for C answer.
--- Assumes nothing.
 use Rattle.common_laws.proofs.Base.{List, _≡_, sym, ap, _∙_, ℕ, _≤_, _<_, arith, le-leb, ltb-true, ltb-false, ltb, length}
 use Rattle.reading.specs.Numbers as No
 use Rattle.reading.specs.Refusal.{Read, refused, read}

@@ -1,5 +1,4 @@
 -- The number of the call for C that changes a library, from the answer of the call in Rattle.
--- Assumes nothing.
 use Rattle.common_laws.proofs.Base.{Bool, true, false, List, _≡_, ap, ℕ, _≤_, arith}
 use Rattle.reading.specs.Choice.{pick}
 use Rattle.reading.proofs.Bounds.{Within, anyNumber}

@@ -1,6 +1,5 @@
 -- The laws of the one number, for every call alike: from what a call comes to and what its code answered to what the number
 -- tells, and back from the number to the refusal.
--- Assumes nothing.
 use Rattle.common_laws.proofs.Base.{true, true≢false, _≡_, refl, sym, ap, _∙_, ℕ, zero, suc, _/_, _%_, _≤_, _<_, arith, leb-true, le-leb}
 use Rattle.reading.specs.Numbers as No
 use Rattle.reading.specs.Refusal.{Read, refused, read, _>>=_}

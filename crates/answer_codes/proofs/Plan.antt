@@ -1,5 +1,4 @@
 -- The number of a plan's call for C, from the answer of `write_plan`.
--- Assumes nothing.
 use Rattle.common_laws.proofs.Base.{false, true≢false, List, _⊎_, inl, inr, _≡_, refl, sym, ap, subst, _∙_, ℕ, _/_, _≤_, _<_, arith, leb, length, replicate, le-leb, lt-leb}
 use Rattle.common_laws.proofs.Base.{leb-true, leb-false}
 use Rattle.reading.specs.Choice.{pick}

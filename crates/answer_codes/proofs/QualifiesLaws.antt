@@ -1,5 +1,4 @@
 -- The number of `scoap_qualifies`, from where reading the two texts left it.
--- Assumes nothing.
 use Rattle.common_laws.proofs.Base.{true≢false, _&&_, List, [], _++_, append-nil, _≡_, refl, sym, ap, subst, _∙_, ℕ, _≤_, _<_, arith, length, drop, replicate, length-replicate}
 use Rattle.common_laws.proofs.Base.{drop-length}
 use Rattle.sizes.specs.Sizes as Size

@@ -1,5 +1,4 @@
 -- The C entry's number, from the answer of the analysis.
--- Assumes nothing.
 use Rattle.common_laws.proofs.Base.{true≢false, List, _≡_, refl, sym, ap, _∙_, ℕ, _/_, _≤_, _<_, arith, length}
 use Rattle.reading.specs.Numbers as No
 use Rattle.reading.specs.Refusal.{Read, refused, read}

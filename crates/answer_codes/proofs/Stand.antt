@@ -1,5 +1,4 @@
 -- The numbers of the calls for C of a standing analysis, from the answers of the calls in Rattle.
--- Assumes nothing.
 use Rattle.common_laws.proofs.Base.{_||_, List, _≡_, sym, _∙_, ℕ, arith}
 use Rattle.reading.proofs.Bounds.{Within, anyNumber}
 use Rattle.calculation.specs.Pads.{ask, commit}

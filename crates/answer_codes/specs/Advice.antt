@@ -1,5 +1,4 @@
 -- What the calls for C of the pad adviser answer and leave. Document 02, K13.
--- Assumes nothing.
 use mathlib.Core.List.{List}
 use mathlib.Core.Logic.{_↔_}
 use mathlib.Core.Path.{_≡_}

@@ -1,5 +1,4 @@
 -- What every call for C over texts keeps, by its one number. Document 01, "Callers".
--- Assumes nothing.
 use mathlib.Core.Bool.{true, false}
 use mathlib.Core.Path.{_≡_}
 use Prim.Native.Nat.{ℕ, _/_, _≤_}

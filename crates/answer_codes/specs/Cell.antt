@@ -1,5 +1,4 @@
 -- What the call for C of the generator answers and leaves. Document 02, K6.
--- Assumes nothing.
 use mathlib.Core.List.{List}
 use mathlib.Core.Path.{_≡_}
 use Prim.Native.Nat.{ℕ, _/_, _<_}

@@ -1,5 +1,4 @@
 -- What the call for C that changes the library of a standing analysis answers and leaves. Document 02, K14.
--- Assumes nothing.
 use mathlib.Core.Bool.{Bool}
 use mathlib.Core.List.{List}
 use mathlib.Core.Path.{_≡_}

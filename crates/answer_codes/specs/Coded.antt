@@ -1,5 +1,4 @@
 -- What the call for C that reports answers and leaves.
--- Assumes nothing.
 use mathlib.Core.Bool.{true, false}
 use mathlib.Core.List.{List, _++_}
 use mathlib.Core.Path.{_≡_}

@@ -1,5 +1,4 @@
 -- The one number that every call for C answers, and what it tells. Document 01, "Callers".
--- Assumes nothing.
 use mathlib.Core.Bool.{Bool, true}
 use mathlib.Core.List.{List}
 use mathlib.Core.Logic.{_↔_}

@@ -1,5 +1,4 @@
 -- What the call for C that writes a plan answers and leaves. Document 02, K3.
--- Assumes nothing.
 use mathlib.Core.List.{List}
 use mathlib.Core.Logic.{_⊎_}
 use mathlib.Core.Path.{_≡_}

@@ -1,5 +1,4 @@
 -- What the call for C answers that tells of which netlists document 02, K8, speaks.
--- Assumes nothing.
 use mathlib.Core.List.{List, []}
 use mathlib.Core.Logic.{_↔_}
 use mathlib.Core.Path.{_≡_}

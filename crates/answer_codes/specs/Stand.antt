@@ -1,5 +1,4 @@
 -- What the calls for C of a standing analysis answer and leave. Document 02, K11.
--- Assumes nothing.
 use mathlib.Core.Bool.{_||_}
 use mathlib.Core.List.{List}
 use mathlib.Core.Path.{_≡_}

@@ -1,5 +1,4 @@
 -- From the parts of the call to its promise.
--- Assumes nothing.
 use Rattle.common_laws.proofs.Base.{List, _++_, _≡_, refl, ℕ, _≤_, _<_, length, drop, replicate}
 use Rattle.sizes.specs.Sizes as Size
 use Rattle.reading.specs.Numbers as No

@@ -1,5 +1,4 @@
 -- The words of all values, one value after the other.
--- Assumes nothing.
 use Rattle.common_laws.proofs.Base.{Bool, true, false, List, _++_, _≡_, refl, sym, ap, _∙_, ℕ, _+_, _-_, _/_, _%_, _≤_, _<_, ℕ-discrete, decLe, arith, lt-ltb, le-ltb, ltb, length}
 use Rattle.common_laws.proofs.Base.{getD, set, drop, length-set, length-append, length-drop, ext-getD, getD-set-same, getD-set-other, getD-drop, getD-append-add}
 use Rattle.sizes.specs.Sizes as Size

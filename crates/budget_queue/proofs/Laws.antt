@@ -1,5 +1,4 @@
 -- The tree of a queue: what a store leaves of it, and what its root tells.
--- Assumes nothing.
 use Rattle.common_laws.proofs.Base.{List, _≡_, refl, _∙_, ap, ℕ, zero, suc, _+_, _*_, _-_, _/_, _%_, _≤_, _<_, min, ℕ-discrete, decLe, le-refl, le-trans, le-of-eq, arith, length}
 use Rattle.common_laws.proofs.Base.{getD, set, replicate, length-replicate, getD-replicate, getD-set-same, getD-set-other}
 use Rattle.sizes.specs.Sizes as Size

@@ -1,7 +1,6 @@
 -- A queue of costs: a tree in an array, where each inner place has the lower key of the two below it, places 2i and 2i + 1. The
 -- leaves stand behind the inner places, and every place but the first comes to place 1 by halving. A key is a cost and the leaf
 -- that it stands at, so that the lowest key tells the cheapest leaf, and of equal ones the first.
--- Assumes nothing.
 use mathlib.Core.List.{List}
 use mathlib.Core.Path.{_≡_}
 use Prim.Native.Nat.{ℕ, _+_, _*_, _/_, _%_, _≤_, _<_, min}

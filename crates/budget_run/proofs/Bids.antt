@@ -1,6 +1,5 @@
 -- The bids of a netlist's values, out of the tables: those of gates are their least row sums, and a number that is stored
 -- changes none but those of the gates that read its line.
--- Assumes nothing.
 use Rattle.common_laws.proofs.Base.{Bool, List, _∷_, _++_, List·Memᴰ, List·Memᴰ·head, List·Memᴰ·tail, _⊎_, inl, inr, _≡_, refl, sym, ap, _∙_, subst, ℕ, zero, suc, _+_, _-_, _/_}
 use Rattle.common_laws.proofs.Base.{_%_, _≤_, _<_, ℕ-discrete, decLe, arith, lt-ltb, length, getD, set}
 use Rattle.sizes.specs.Sizes as Size

@@ -1,5 +1,4 @@
 -- The offer of a gate out of the tables, from what the parts of `offer_of` read.
--- Assumes nothing.
 use Rattle.common_laws.proofs.Base.{Bool, true, List, _⊎_, inl, inr, _≡_, refl, sym, ap, ap₂, subst, _∙_, ℕ, zero, suc, _+_, _*_, _-_, _%_, _≤_, _<_, ℕ-discrete, le-refl, arith}
 use Rattle.common_laws.proofs.Base.{lt-ltb, le-ltb, length, getD}
 use Rattle.sizes.specs.Sizes as Size

@@ -1,5 +1,4 @@
 -- The start of a run, and its steps one after the other.
--- Assumes nothing.
 use Rattle.common_laws.proofs.Base.{false, List, _⊎_, inl, inr, _≡_, refl, sym, ap, _∙_, subst, ℕ, suc, _+_, _/_, _%_, _≤_, _<_, ℕ-discrete, decLt, add-one, arith, length, getD}
 use Rattle.common_laws.proofs.Base.{replicate, length-replicate, List·getD-eq-default}
 use Rattle.sizes.specs.Sizes as Size

@@ -1,5 +1,4 @@
 -- One step: what the front of the queue, the store, the readers and the fresh offers come to.
--- Assumes nothing.
 use Rattle.common_laws.proofs.Base.{List, _≡_, refl, ap, _∙_, ℕ, suc, _+_, _/_, _≤_, _<_, arith, length, set, length-set}
 use Rattle.sizes.specs.Sizes as Size
 use Rattle.sizes.specs.Places.{leafPlace}

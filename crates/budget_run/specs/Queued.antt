@@ -1,5 +1,4 @@
 -- A queue that has the bids of a netlist's values, what a step leaves of it, and what a run does.
--- Assumes nothing.
 use mathlib.Core.List.{List}
 use mathlib.Core.Path.{_≡_}
 use Prim.Native.Nat.{ℕ, suc, _≤_, _<_}

@@ -1,5 +1,4 @@
 -- What the steps of a budgeted run ask and leave, over the tables. The values of lines are the leaves of a queue, 0 before 1.
--- Assumes nothing.
 use mathlib.Core.List.{List}
 use mathlib.Core.Logic.{_⊎_}
 use mathlib.Core.Path.{_≡_}

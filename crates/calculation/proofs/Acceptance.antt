@@ -1,5 +1,4 @@
 -- What acceptance gives of each gate, line and row: the readers' facts by membership.
--- Assumes nothing.
 use Rattle.common_laws.proofs.Base.{true, List, [], _∷_, List·Memᴰ, List·Memᴰ·not-nil, _≡_, refl, ℕ, zero, suc, _-_, _≤_, _<_, arith, length, getD}
 use Rattle.reading.proofs.Laws.{each-at, each-member}
 use Rattle.cost.specs.Cost.{most}

@@ -1,5 +1,4 @@
 -- The adviser's answer is what document 02, K13, asks for.
--- Assumes nothing.
 use Rattle.common_laws.proofs.Base.{Bool, true, false, not, List, [], _∷_, map, List·Memᴰ, List·Memᴰ·head, List·Memᴰ·tail, List·Memᴰ·not-nil, _≡_, refl, sym, _∙_, ap, fun-ext, ℕ}
 use Rattle.common_laws.proofs.Base.{zero, suc, _+_, _≤_, _<_, ℕ-discrete, le-trans, le-of-eq, arith, leb-true, leb-false, not-true, leb}
 use Rattle.sizes.specs.Sizes as Size

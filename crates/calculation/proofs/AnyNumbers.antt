@@ -1,6 +1,5 @@
 -- The runs from any numbers that are costs: by keeping the lesser they settle, all four to `lesserRuns`, those of CO and SO to
 -- `lastRuns`.
--- Assumes nothing.
 use Rattle.common_laws.proofs.Base.{List, map, Memᴰ·map, _≡_, refl, _∙_, ap, ℕ, _+_, _*_, arith, le-trans, le-of-eq, length, getD, length-map}
 use Rattle.sizes.specs.Sizes as Size
 use Rattle.plans.specs.System.{Visit}

@@ -1,6 +1,5 @@
 -- The calculation at whatever prices within the ranges. A plan is one at any prices, and where no input costs more neither
 -- does the plan; the runs of SC and SO look at no number that has to do with prices.
--- Assumes nothing.
 use Rattle.common_laws.proofs.Base.{true, List, List·Memᴰ, _≡_, refl, sym, _∙_, ℕ, _≤_, le-refl, le-antisymm, arith}
 use Rattle.sizes.specs.Sizes as Size
 use Rattle.plans.specs.System.{Visit}

@@ -1,5 +1,4 @@
 -- What acceptance gives the visits: the conditions that crate `plans` asks of them, and so the bounds on sweeps.
--- Assumes nothing.
 use Rattle.common_laws.proofs.Base.{false, List, [], _∷_, map, List·Memᴰ, List·Memᴰ·head, List·Memᴰ·tail, List·Memᴰ·append-cases, Memᴰ·append-left, Memᴰ·append-right, Memᴰ·map}
 use Rattle.common_laws.proofs.Base.{_⊎_, inl, inr, ⊎-elim, _≡_, refl, sym, _∙_, ap, ℕ, _+_, _*_, _%_, _≤_, _<_, le-trans, le-of-eq, arith, length, length-map}
 use Rattle.sizes.specs.Sizes as Size

@@ -1,5 +1,4 @@
 -- Document 02, K12: what a run within a budget is worth, from the theorems of crate `plans`.
--- Assumes nothing.
 use Rattle.common_laws.proofs.Base.{List, [], _∷_, _++_, append-nil, List·Memᴰ, List·Memᴰ·head, List·Memᴰ·tail, _⊎_, inl, inr, _≡_, refl, sym, _∙_, ap, ap₂, subst, ℕ, zero, suc}
 use Rattle.common_laws.proofs.Base.{_+_, _*_, _-_, _/_, _%_, _≤_, _<_, ℕ-discrete, decLt, arith, lt-ltb, le-ltb, ltb, length, getD, drop}
 use Rattle.sizes.specs.Sizes as Size

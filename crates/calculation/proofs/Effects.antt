@@ -1,6 +1,5 @@
 -- A pad, and its line as the only output: what falls with the pad, and what falls at no prices within the ranges. No code cites
 -- this page yet: request E3 is to (D198).
--- Assumes nothing.
 use Rattle.common_laws.proofs.Base.{Bool, true, false, _||_, or-false, or-true, List, [], _∷_, _++_, flatMap, _⊎_, inl, inr, ⊎-elim, _≡_, refl, sym, _∙_, ap, subst, ℕ, _≤_, _<_}
 use Rattle.common_laws.proofs.Base.{min, le-refl, le-antisymm, le-of-eq, arith, eqb, ltb, lt-ltb, le-ltb, ltb-true, ltb-false}
 use Rattle.reading.specs.Choice.{pick}

@@ -1,5 +1,4 @@
 -- Demand 3 for every number of an analysis: each is what document 01's plans make it.
--- Assumes nothing.
 use Rattle.common_laws.proofs.Base.{false, true, true≢false, List, List·Memᴰ·head, List·Memᴰ·tail, _≡_, refl, sym, _∙_, ℕ, _-_, _≤_, _<_, decLt, arith, length, getD}
 use Rattle.common_laws.proofs.Base.{List·getD-eq-default}
 use Rattle.cost.specs.Cost.{never}

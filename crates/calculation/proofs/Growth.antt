@@ -1,6 +1,5 @@
 -- A library that differs from another only by rows added to groups: to a netlist its entries are the same, and at each gate
 -- rows were added, so that what proofs/Rows.antt says holds of it. Document 02, K14.
--- Assumes nothing.
 use Rattle.common_laws.proofs.Base.{Bool, true, false, not, _&&_, _||_, List, [], _∷_, _++_, List·Memᴰ, List·Memᴰ·head, List·Memᴰ·tail, List·Memᴰ·not-nil, _⊎_, inl, inr, ⊎-elim}
 use Rattle.common_laws.proofs.Base.{_≡_, refl, sym, _∙_, ap, ℕ, zero, suc, _<_, arith, eqb-true, eq-eqb, not-false, eqb, length, getD}
 use Rattle.reading.specs.Choice.{pick}

@@ -1,5 +1,4 @@
 -- The laws of an analysis that others cite: what `analysed` promises of accepted cells and statements.
--- Assumes nothing.
 pub use Rattle.calculation.proofs.Sweeps.{
   alters-lower,
   unaltered,

@@ -1,6 +1,5 @@
 -- Which gates need a number that a visit renews: where lines are set, those that read the number's line; where they are
 -- observed, the one that drives it.
--- Assumes nothing.
 use Rattle.common_laws.proofs.Base.{List, List·Memᴰ, Memᴰ·of-map, _≡_, sym, ap, ℕ, _≤_}
 use Rattle.plans.specs.System.{Way}
 use Rattle.plans.specs.Idle.{Needs}

@@ -1,5 +1,5 @@
 -- Another library under a standing analysis: whatever asks, commits and changes of library leave is a standing analysis.
--- Document 02, K14. Assumes nothing.
+-- Document 02, K14.
 use Rattle.common_laws.proofs.Base.{true, List, [], _∷_, _++_, _≡_, refl, sym, _∙_, ap, ℕ, zero, suc, _<_, le-of-eq, le-trans, le-antisymm, arith, length, getD}
 use Rattle.sizes.specs.Sizes as Size
 use Rattle.reading.specs.Choice.{pick}

@@ -1,6 +1,5 @@
 -- Outputs added to a netlist: CC, SC and their counts are what they were, CO and SO run again come to the new analysis, and no
 -- number is higher.
--- Assumes nothing.
 use Rattle.common_laws.proofs.Base.{Bool, true, false, List, [], _∷_, _≡_, refl, sym, _∙_, ap, subst, ℕ, zero, suc, _+_, _%_, _≤_, _<_, ℕ-discrete, decLt, le-refl, le-of-eq, arith}
 use Rattle.common_laws.proofs.Base.{lt-ltb, le-ltb, length, set, length-set}
 use Rattle.sizes.specs.Sizes as Size

@@ -1,5 +1,5 @@
 -- One pad more: CC, SC and their counts are what they were, CO and SO run again come to the new analysis, and none is higher.
--- Document 02, K11. Assumes nothing.
+-- Document 02, K11.
 use Rattle.common_laws.proofs.Base.{true, false, not, _&&_, _||_, and-assoc, List, [], _∷_, _++_, map, map-append, append-nil, append-assoc, _≡_, sym, _∙_, ap, subst, ℕ, _≤_}
 use Rattle.common_laws.proofs.Base.{arith, not-true, not-false}
 use Rattle.reading.specs.Choice.{pick}

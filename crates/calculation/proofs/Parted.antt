@@ -1,6 +1,5 @@
 -- Outputs of two netlists together: a plan that observes goes to one output, which is one of the first or one of the second. So
 -- each CO and SO is the lesser of the two, at any prices.
--- Assumes nothing.
 use Rattle.common_laws.proofs.Base.{Bool, true, false, List, [], _∷_, _++_, List·Memᴰ, List·Memᴰ·head, List·Memᴰ·tail, cons≢nil, _⊎_, inl, inr, ⊎-elim, _≡_, refl, sym, _∙_, ap}
 use Rattle.common_laws.proofs.Base.{subst, ℕ, zero, suc, _+_, _≤_, min, le-of-eq}
 use Rattle.reading.specs.Choice.{pick}

@@ -1,5 +1,4 @@
 -- Where numbers stand: each purpose in each kind has a place of its own in the table, and what stands there at the start.
--- Assumes nothing.
 use Rattle.common_laws.proofs.Base.{Bool, true, false, List, _++_, _≡_, refl, _∙_, ap, ap₂, ℕ, zero, suc, _+_, _*_, _-_, _%_, _≤_, _<_, le-refl, arith, length, getD}
 use Rattle.common_laws.proofs.Base.{List·getD-append, getD-append-add}
 use Rattle.sizes.specs.Sizes as Size

@@ -1,6 +1,5 @@
 -- Document 01's plans over cells and statements are the plans of crate `plans` over the ways and visits of the netlist: each
 -- gives the other at the same cost.
--- Assumes nothing.
 use Rattle.common_laws.proofs.Base.{Bool, true, false, List, [], _∷_, List·Memᴰ, List·Memᴰ·head, List·Memᴰ·tail, Memᴰ·map, nil≢cons, cons≢nil, head-eq-of-cons-eq}
 use Rattle.common_laws.proofs.Base.{tail-eq-of-cons-eq, Option, none, some, _≡_, refl, sym, _∙_, ap, ap₂, ℕ, _+_, _≤_, arith, eqb-true, eqb-false, ne-eqb, eqb}
 use Rattle.reading.specs.Choice.{pick}

@@ -1,5 +1,4 @@
 -- The prices of the netlist's ranges: both ends, and every pricing within.
--- Assumes nothing.
 use Rattle.common_laws.proofs.Base.{Bool, true, false, or-true, List, [], _∷_, List·Memᴰ, List·Memᴰ·head, List·Memᴰ·tail, _≡_, refl, sym, ap, ℕ, _≤_, le-refl, le-trans, arith, eqb}
 use Rattle.common_laws.proofs.Base.{eq-eqb, ne-eqb, eqb-true}
 use Rattle.sizes.specs.Sizes as Size

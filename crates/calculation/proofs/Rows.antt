@@ -1,6 +1,5 @@
 -- Rows added to cells: the numbers that stand are a start of the runs with the new rows, which come to the numbers of a new
 -- analysis, within document 01's bounds.
--- Assumes nothing.
 use Rattle.common_laws.proofs.Base.{List, _∷_, List·Memᴰ, List·Memᴰ·head, List·Memᴰ·tail, Memᴰ·map, Memᴰ·of-map, some, _≡_, refl, sym, _∙_, ap, ℕ, arith, length}
 use Rattle.cost.specs.Cost.{capped}
 use Rattle.plans.specs.System.{Way, Visit, Offers}

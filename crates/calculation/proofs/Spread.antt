@@ -1,5 +1,4 @@
 -- Where the effect of more outputs spreads: a line's CO or SO falls only behind one that falls, back from a new output.
--- Assumes nothing.
 use Rattle.common_laws.proofs.Base.{Bool, true, false, List, [], _∷_, List·Memᴰ, cons≢nil, _⊎_, inl, inr, ⊎-elim, _≡_, refl, sym, _∙_, ap, ℕ, _+_, _≤_, _<_, decLt, le-refl}
 use Rattle.common_laws.proofs.Base.{le-of-eq, arith}
 use Rattle.reading.proofs.Laws.{by-test}

@@ -1,5 +1,4 @@
 -- What asks and commits leave of a standing analysis is a standing analysis, and no number is higher. Document 02, K11.
--- Assumes nothing.
 use Rattle.common_laws.proofs.Base.{false, _||_, List, [], _∷_, _++_, map, flatMap, append-nil, _≡_, refl, _∙_, ap, ℕ, _≤_, le-refl, le-trans, arith, length, length-append}
 use Rattle.common_laws.proofs.Lists.{flatMap-append}
 use Rattle.sizes.specs.Sizes as Size

@@ -1,6 +1,5 @@
 -- A sweep's flag: it is false exactly where the sweep leaves the numbers as they were. So a loop that sweeps until the flag is
 -- false settles, and comes to the numbers and the count of `run`.
--- Assumes nothing.
 use Rattle.common_laws.proofs.Base.{true, false, not, _||_, true≢false, or-assoc, List, [], _∷_, _++_, List·Memᴰ·head, List·Memᴰ·tail, _↔_, _≡_, refl, sym, _∙_, ap, ℕ, zero, suc}
 use Rattle.common_laws.proofs.Base.{_≤_, _<_, decLt, le-antisymm, le-trans, le-of-eq, arith, eqb-true, eq-eqb, not-false, eqb, length, set, set-out, set-getD}
 use Rattle.reading.proofs.Laws.{or-left, or-right}

@@ -1,5 +1,5 @@
 -- A pad on trial: CO rests at the numbers that stand, and a run of it with just the pad's number lowered leaves the CO of the
--- new analysis. Document 02, K13. Assumes nothing.
+-- new analysis. Document 02, K13.
 use Rattle.common_laws.proofs.Base.{true, false, or-false, or-true, List, _≡_, refl, sym, _∙_, subst, ℕ, zero, suc, _+_, _*_, _-_, _≤_, arith, eq-eqb, ne-eqb, set}
 use Rattle.sizes.specs.Sizes as Size
 use Rattle.reading.specs.Choice.{pick}

@@ -1,5 +1,4 @@
 -- The visits of a sweep: each is one to a gate in a role that its cell has, and what its ways need is what columns ask for.
--- Assumes nothing.
 use Rattle.common_laws.proofs.Base.{Bool, true, false, List, [], _∷_, _++_, map, map-append, List·Memᴰ, List·Memᴰ·head, List·Memᴰ·tail, List·Memᴰ·not-nil, List·Memᴰ·append-cases}
 use Rattle.common_laws.proofs.Base.{Memᴰ·append-left, Memᴰ·append-right, Memᴰ·map, Memᴰ·of-map, ⊎-elim, _≡_, refl, sym, _∙_, ap, ap₂, ℕ, zero, suc, _+_, _*_, _≤_, _<_, ℕ-discrete}
 use Rattle.common_laws.proofs.Base.{arith, length, getD}

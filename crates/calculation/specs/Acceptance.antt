@@ -1,5 +1,4 @@
 -- What the calculation's theorems ask of cells and statements: what the two readers say of all that they accept.
--- Assumes nothing.
 use mathlib.Core.List.{List}
 use Rattle.library_table.specs.Cells.{Cell}
 use Rattle.library_table.specs.Sound as C

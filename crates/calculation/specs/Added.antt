@@ -1,5 +1,4 @@
 -- What may be added so that numbers that stand are a start of the new runs: rows to cells, and outputs to a netlist.
--- Assumes nothing.
 use mathlib.Core.Bool.{true}
 use mathlib.Core.List.{List, List·Memᴰ}
 use mathlib.Core.Logic.{_⊎_}

@@ -1,6 +1,5 @@
 -- The pad adviser: which one allowed line, padded alone, leaves the lowest largest CO; and, beyond the request, what a pad on
 -- each allowed line leaves, so that a caller can rank them. Document 02, K13.
--- Assumes nothing.
 use mathlib.Core.Bool.{Bool, true, false, not, _&&_}
 use mathlib.Core.List.{List, [], _∷_, _++_, map}
 use mathlib.Core.Path.{_≡_}

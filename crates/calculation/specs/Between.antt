@@ -1,7 +1,6 @@
 -- The calculation at whatever prices within the ranges. Document 02, K10: "However the true prices fall within the ranges,
 -- each CC and CO number lies between the two printed, and never is printed in both or neither. SC and SO ignore ranges. Demand
 -- 3 holds each report's costs against plans at that report's own prices".
--- Assumes nothing.
 use mathlib.Core.List.{List}
 use mathlib.Core.Logic.{_↔_}
 use mathlib.Core.Path.{_≡_}

@@ -1,6 +1,5 @@
 -- Best numbers within a budget. Document 02, K12, over the cells and the statements as they were read; the steps are those of
 -- specs/Budget.antt of crate `plans`, where what K12 calls settled is called fixed.
--- Assumes nothing.
 use mathlib.Core.List.{List, [], _∷_}
 use mathlib.Core.Logic.{_⊎_}
 use mathlib.Core.Path.{_≡_}

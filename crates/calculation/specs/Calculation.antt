@@ -1,5 +1,4 @@
 -- Goldstein's calculation. Document 01, "Sweeps".
--- Assumes nothing.
 use mathlib.Core.List.{List, [], _∷_, _++_}
 use Prim.Native.Nat.{ℕ, zero, suc, _+_, _*_}
 use lib.ListN.{length}

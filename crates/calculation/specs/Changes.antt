@@ -1,6 +1,5 @@
 -- Whether a sweep changes a number: what the loop of a run asks after each sweep, "Sweeps stop after the first that changes
 -- nothing". Document 01, "Sweeps".
--- Assumes nothing.
 use mathlib.Core.Bool.{Bool, false, not, _||_}
 use mathlib.Core.List.{List, [], _∷_}
 use mathlib.Core.Path.{_≡_}

@@ -1,6 +1,6 @@
 -- What one more pad does to the CO and SO of a line, at whatever prices within the ranges. By `falls-spread` pads on trial are put
 -- back (`advice_calls::lines`); the other laws no code cites yet: request E3, which counts the protected lines that a pad
--- touches, is to (D198). Assumes nothing.
+-- touches, is to (D198).
 use mathlib.Core.Bool.{Bool, true, false, _||_}
 use mathlib.Core.List.{List, [], _∷_, List·Memᴰ}
 use mathlib.Core.Path.{_≡_}

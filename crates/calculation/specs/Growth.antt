@@ -1,5 +1,4 @@
 -- A library that differs from another "only by rows added to groups". Document 02, K14.
--- Assumes nothing.
 use mathlib.Core.Bool.{Bool, true, false, not, _&&_, _||_}
 use mathlib.Core.List.{List, [], _∷_}
 use lib.Dec.{eqb}

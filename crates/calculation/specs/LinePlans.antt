@@ -1,6 +1,5 @@
 -- Plans, in document 01's own words ("Plans"), over the cells and the statements as they were read, and what demand 3 says of
 -- a number. `proofs/PlansAlike.antt` shows that these plans are those of crate `plans` at the ways and visits of this netlist.
--- Assumes nothing.
 use mathlib.Core.Bool.{true}
 use mathlib.Core.List.{List, [], _∷_, List·Memᴰ}
 use mathlib.Core.Path.{_≡_}

@@ -1,6 +1,5 @@
 -- The numbers table: which number stands where. Document 01, "Report": "The numbers table has six costs for each line 1 to
 -- 1,000, lines ascending, costs in the report's order", which is cc0, cc1, sc0, sc1, co, so.
--- Assumes nothing.
 use Prim.Native.Nat.{ℕ, _+_, _*_}
 use Rattle.sizes.specs.Places.{linePlace}
 

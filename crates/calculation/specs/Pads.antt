@@ -1,5 +1,4 @@
 -- Pads, and the CO and SO that follow from one more. Document 02, K11.
--- Assumes nothing.
 use mathlib.Core.Bool.{Bool, true, not, _&&_, _||_}
 use mathlib.Core.List.{List, [], _∷_, _++_, map}
 use mathlib.Core.Path.{_≡_}

@@ -1,6 +1,5 @@
 -- What inputs cost. Document 01, "Plans" and "Sweeps"; document 02, K10. The calculation, the cost of a plan and demand 3 are
 -- said at any prices; the names without `At` are those at the netlist's own prices.
--- Assumes nothing.
 use mathlib.Core.Bool.{Bool, true, false}
 use mathlib.Core.List.{List, List·Memᴰ}
 use mathlib.Core.Path.{_≡_}

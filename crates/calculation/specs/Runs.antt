@@ -1,6 +1,5 @@
 -- The halves of the calculation, and all of it, from whatever numbers stand in the table. Document 01, "Sweeps": "CC and SC run
 -- separately. Then CO and SO".
--- Assumes nothing.
 use mathlib.Core.Bool.{Bool}
 use mathlib.Core.List.{List, [], _∷_}
 use Prim.Native.Nat.{ℕ, suc, _%_}

@@ -1,6 +1,5 @@
 -- An analysis in document 01's own words ("Sweeps"), without a bound on the sweeps: four runs on one table, each until the
 -- first sweep that changes nothing.
--- Assumes nothing.
 use mathlib.Core.List.{List, [], _∷_}
 use Prim.Native.Nat.{ℕ, _+_, _*_, _≤_}
 use Rattle.plans.specs.Stages.{Stages}

@@ -1,5 +1,4 @@
 -- A standing analysis: "one that an analysis, commits and earlier changes of library left". Document 02, K11 and K14.
--- Assumes nothing.
 use mathlib.Core.Bool.{true, false}
 use mathlib.Core.List.{List, [], _∷_}
 use mathlib.Core.Path.{_≡_}

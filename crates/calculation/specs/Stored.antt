@@ -1,6 +1,5 @@
 -- What the three tables hold: accepted cells and statements, and the numbers of their analysis. Whoever reads, calculates or
 -- tells from tables says it by these records.
--- Assumes nothing.
 use mathlib.Core.List.{List, _++_}
 use mathlib.Core.Path.{_≡_}
 use Prim.Native.Nat.{ℕ, _≤_}

@@ -1,5 +1,4 @@
 -- The prices and the ways of a netlist, as crate `plans` has them: what its plans are made from.
--- Assumes nothing.
 use mathlib.Core.Bool.{Bool, true, false}
 use mathlib.Core.List.{List}
 use mathlib.Core.Option.{Option, none, some}

@@ -1,6 +1,5 @@
 -- From gates and cells to ways and visits of crate `plans`: what a row of a cell means at a gate, and in which order a sweep
 -- visits. Every request that changes which ways there are changes this page.
--- Assumes nothing.
 use mathlib.Core.Bool.{Bool, false, not, _&&_, _||_}
 use mathlib.Core.List.{List, [], _∷_, _++_, map}
 use Prim.Native.Nat.{ℕ, zero, suc, _-_}

@@ -1,5 +1,4 @@
 -- Cells that are judged, one gate after another.
--- Assumes nothing.
 use Rattle.common_laws.proofs.Base.{Bool, true, false, not, _&&_, List, [], _≡_, refl, sym, ap, _∙_, ℕ, zero, suc, _+_, _-_, _≤_, _<_, ℕ-discrete, getD, set, replicate}
 use Rattle.common_laws.proofs.Base.{getD-set-other}
 use Rattle.reading.specs.Choice.{pick}

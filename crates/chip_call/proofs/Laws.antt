@@ -1,5 +1,4 @@
 -- What the answer says of the cells and statements that were read, and of every accepted analysis.
--- Assumes nothing.
 use Rattle.common_laws.proofs.Base.{Bool, true, false, _&&_, List, [], _∷_, _++_, List·Memᴰ, List·Memᴰ·head, List·Memᴰ·tail, append-nil, _↔_, _≡_, refl, sym, ap, subst, _∙_, ℕ}
 use Rattle.common_laws.proofs.Base.{_≤_, arith}
 use Rattle.reading.specs.Choice.{pick}

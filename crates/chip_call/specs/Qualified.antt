@@ -1,5 +1,4 @@
 -- Of which netlists document 02, K8, speaks, by the numbers of the tables, and what the answer says of cells and statements.
--- Assumes nothing.
 use mathlib.Core.Bool.{Bool, true, _&&_}
 use mathlib.Core.List.{List, [], _∷_}
 use mathlib.Core.Logic.{_↔_}

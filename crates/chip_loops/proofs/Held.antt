@@ -1,5 +1,4 @@
 -- The inputs and the lines mentioned of a table that holds statements, by membership.
--- Assumes nothing.
 use Rattle.common_laws.proofs.Base.{Bool, true, List, _++_, _≡_, ℕ, arith}
 use Rattle.sizes.specs.Sizes as Size
 use Rattle.library_table.specs.Cells.{Cell}

@@ -1,5 +1,4 @@
 -- What the two calls say of the statements that were read.
--- Assumes nothing.
 use Rattle.common_laws.proofs.Base.{true, false, List, [], _∷_, flatMap, _↔_, ⊎-elim, _≡_, refl, ℕ, arith, eqb, length-replicate, eqb-true}
 use Rattle.sizes.specs.Sizes as Size
 use Rattle.reading.specs.Each.{Each}

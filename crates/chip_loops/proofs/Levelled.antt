@@ -1,6 +1,5 @@
 -- What passes over the gates level, without any table: a line that is levelled has a driver and does not lead to itself; and
 -- without loops or open lines every line that is mentioned is levelled.
--- Assumes nothing.
 use Rattle.common_laws.proofs.Base.{Bool, true, false, not, List, [], _∷_, List·Memᴰ, List·Memᴰ·head, List·Memᴰ·tail, _⊎_, inl, inr, ⊎-elim, _≡_, refl, sym, subst, _∙_, ℕ, zero}
 use Rattle.common_laws.proofs.Base.{suc, _+_, _≤_, _<_, decLt, arith, eqb, length, set, length-replicate, set-out}
 use Rattle.sizes.specs.Sizes as Size

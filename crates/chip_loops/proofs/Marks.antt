@@ -1,5 +1,4 @@
 -- Marks: which lines are marked when one more is, and of those that a test tells.
--- Assumes nothing.
 use Rattle.common_laws.proofs.Base.{Bool, true, false, List, [], _∷_, List·Memᴰ, List·Memᴰ·head, List·Memᴰ·tail, _⊎_, inl, inr, ⊎-elim, _≡_, refl, sym, _∙_, ℕ, zero, suc, _+_, _≤_}
 use Rattle.common_laws.proofs.Base.{_<_, ℕ-discrete, decLt, arith, length, set, replicate, length-set, getD-set-same, getD-set-other, set-out}
 use Rattle.reading.specs.Choice.{pick}

@@ -1,5 +1,4 @@
 -- Lines stand once where marks tell so.
--- Assumes nothing.
 use Rattle.common_laws.proofs.Base.{true, false, List, [], _∷_, _≡_, refl, sym, _∙_, ℕ, _<_, eqb, length, set, length-set, eq-eqb, eqb-true, eqb-false}
 use Rattle.reading.proofs.Laws.{by-test, clash}
 use Rattle.netlist_table.specs.Netlist.{member}

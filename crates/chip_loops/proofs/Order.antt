@@ -1,5 +1,4 @@
 -- The order in which gates are levelled does not matter: what passes come to is the same from marks that are ahead of others.
--- Assumes nothing.
 use Rattle.common_laws.proofs.Base.{Bool, true, false, not, List, [], _∷_, List·Memᴰ, List·Memᴰ·head, List·Memᴰ·tail, ⊎-elim, _≡_, refl, sym, ap, subst, _∙_, ℕ, zero, suc, _+_}
 use Rattle.common_laws.proofs.Base.{_<_, decLt, arith, length, set, length-replicate, set-out}
 use Rattle.sizes.specs.Sizes as Size

@@ -1,5 +1,4 @@
 -- One step of each loop: what is left of the lines, pins or gates is the next and what is left behind it.
--- Assumes nothing.
 use Rattle.common_laws.proofs.Base.{Bool, true, false, not, _&&_, _||_, List, [], _∷_, _++_, flatMap, _≡_, refl, sym, ap, _∙_, ℕ, zero, suc, _+_, _-_, _≤_, _<_, arith, eqb, ltb}
 use Rattle.common_laws.proofs.Base.{leb, length, set, length-set, ne-eqb, ltb-true, leb-true}
 use Rattle.sizes.specs.Sizes as Size

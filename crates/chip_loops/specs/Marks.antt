@@ -1,6 +1,5 @@
 -- How a netlist is told to have no loops or open lines, and no line that two pins read: by marks, a number for each line. A
 -- mark other than 0 is set.
--- Assumes nothing.
 use mathlib.Core.Bool.{Bool, true, false, not, _&&_}
 use mathlib.Core.List.{List, [], _∷_, flatMap, List·Memᴰ}
 use mathlib.Core.Path.{_≡_}

@@ -1,5 +1,4 @@
 -- What the rows of a cell tell of its truth table, in the form that the two theorems need.
--- Assumes nothing.
 use Rattle.common_laws.proofs.Base.{Bool, true, false, List, List·Memᴰ, _≡_, ℕ, _-_, length, getD}
 use Rattle.library_table.specs.Cells.{Row, Cell, Column, pin}
 use Rattle.calculation.specs.Nodes.{combinational}

@@ -1,6 +1,5 @@
 -- A figure is no promise that a setting exists once a line is read twice: the second theorem does not hold without its
 -- condition.
--- Assumes nothing.
 use Rattle.common_laws.proofs.Base.{Bool, true, false, _||_, List, [], _∷_, map, List·Memᴰ, List·Memᴰ·head, List·Memᴰ·tail, List·Memᴰ·not-nil, flatMap, _↔_, _≡_, refl, sym, subst}
 use Rattle.common_laws.proofs.Base.{ap, _∙_, ℕ, _<_, arith, eqb, eqb-true}
 use Rattle.reading.specs.Each.{Each}

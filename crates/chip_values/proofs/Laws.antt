@@ -1,6 +1,5 @@
 -- What "never" says of the chip, of each accepted analysis, at whatever prices within the ranges. `NeverMeans` of
 -- specs/Never.antt is the statement.
--- Assumes nothing.
 use Rattle.common_laws.proofs.Base.{Bool, true, false, List, List·Memᴰ, _≡_, refl, subst, ℕ}
 use Rattle.cost.specs.Cost.{never}
 use Rattle.library_table.specs.Cells.{Cell}

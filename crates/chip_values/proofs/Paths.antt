@@ -1,5 +1,4 @@
 -- Where each line is read by at most one pin, and there are no loops, no line reaches two pins of a gate.
--- Assumes nothing.
 use Rattle.common_laws.proofs.Base.{true, false, List, [], _∷_, _++_, List·Memᴰ, List·Memᴰ·head, List·Memᴰ·tail, flatMap, _⊎_, inl, inr, _≡_, refl, sym, subst, ap, _∙_, ℕ, zero}
 use Rattle.common_laws.proofs.Base.{suc, _<_, not-suc-le-zero, le-of-suc-le-suc, length, getD}
 use Rattle.reading.proofs.Laws.{clash, or-left}

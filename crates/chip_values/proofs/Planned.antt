@@ -1,6 +1,5 @@
 -- A value that a setting gives a line has a plan: where the values of a gate's pins meet a row, that row is a way, and each
 -- line that it asks for has the value asked for.
--- Assumes nothing.
 use Rattle.common_laws.proofs.Base.{Bool, true, false, not, _&&_, List, [], _∷_, map, List·Memᴰ, List·Memᴰ·head, List·Memᴰ·tail, List·Memᴰ·not-nil, _≡_, refl, sym, subst, ap, _∙_}
 use Rattle.common_laws.proofs.Base.{ℕ, _-_, _≤_, arith, eqb, length, getD, length-map, eqb-true}
 use Rattle.common_laws.proofs.Lists.{getD-map}

@@ -1,6 +1,5 @@
 -- Where each line is read by at most one pin, a value that has a plan is given by a setting: the lines that a row asks for are
 -- set one after the other, each by inputs that reach none of the others.
--- Assumes nothing.
 use Rattle.common_laws.proofs.Base.{Bool, true, false, _||_, List, [], _∷_, map, List·Memᴰ, List·Memᴰ·head, List·Memᴰ·tail, List·Memᴰ·not-nil, _⊎_, inl, inr, _≡_, refl, sym, subst}
 use Rattle.common_laws.proofs.Base.{ap, ap₂, _∙_, ℕ, zero, suc, _-_, _≤_, _<_, arith, eqb, length, getD, eqb-true, eqb-false, eq-eqb, ne-eqb}
 use Rattle.reading.specs.Choice.{pick}

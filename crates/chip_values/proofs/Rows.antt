@@ -1,5 +1,4 @@
 -- What the rows of a generated cell tell of its truth table: the fact of crate `truth_tables`, by the columns that a row names.
--- Assumes nothing.
 use Rattle.common_laws.proofs.Base.{Bool, true, false, List, _∷_, map, List·Memᴰ, List·Memᴰ·head, Memᴰ·map, Memᴰ·of-map, List·Memᴰ·append-cases, ⊎-elim, Option, none, some, _≡_}
 use Rattle.common_laws.proofs.Base.{refl, sym, subst, ap, _∙_, ℕ, zero, suc, _+_, _*_, _-_, _≤_, _<_, arith, length, getD, eqb-true}
 use Rattle.reading.proofs.Laws.{clash}

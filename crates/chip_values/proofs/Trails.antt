@@ -1,6 +1,5 @@
 -- Without loops a fact that each line has from the lines that feed it holds of all lines: a trail of lines back from one, each
 -- fed by the next, has no line twice, so it is no longer than there are gates.
--- Assumes nothing.
 use Rattle.common_laws.proofs.Base.{true, false, List, [], _∷_, map, Memᴰ·map, _≡_, refl, subst, _∙_, ℕ, zero, suc, _+_, _≤_, _<_, arith, eqb, length, length-map, eqb-true}
 use Rattle.reading.proofs.Laws.{by-test, clash}
 use Rattle.netlist_table.specs.Netlist.{Gate, Statement, gatesOf, member}

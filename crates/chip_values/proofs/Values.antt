@@ -1,6 +1,5 @@
 -- Without loops and open lines each setting of the inputs gives each line one value, which depends only on the inputs that lead
 -- to the line.
--- Assumes nothing.
 use Rattle.common_laws.proofs.Base.{Bool, true, false, List, [], _∷_, map, List·Memᴰ, List·Memᴰ·head, List·Memᴰ·tail, nil≢cons, cons≢nil, head-eq-of-cons-eq, tail-eq-of-cons-eq}
 use Rattle.common_laws.proofs.Base.{_⊎_, inl, inr, _≡_, refl, sym, subst, ap, ap₂, _∙_, ℕ}
 use Rattle.reading.proofs.Laws.{by-test, clash}

@@ -1,6 +1,5 @@
 -- Netlists built of cells that have a truth table, and what they do. Document 02, K8: "Consider a netlist without loops or open
 -- lines, built only of cells that K6 generates, constants among them."
--- Assumes nothing.
 use mathlib.Core.Bool.{Bool}
 use mathlib.Core.List.{List, List·Memᴰ}
 use Prim.Native.Nat.{ℕ}

@@ -1,7 +1,6 @@
 -- The smallest netlist in which a figure stands for a value that no setting gives: an AND gate that reads an input and its
 -- opposite. The input is read by two pins. One gate does not do: pins that share a line are one wire there, so that a row which
 -- is a way asks for no line at 0 and 1.
--- Assumes nothing.
 use mathlib.Core.Bool.{Bool, true, false}
 use mathlib.Core.List.{List, [], _∷_}
 use Prim.Native.Nat.{ℕ, zero, suc}

@@ -1,6 +1,5 @@
 -- Which line feeds which, and netlists "without loops or open lines" in which "each line is read by at most one pin".
 -- Document 02, K8.
--- Assumes nothing.
 use mathlib.Core.Bool.{true}
 use mathlib.Core.List.{List, List·Memᴰ, flatMap}
 use mathlib.Core.Path.{_≡_}

@@ -1,5 +1,4 @@
 -- What "never" says of the chip. Document 02, K8.
--- Assumes nothing.
 use mathlib.Core.Bool.{Bool, true}
 use mathlib.Core.List.{List}
 use mathlib.Core.Logic.{_↔_}

@@ -1,6 +1,5 @@
 -- What a netlist does: which values its lines have at a setting of its inputs. Document 02, K8: "Each input takes 0 or 1 and
 -- each gate's output is its truth table's value."
--- Assumes nothing.
 use mathlib.Core.Bool.{Bool, true}
 use mathlib.Core.List.{List, map, List·Memᴰ}
 use mathlib.Core.Path.{_≡_}

@@ -1,5 +1,4 @@
 -- The laws of costs that other crates cite. Each holds for every number, also for one above never, unless it says otherwise.
--- Assumes nothing.
 use Rattle.common_laws.proofs.Base.{or-true, _||_, _⊎_, inl, inr, _≡_, sym, _∙_, ℕ, _+_, _≤_, _<_, min, max, decLe, arith, leb, le-leb, lt-leb, lt-ltb, le-ltb, eq-eqb, ne-eqb}
 use Rattle.reading.specs.Choice.{pick}
 use Rattle.cost.specs.Order.{order, compared}

@@ -1,6 +1,5 @@
 -- Costs as document 01, "Costs", has them, each held as a number. This page is all that a reader must believe of them.
 -- The laws that others cite stand in `proofs/Laws.antt`.
--- Assumes nothing.
 use mathlib.Core.Bool.{Bool, _||_}
 use Prim.Native.Nat.{ℕ, _+_, min}
 use lib.Dec.{leb, ltb, eqb}

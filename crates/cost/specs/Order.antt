@@ -1,5 +1,4 @@
 -- How a cost "compares with" another, and what each case of the code's answers stands for.
--- Assumes nothing.
 use Prim.Native.Nat.{ℕ}
 use lib.Dec.{ltb, eqb}
 use Rattle.reading.specs.Choice.{pick}

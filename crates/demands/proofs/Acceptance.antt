@@ -1,5 +1,4 @@
 -- What an accepted outcome says of what was given.
--- Assumes nothing.
 use Rattle.common_laws.proofs.Base.{List, [], _≡_, refl, subst, ℕ, _≤_, ltb-false, length}
 use Rattle.reading.specs.Numbers as No
 use Rattle.reading.specs.Refusal.{read, _>>=_, weigh}

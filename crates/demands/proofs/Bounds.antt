@@ -1,5 +1,4 @@
 -- What a refusal can be: none has the number 0, and its line is at most one above the bytes of a text.
--- Assumes nothing.
 use Rattle.common_laws.proofs.Base.{List, _≡_, refl, subst, _∙_, ℕ, _+_, _≤_, arith, leb-true, length}
 use Rattle.sizes.specs.Sizes as Size
 use Rattle.reading.specs.Refusal.{Read, refused, read, _>>_, weigh}

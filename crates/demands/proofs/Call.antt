@@ -1,5 +1,4 @@
 -- What a call keeps, from where it is refused or accepted.
--- Assumes nothing.
 use Rattle.common_laws.proofs.Base.{true, false, true≢false, List, [], _∷_, _≡_, refl, sym, ap, subst, _∙_, ℕ, _≤_, _<_, arith, lt-ltb, le-ltb, ltb-false, ltb, length, replicate}
 use Rattle.sizes.specs.Sizes as Size
 use Rattle.reading.specs.Choice.{pick}

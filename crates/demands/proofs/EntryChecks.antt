@@ -1,5 +1,4 @@
 -- The entry: what its two checks say of the lengths.
--- Assumes nothing.
 use Rattle.common_laws.proofs.Base.{Bool, false, _||_, List, [], _∷_, _≡_, refl, ℕ, _≤_, ltb-false, le-ltb, ltb, arith, length, replicate, length-replicate}
 use Rattle.sizes.specs.Sizes as Size
 use Rattle.reading.specs.Numbers as No

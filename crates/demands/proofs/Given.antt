@@ -1,6 +1,5 @@
 -- What the statements given to a call satisfy, whatever they come from: what is read is sound, and no refusal has a number of
 -- the entry or the report. A netlist text is such.
--- Assumes nothing.
 use Rattle.common_laws.proofs.Base.{true, List, _≡_, subst, ℕ, _+_, arith, length}
 use Rattle.reading.specs.Refusal.{refused, read}
 use Rattle.reading.proofs.Bounds.{Within, textNumber}

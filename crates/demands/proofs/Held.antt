@@ -1,5 +1,4 @@
 -- What an accepted call leaves in its tables: an accepted analysis of the cells and statements that were read.
--- Assumes nothing.
 use Rattle.common_laws.proofs.Base.{List, _++_, _≡_, refl, sym, ap, _∙_, ℕ, length, drop}
 use Rattle.sizes.specs.Sizes as Size
 use Rattle.reading.specs.Refusal.{Read, refused, read}

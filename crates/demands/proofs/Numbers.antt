@@ -1,5 +1,4 @@
 -- Demands 2 and 3 of a numbers table that holds the numbers of an accepted analysis.
--- Assumes nothing.
 use Rattle.common_laws.proofs.Base.{List, _++_, _≡_, sym, ap, subst, _∙_, ℕ, _<_, getD, take, List·getD-append, take-at}
 use Rattle.sizes.specs.Sizes as Size
 use Rattle.library_table.specs.Cells.{Cell}

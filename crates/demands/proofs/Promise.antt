@@ -1,5 +1,4 @@
 -- A call that answers and leaves what the outcome says keeps its promise: the three demands follow.
--- Assumes nothing.
 use Rattle.common_laws.proofs.Base.{Bool, true, false, List, _++_, _≡_, refl, sym, ap, subst, _∙_, ℕ, zero, suc, _+_, _≤_, _<_, arith, length, getD, take, drop, replicate}
 use Rattle.common_laws.proofs.Base.{length-replicate, getD-replicate, take-at, drop-at}
 use Rattle.sizes.specs.Places.{linePlace}

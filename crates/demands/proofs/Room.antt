@@ -1,6 +1,5 @@
 -- Which calls are accepted, and by which numbers the others are refused: what is read is accepted where the buffer has room
 -- for its report, and 17 needs a shorter one. No report is longer than the longest.
--- Assumes nothing.
 use Rattle.common_laws.proofs.Base.{Bool, true, false, true≢false, List, _⊎_, inl, inr, ⊎-elim, _≡_, refl, sym, ap, subst, ℕ, _+_, _≤_, _<_, arith, le-ltb, ltb-true, ltb, length}
 use Rattle.common_laws.proofs.Base.{length-append}
 use Rattle.reading.specs.Choice.{pick}

@@ -1,5 +1,4 @@
 -- What the answers of the code stand for.
--- Assumes nothing.
 use mathlib.Core.List.{List}
 use Prim.Native.Nat.{ℕ}
 use Rattle.reading.specs.Refusal.{Read, refused, read}

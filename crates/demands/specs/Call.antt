@@ -1,6 +1,5 @@
 -- What all calls over texts share: the entry, what is read behind it, what is answered of that, and what is left in what was
 -- lent. Document 01, "Where a text stops" and "Callers". A call is a record, and what is its own.
--- Assumes nothing.
 use mathlib.Core.Bool.{true, false}
 use mathlib.Core.List.{List, [], _∷_}
 use mathlib.Core.Path.{_≡_}

@@ -1,7 +1,6 @@
 -- The three demands of the minutes, and what else holds of one call: `g` is what it was given to read, `before` and `after`
 -- what it was lent as it was called and as it returned, `said` what it answered. A call's contract is `Promised`. That the
 -- call ends, and relies on no earlier check, is what the checker shows of every function that has no `requires`.
--- Assumes nothing.
 use mathlib.Core.Bool.{true, false}
 use mathlib.Core.List.{List, _++_}
 use mathlib.Core.Path.{_≡_}

@@ -1,6 +1,5 @@
 -- What an analysis comes to, and what it leaves in what it was lent. Document 01, "Where a text stops", "Report" and
 -- "Callers". A caller gives the library as a text, and the netlist as a text or as a list of records.
--- Assumes nothing.
 use mathlib.Core.Bool.{Bool, _||_}
 use mathlib.Core.List.{List, [], _∷_, _++_}
 use Prim.Native.Nat.{ℕ}

@@ -1,5 +1,4 @@
 -- What a call has that lends itself tables of its own.
--- Assumes nothing.
 use mathlib.Core.List.{List}
 use Prim.Native.Nat.{ℕ}
 use lib.ListN.{replicate}

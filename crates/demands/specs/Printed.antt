@@ -1,5 +1,4 @@
 -- What `scoap` prints of two texts. Document 01, "Report".
--- Assumes nothing.
 use mathlib.Core.Bool.{_||_}
 use mathlib.Core.List.{List, [], _∷_}
 use Prim.Native.Nat.{ℕ}

@@ -1,5 +1,4 @@
 -- What a read's answer means, from the tests that the code makes of it.
--- Assumes nothing.
 use Rattle.common_laws.proofs.Base.{Bool, true, false, true≢false, _||_, List, _≡_, refl, ℕ, _+_, _-_, _≤_, _<_, min, arith, ltb-true, eqb-false, eqb, length}
 use lib.IntN.{ℤ, pos, negsuc}
 use lib.Signed.{ltZ}

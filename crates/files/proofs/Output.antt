@@ -1,5 +1,4 @@
 -- What is printed of files that were loaded, from what was loaded and what a call puts into a buffer.
--- Assumes nothing.
 use Rattle.common_laws.proofs.Base.{Bool, true, false, _||_, List, [], _∷_, _⊎_, inl, inr, _≡_, refl, ℕ, _≤_, _<_, arith, ltb, length, take, length-take-le, lt-ltb}
 use Rattle.sizes.specs.Sizes as Size
 use Rattle.reading.specs.Choice.{pick}

@@ -1,7 +1,6 @@
 -- How much of a buffer reading a file has filled, and what one read's answer means. The library's contracts tell of a read how
 -- many bytes it answers and of the bytes nothing, and every answer may come of some file; so no more can be said of a whole
 -- file than that its bytes are within the buffer, and that a file that fills it is too long; tests do the rest (tests/files).
--- Assumes nothing.
 use mathlib.Core.Bool.{_||_}
 use mathlib.Core.List.{List}
 use mathlib.Core.Path.{_≡_}

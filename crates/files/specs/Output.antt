@@ -1,5 +1,4 @@
 -- What a program prints of files that were loaded into buffers. Document 01, "Report".
--- Assumes nothing.
 use mathlib.Core.List.{List, [], _∷_, _++_}
 use mathlib.Core.Logic.{_⊎_}
 use mathlib.Core.Path.{_≡_}

@@ -1,5 +1,4 @@
 -- What two library tables tell, where they hold accepted cells: whether a cell has grown.
--- Assumes nothing.
 use Rattle.common_laws.proofs.Base.{Bool, true, false, not, _&&_, _||_, and-assoc, List, [], _∷_, _++_, append-assoc, _≡_, refl, sym, ap, ap₂, _∙_, ℕ, zero, suc, _+_, _*_, _≤_}
 use Rattle.common_laws.proofs.Base.{_<_, zero-add, arith, eqb-true, eqb-false, eqb, length, getD, length-append, List·getD-append}
 use Rattle.sizes.specs.Places.{cellPlace, pinsPlace, groupPlace}

@@ -1,5 +1,4 @@
 -- Lists that stand in two tables, compared place by place; and rows looked for one behind the other.
--- Assumes nothing.
 use Rattle.common_laws.proofs.Base.{Bool, true, false, _&&_, and-assoc, and-false, List, [], _∷_, _++_, _≡_, refl, sym, ap, _∙_, ℕ, zero, suc, _+_, _-_, _≤_, _<_, add-zero}
 use Rattle.common_laws.proofs.Base.{add-suc, suc-add, add-one, arith, length, getD}
 use Rattle.reading.specs.Choice.{pick}

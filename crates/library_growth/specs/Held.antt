@@ -1,5 +1,4 @@
 -- What a library table tells of its entries, groups and rows, whatever stands in it; and tables that hold accepted cells.
--- Assumes nothing.
 use mathlib.Core.List.{List, [], _∷_, _++_}
 use mathlib.Core.Path.{_≡_}
 use Prim.Native.Nat.{ℕ, zero, suc, _+_, _*_, _<_}

@@ -1,5 +1,4 @@
 -- Whether some element of a list passes a test.
--- Assumes nothing.
 use Rattle.common_laws.proofs.Base.{Bool, true, _||_, or-true, or-assoc, List, [], _∷_, _++_, List·Memᴰ, List·Memᴰ·head, List·Memᴰ·tail, _≡_, refl, sym, ap, _∙_}
 use Rattle.library_table.specs.Library.{anyOf}
 

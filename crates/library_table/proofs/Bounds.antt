@@ -1,5 +1,4 @@
 -- A refused library text is told by a number of its own, and a line, at most the line after the last.
--- Assumes nothing.
 use Rattle.common_laws.proofs.Base.{List, [], _∷_, Option, refl, ℕ, suc, _+_, _≤_, arith, length}
 use Rattle.reading.specs.Numbers as No
 use Rattle.reading.specs.Refusal.{read, weigh, form}

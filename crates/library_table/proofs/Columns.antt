@@ -1,5 +1,4 @@
 -- The columns that a row names: those whose bit is set.
--- Assumes nothing.
 use Rattle.common_laws.proofs.Base.{Bool, true, false, List, [], _∷_, List·Memᴰ, List·Memᴰ·head, List·Memᴰ·tail, List·Memᴰ·not-nil, _≡_, refl, sym, subst, ap, _∙_, ℕ, zero, suc}
 use Rattle.common_laws.proofs.Base.{_≤_, _<_, arith, eqb, eqb-true, eqb-false}
 use Rattle.reading.specs.Choice.{pick}

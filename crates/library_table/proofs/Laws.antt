@@ -1,5 +1,4 @@
 -- The facts of every library that was read. What stands at a place of its table is in `Places.antt`.
--- Assumes nothing.
 use Rattle.common_laws.proofs.Base.{Bool, true, false, not, _&&_, _||_, List, [], _∷_, _++_, Option, none, some, Option·none-ne-some, _≡_, refl, sym, ap, _∙_, ℕ, suc, _+_, _*_}
 use Rattle.common_laws.proofs.Base.{_^_, _≤_, _<_, mod-lt, arith, leb, eqb, length, length-append, ltb-false, leb-false, eqb-true, not-false}
 use Rattle.sizes.specs.Sizes as Size

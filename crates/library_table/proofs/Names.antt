@@ -1,6 +1,5 @@
 -- What a library table tells of its cells, where it holds them, their count, their pins and headings, and their places by name;
 -- and of which cells any table tells.
--- Assumes nothing.
 use Rattle.common_laws.proofs.Base.{true, false, _&&_, List, [], _∷_, _≡_, refl, sym, ap, _∙_, ℕ, zero, suc, _+_, _-_, _≤_, _<_, add-suc, suc-add, add-zero, zero-add, add-assoc}
 use Rattle.common_laws.proofs.Base.{add-one, one-add, arith, leb, eqb, length, getD, drop, drop-of-length-le, List·getD-append, drop-cons, le-leb, lt-leb, leb-true, eq-eqb, ne-eqb}
 use Rattle.common_laws.proofs.Base.{eqb-true, eqb-false}

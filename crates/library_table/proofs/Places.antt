@@ -1,5 +1,4 @@
 -- What stands at a place of the library table.
--- Assumes nothing.
 use Rattle.common_laws.proofs.Base.{List, [], _∷_, _++_, append-assoc, append-nil, _≡_, refl, sym, ap, _∙_, ℕ, suc, _+_, _*_, _/_, _%_, _^_, _≤_, _<_, add-assoc, one-add, arith}
 use Rattle.common_laws.proofs.Base.{length, getD, length-append, List·getD-append, getD-append-add}
 use lib.Pow.{split}

@@ -1,5 +1,4 @@
 -- The library text: its six lines an entry, and where it stops. Document 01, "Cells" and "Where a text stops", library line.
--- Assumes nothing.
 use mathlib.Core.Bool.{Bool, true, false, not, _&&_, _||_}
 use mathlib.Core.List.{List, [], _∷_, _++_}
 use mathlib.Core.Option.{Option, none, some}

@@ -1,6 +1,5 @@
 -- What holds of each library that was read: the facts on which the parts behind the reader lean.
 -- `proofs/Laws.antt` shows them of every text that is accepted.
--- Assumes nothing.
 use mathlib.Core.Bool.{Bool, true, false}
 use mathlib.Core.List.{List, []}
 use mathlib.Core.Path.{_≡_}

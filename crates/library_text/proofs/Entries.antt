@@ -1,5 +1,4 @@
 -- What each line of an entry leaves: the reading behind it and the table that holds it, or its refusal number.
--- Assumes nothing.
 use Rattle.common_laws.proofs.Base.{true, false, List, [], _∷_, _++_, none, some, _≡_, refl, sym, ap, _∙_, ℕ, zero, suc, _+_, _≤_, _<_, arith, length, getD, set, drop}
 use Rattle.common_laws.proofs.Base.{length-append, eq-eqb, ne-eqb, le-ltb}
 use Rattle.sizes.specs.Sizes as Size

@@ -1,5 +1,4 @@
 -- A heading by its number.
--- Assumes nothing.
 use Rattle.common_laws.proofs.Base.{_≡_, refl, ℕ, zero, suc}
 use Rattle.library_table.specs.Cells.{deep}
 use Rattle.library_text.specs.Groups.{numberHeading}

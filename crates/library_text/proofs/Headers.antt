@@ -1,6 +1,5 @@
 -- The lines of an entry by their refusal numbers, and the Name line and the End line by their fields, tied to the definitions
 -- of the library text.
--- Assumes nothing.
 use Rattle.common_laws.proofs.Base.{Bool, true, false, not, _&&_, _||_, List, [], _∷_, Option, none, some, Option·none-ne-some, _≡_, refl, _∙_, ℕ, zero, suc, _<_, arith, leb, ltb}
 use Rattle.common_laws.proofs.Base.{eqb, length, getD, drop, ne-eqb, ltb-true}
 use Rattle.sizes.specs.Sizes as Size

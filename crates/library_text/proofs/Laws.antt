@@ -1,5 +1,4 @@
 -- The entry of the reader, by the lengths of the text and the table.
--- Assumes nothing.
 use Rattle.common_laws.proofs.Base.{_≡_, ℕ, _≤_, _<_, lt-ltb, le-ltb}
 use Rattle.sizes.specs.Sizes as Size
 use Rattle.reading.specs.Choice.{pick}

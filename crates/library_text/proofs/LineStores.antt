@@ -1,5 +1,4 @@
 -- What the other stores of the reader make of the table: a header behind the cells, the count.
--- Assumes nothing.
 use Rattle.common_laws.proofs.Base.{List, [], _∷_, _++_, append-assoc, _≡_, refl, sym, ap, _∙_, ℕ, zero, suc, _+_, _*_, _≤_, _<_, add-zero, not-suc-le-zero, le-of-suc-le-suc}
 use Rattle.common_laws.proofs.Base.{add-one, arith, length, getD, set, drop, replicate, length-append, drop-of-length-le, set-append-seam, set-at, sets, drop-cons}
 use Rattle.sizes.specs.Sizes as Size

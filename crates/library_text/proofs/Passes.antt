@@ -1,5 +1,4 @@
 -- The walk over a row line, tied to the definitions of the library text.
--- Assumes nothing.
 use Rattle.common_laws.proofs.Base.{Bool, true, false, not, _&&_, _||_, or-false, or-true, or-assoc, List, [], _∷_, _++_, append-assoc, Option, none, some, _≡_, refl, sym, ap, _∙_}
 use Rattle.common_laws.proofs.Base.{ℕ, zero, suc, _+_, _*_, _/_, _%_, _^_, _≤_, _<_, max, min, pow-suc, pow-le-pow-right, add-one, arith, leb, ltb, eqb, length, getD, drop}
 use Rattle.common_laws.proofs.Base.{length-append, pow-pos, ne-eqb, lt-ltb, le-ltb, le-leb, lt-leb, ltb-true, ltb-false, leb-true, leb-false, eqb-true}

@@ -1,5 +1,4 @@
 -- What the stores of a row line make of the table: a row behind those of its group, the groups of the line.
--- Assumes nothing.
 use Rattle.common_laws.proofs.Base.{Bool, true, false, List, [], _∷_, _++_, append-assoc, append-nil, _≡_, refl, sym, ap, _∙_, ℕ, zero, suc, _+_, _*_, _-_, _≤_, _<_, one-add}
 use Rattle.common_laws.proofs.Base.{arith, length, set, replicate, length-append, set-append-seam, set-at, ltb-false}
 use Rattle.sizes.specs.Sizes as Size

@@ -1,5 +1,4 @@
 -- The walk over the lines of a library text: what each line and the text's end make of the reading so far.
--- Assumes nothing.
 use Rattle.common_laws.proofs.Base.{List, [], _∷_, _++_, _≡_, refl, sym, ap, subst, _∙_, ℕ, zero, suc, _+_, _*_, _≤_, _<_, min, le-of-eq, add-one, arith, length, drop, replicate}
 use Rattle.common_laws.proofs.Base.{length-replicate, drop-at}
 use Rattle.sizes.specs.Sizes as Size

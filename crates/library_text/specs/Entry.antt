@@ -1,6 +1,5 @@
 -- The reader as a call of its own: the entry, what it answers, and what it leaves in the lent table. Document 01, "Where a
 -- text stops", entry.
--- Assumes nothing.
 use mathlib.Core.List.{List, [], _∷_}
 use Prim.Native.Nat.{ℕ}
 use lib.Dec.{ltb}

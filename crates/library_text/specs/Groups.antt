@@ -1,7 +1,6 @@
 -- The groups of a row line behind some of its fields, as the code keeps them, and the refusal number of the line.
 -- `library_text/proofs/Passes.antt` ties them to the definitions of `library_table/specs/Library.antt`, which are the ones to
 -- read against document 01, and `library_text/proofs/Stores.antt` to the layout of the table.
--- Assumes nothing.
 use mathlib.Core.Bool.{Bool, true, not, _&&_, _||_}
 use mathlib.Core.List.{List}
 use Prim.Native.Nat.{ℕ, zero, suc, _+_, _*_, _≤_, max, min}

@@ -1,7 +1,6 @@
 -- The Name line and the End line of an entry by their fields, as the code judges them, and the store of a header.
 -- `proofs/Headers.antt` ties them to the definitions of `library_table/specs/Library.antt`, which are the ones to read against
 -- document 01.
--- Assumes nothing.
 use mathlib.Core.Bool.{Bool, _&&_}
 use mathlib.Core.List.{List, []}
 use mathlib.Core.Option.{Option, none}

@@ -1,7 +1,6 @@
 -- The walk over a row line, field by field from the left, as the code makes it, and the refusal number of the line.
 -- `proofs/Passes.antt` ties them to the definitions of `library_table/specs/Library.antt`, which are the ones to read against
 -- document 01, and `proofs/Stores.antt` to the layout of the table.
--- Assumes nothing.
 use mathlib.Core.Bool.{Bool, true, false, not, _||_}
 use mathlib.Core.List.{List, [], _∷_}
 use mathlib.Core.Option.{Option, none, some}

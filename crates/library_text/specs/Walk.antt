@@ -1,5 +1,4 @@
 -- How the table and the reader's numbers stand while a library text is read.
--- Assumes nothing.
 use mathlib.Core.List.{List, [], _∷_, _++_}
 use mathlib.Core.Path.{_≡_}
 use Prim.Native.Nat.{ℕ, zero, suc, _≤_}

@@ -1,5 +1,4 @@
 -- The causes of a gate, by the tests of the code.
--- Assumes nothing.
 use Rattle.common_laws.proofs.Base.{Bool, not, _||_, List, [], _∷_, _≡_, sym, _∙_, ℕ, _<_, leb, eqb, length, eq-eqb, ne-eqb, eqb-true, eqb-false, leb-false}
 use Rattle.reading.specs.Choice.{pick}
 use Rattle.reading.specs.Numbers as No

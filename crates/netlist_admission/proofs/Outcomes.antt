@@ -1,5 +1,4 @@
 -- What checking and admitting one statement answers and leaves, for each way through the code.
--- Assumes nothing.
 use Rattle.common_laws.proofs.Base.{Bool, true, false, not, _||_, List, [], _∷_, _++_, Option, some, _≡_, refl, sym, ap, _∙_, ℕ, zero, suc, _+_, _%_, _≤_, _<_, min}
 use Rattle.common_laws.proofs.Base.{not-suc-le-zero, le-of-suc-le-suc, arith, eqb, length, getD, set, take, take-all, needs, eq-eqb, ne-eqb, eqb-true, leb-false, not-true}
 use Rattle.common_laws.proofs.Base.{not-false}

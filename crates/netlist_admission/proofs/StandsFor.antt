@@ -1,5 +1,4 @@
 -- Which statement the numbers stand for, by its form and its kind.
--- Assumes nothing.
 use Rattle.common_laws.proofs.Base.{true, false, List, ⊎-elim, Option, none, some, _≡_, refl, sym, ap, _∙_, ℕ, zero, suc, _≤_, arith, getD}
 use Rattle.table.specs.Blocks.{fitted}
 use Rattle.reading.specs.Numbers as No

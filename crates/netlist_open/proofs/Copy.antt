@@ -1,5 +1,4 @@
 -- The new rules accept the copy, and give it the numbers that the old rules gave.
--- Assumes nothing.
 use Rattle.common_laws.proofs.Base.{Bool, true, false, not, _&&_, _||_, or-false, or-true, List, [], _∷_, _++_, append-nil, append-assoc, flatMap, Option, none, some, _≡_, refl}
 use Rattle.common_laws.proofs.Base.{sym, ap, _∙_, ℕ, zero, suc, _+_, _-_, _≤_, _<_, arith, eqb, leb, ltb, length, eq-eqb, ne-eqb, eqb-true, eqb-false, le-leb, leb-true, not-true}
 use Rattle.common_laws.proofs.Lists.{flatMap-append}

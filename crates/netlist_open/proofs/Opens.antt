@@ -1,5 +1,4 @@
 -- The copy as it is put into a buffer, and what the reading by the old rules comes to.
--- Assumes nothing.
 use Rattle.common_laws.proofs.Base.{Bool, true, false, _||_, List, [], _∷_, _++_, append-nil, append-assoc, _≡_, refl, sym, ap, fun-ext, _∙_, ℕ, zero, suc, _+_, _*_, _-_, _≤_, _<_}
 use Rattle.common_laws.proofs.Base.{arith, le-ltb, length, drop, length-append, replicate, length-replicate}
 use Rattle.sizes.specs.Sizes as Size

@@ -1,5 +1,4 @@
 -- An analysis accepts a netlist text with its pads added as output lines.
--- Assumes nothing.
 use Rattle.common_laws.proofs.Base.{List, [], _∷_, _++_, map, Option, none, some, _≡_, refl, _∙_, ℕ, _+_, _≤_, length}
 use Rattle.sizes.specs.Sizes as Size
 use Rattle.reading.specs.Choice.{pick}

@@ -1,5 +1,4 @@
 -- A text in front of another: where every line of the first is ended, the lines of both are those of the one and of the other.
--- Assumes nothing.
 use Rattle.common_laws.proofs.Base.{Bool, true, false, List, [], _∷_, _++_, Option, none, some, _≡_, refl, sym, ap, _∙_, ℕ, arith, eqb, eq-eqb}
 use Rattle.reading.specs.Each.{Each}
 use Rattle.reading.proofs.Laws.{by-test}

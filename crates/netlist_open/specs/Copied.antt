@@ -1,7 +1,6 @@
 -- What the program `scoap_open` prints. Document 02, K5: "A small program prints a copy of a netlist that the old rules accept,
 -- with `open,L` added at its end for each such line, ascending; it reads the files, and reports a refused one, as `scoap`
 -- does."
--- Assumes nothing.
 use mathlib.Core.Bool.{_||_}
 use mathlib.Core.List.{List, [], _∷_}
 use mathlib.Core.Path.{_≡_}

@@ -1,6 +1,5 @@
 -- The copy of a netlist with its open lines. Document 02, K5: "A small program prints a copy of a netlist that the old rules
 -- accept, with `open,L` added at its end for each such line, ascending".
--- Assumes nothing.
 use mathlib.Core.List.{List, [], _∷_, _++_}
 use Prim.Native.Nat.{ℕ}
 use Rattle.text.specs.Bytes.{bytes}

@@ -1,6 +1,5 @@
 -- What the copy keeps. Document 02, K5: "Where the copy keeps to document 01's sizes, its six numbers equal those the old rules
 -- gave."
--- Assumes nothing.
 use mathlib.Core.Bool.{false}
 use mathlib.Core.List.{List}
 use mathlib.Core.Path.{_≡_}

@@ -1,5 +1,4 @@
 -- A netlist text with pads added as output lines. Document 02, K11: "the committed pads as outputs".
--- Assumes nothing.
 use mathlib.Core.Bool.{true}
 use mathlib.Core.List.{List, [], _∷_, _++_}
 use mathlib.Core.Path.{_≡_}

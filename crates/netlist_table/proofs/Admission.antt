@@ -1,5 +1,4 @@
 -- Statements admitted one after the other, and the table that holds none.
--- Assumes nothing.
 use Rattle.common_laws.proofs.Base.{List, [], _∷_, _++_, flatMap, Option, none, some, _≡_, refl, ap, _∙_, ℕ, zero, suc, _+_, _*_, _≤_, min, arith, length, drop, replicate}
 use Rattle.common_laws.proofs.Base.{replicate-append-replicate, ne-eqb}
 use native.Mathlib.Nat.{sub-zero}

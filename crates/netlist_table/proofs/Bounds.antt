@@ -1,5 +1,4 @@
 -- A refused netlist text, or list of statements, is told by a number of its own, and a line.
--- Assumes nothing.
 use Rattle.common_laws.proofs.Base.{List, [], _∷_, _++_, Option, _≡_, refl, ap, ℕ, suc, _+_, _≤_, arith, length}
 use Rattle.reading.specs.Numbers as No
 use Rattle.reading.specs.Refusal.{read, form}

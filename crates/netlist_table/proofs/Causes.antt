@@ -1,5 +1,4 @@
 -- Why a statement is refused, as the tests of the code have it, and what the statements behind one more say.
--- Assumes nothing.
 use Rattle.common_laws.proofs.Base.{Bool, true, false, not, _||_, or-false, or-true, or-assoc, List, [], _∷_, _++_, append-nil, flatMap, _⊎_, ⊎-elim, _≡_, refl, sym, ap, _∙_, ℕ}
 use Rattle.common_laws.proofs.Base.{zero, suc, _+_, _*_, _≤_, _<_, not-suc-le-zero, le-of-suc-le-suc, needs, arith, le-leb, lt-leb, leb-true, leb-false, ltb-false, ne-eqb, leb}
 use Rattle.common_laws.proofs.Base.{ltb, eqb, length, getD}

@@ -1,5 +1,4 @@
 -- Copying one number after the other.
--- Assumes nothing.
 use Rattle.common_laws.proofs.Base.{List, [], _∷_, _++_, append-assoc, _≡_, sym, ℕ, suc, _+_, _<_, arith, length, getD, take, drop, set, set-at, take-suc, drop-cons}
 use Rattle.common_laws.proofs.Base.{length-take-le}
 

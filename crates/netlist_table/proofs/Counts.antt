@@ -1,6 +1,5 @@
 -- How many gates and outputs there can be: each gate drives a line of its own, no line is an output twice, and there are 1,000
 -- lines.
--- Assumes nothing.
 use Rattle.common_laws.proofs.Base.{true, false, List, [], _∷_, flatMap, _≡_, refl, ap, subst, ℕ, zero, suc, _≤_, arith, eqb, length, eqb-true, eqb-false, eq-eqb}
 use Rattle.sizes.specs.Sizes as Size
 use Rattle.reading.specs.Choice.{pick}

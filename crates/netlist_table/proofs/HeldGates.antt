@@ -1,5 +1,4 @@
 -- A table that holds statements says of their gates. What each law says is in specs/Gates.antt's words.
--- Assumes nothing.
 use Rattle.common_laws.proofs.Base.{List, [], _∷_, _++_, _≡_, refl, sym, ap, ap₂, _∙_, ℕ, zero, suc, _+_, _-_, _≤_, _<_, decLt, arith, length, getD, drop, length-take, length-drop}
 use Rattle.common_laws.proofs.Base.{List·getD-eq-default, getD-take, getD-drop, ext-getD, ne-eqb}
 use Rattle.sizes.specs.Sizes as Size

@@ -1,5 +1,4 @@
 -- A table that holds statements says of their lines. What each law says is in specs/Lines.antt's words.
--- Assumes nothing.
 use Rattle.common_laws.proofs.Base.{Bool, false, not, Bool·not-not, List, _++_, _≡_, refl, ap, _∙_, ℕ, zero, suc, _+_, _-_, _≤_, _<_, arith, eqb, length}
 use Rattle.sizes.specs.Places.{mentionPlace}
 use Rattle.sizes.specs.Sizes as Size

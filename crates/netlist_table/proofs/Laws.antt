@@ -1,5 +1,5 @@
 -- What readers of a netlist cite: the facts of every netlist that was read. What stands at a place of the table is in
--- `Places.antt`. Assumes nothing.
+-- `Places.antt`.
 use Rattle.common_laws.proofs.Base.{true, false, or-true, List, [], _∷_, _++_, List·Memᴰ, List·Memᴰ·head, List·Memᴰ·tail, List·Memᴰ·not-nil, flatMap, ⊎-elim, Option, _≡_, refl}
 use Rattle.common_laws.proofs.Base.{sym, ap, _∙_, ℕ, suc, _+_, eqb, length, getD, eq-eqb, eqb-true, eqb-false}
 use Rattle.text.specs.Lines.{lines}

@@ -1,5 +1,4 @@
 -- The lowest of the causes of a line, for any list of causes of which no number is 0.
--- Assumes nothing.
 use Rattle.common_laws.proofs.Base.{Bool, false, List, [], _∷_, _++_, _≡_, refl, ℕ, _≤_, arith, eqb, ne-eqb}
 use Rattle.reading.specs.Choice.{pick}
 use Rattle.reading.specs.Each.{Each}

@@ -1,5 +1,4 @@
 -- What the table says of lines that nothing declares, behind refusal 20, and whether there is a range.
--- Assumes nothing.
 use Rattle.common_laws.proofs.Base.{Bool, true, false, not, _&&_, _||_, and-false, or-assoc, Bool·not-not, List, [], _∷_, flatMap, _⊎_, inl, inr, ⊎-elim, _≡_, refl, ap, _∙_, ℕ}
 use Rattle.common_laws.proofs.Base.{zero, suc, _+_, _-_, _≤_, _<_, arith, eqb, eqb-true}
 use Rattle.sizes.specs.Sizes as Size

@@ -1,6 +1,5 @@
 -- A netlist that was read under some cells, under others: all but the cells of its gates is the same, so that it is refused for
 -- these alone.
--- Assumes nothing.
 use Rattle.common_laws.proofs.Base.{Bool, false, not, _&&_, _||_, List, [], _∷_, _++_, map, flatMap, map-append, inl, inr, Option, none, some, _≡_, refl, sym, _∙_, ap, ap₂, ℕ, suc}
 use Rattle.common_laws.proofs.Base.{arith}
 use Rattle.sizes.specs.Sizes as Size

@@ -1,5 +1,4 @@
 -- One output mark more, of a line that the netlist mentions and that is no output yet: a pad. Document 02, K11.
--- Assumes nothing.
 use Rattle.common_laws.proofs.Base.{Bool, true, false, _||_, or-false, List, [], _∷_, _++_, map, append-nil, append-assoc, flatMap, some, _≡_, refl, sym, _∙_, ap, ℕ, suc, eqb}
 use Rattle.common_laws.proofs.Base.{le-leb, eqb-true, eq-eqb}
 use Rattle.common_laws.proofs.Lists.{flatMap-append}

@@ -1,5 +1,4 @@
 -- What stands at a place of the netlist table.
--- Assumes nothing.
 use Rattle.common_laws.proofs.Base.{List, _∷_, _++_, _≡_, refl, sym, ap, _∙_, ℕ, zero, suc, _+_, _*_, _≤_, _<_, add-zero, add-suc, not-suc-le-zero, le-of-suc-le-suc, one-add}
 use Rattle.common_laws.proofs.Base.{arith, length, getD, length-append, List·getD-append, getD-append-add}
 use Rattle.sizes.specs.Places.{driverPlace, gatePlace, mentionPlace, outputPlace, rangePlace, rangedPlace}

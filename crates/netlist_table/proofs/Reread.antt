@@ -1,5 +1,4 @@
 -- A netlist read again under another library.
--- Assumes nothing.
 use Rattle.common_laws.proofs.Base.{_&&_, List, [], _∷_, _++_, Option, none, some, _≡_, refl, sym, _∙_, ap, ap₂, ℕ, suc, arith}
 use Rattle.text.specs.Bytes.{bytes}
 use Rattle.text.specs.Lines.{lines, sameBytes}

@@ -1,4 +1,4 @@
--- The facts of statements that were admitted are kept by one statement more. Assumes nothing.
+-- The facts of statements that were admitted are kept by one statement more.
 use Rattle.common_laws.proofs.Base.{Bool, true, false, _||_, List, [], _∷_, _++_, flatMap, inl, inr, Option, none, some, _≡_, refl, sym, ℕ, _+_, _≤_, _<_, arith, eqb, length}
 use Rattle.common_laws.proofs.Base.{length-append, ne-eqb, eqb-true, eqb-false, leb-false, not-false}
 use Rattle.sizes.specs.Sizes as Size

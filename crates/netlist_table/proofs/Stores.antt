@@ -1,5 +1,4 @@
 -- Stores into the netlist table: one statement more.
--- Assumes nothing.
 use Rattle.common_laws.proofs.Base.{Bool, true, false, _||_, or-false, or-true, List, [], _∷_, _++_, append-nil, append-assoc, flatMap, _≡_, refl, sym, ap, ap₂, fun-ext, _∙_, ℕ}
 use Rattle.common_laws.proofs.Base.{zero, suc, _+_, _*_, _≤_, _<_, zero-add, add-suc, suc-add, add-zero, add-comm, add-assoc, zero-mul, suc-mul, not-suc-le-zero, le-of-suc-le-suc}
 use Rattle.common_laws.proofs.Base.{add-one, one-add, arith, eqb, length, getD, set, take, length-append, length-set, getD-set-same, getD-set-other, ext-getD, sets, take-suc}

@@ -1,5 +1,4 @@
 -- Statements without ranges: those of forms of which none is a range, as the old rules and record lists have them.
--- Assumes nothing.
 use Rattle.common_laws.proofs.Base.{Bool, true, false, List, [], _∷_, Option, none, some, _≡_, refl, sym, _∙_, ℕ, suc, arith, eqb, eqb-true, eqb-false}
 use Rattle.reading.specs.Choice.{pick}
 use Rattle.reading.specs.Each.{Each}

@@ -1,5 +1,4 @@
 -- One statement over plain numbers, as `admit` takes it from texts and from records, and what admitting it comes to.
--- Assumes nothing.
 use mathlib.Core.Bool.{Bool, true, false, _&&_, not}
 use mathlib.Core.List.{List, [], _∷_, _++_}
 use mathlib.Core.Logic.{_⊎_}

@@ -1,5 +1,4 @@
 -- The gate ceiling. Document 02, K9: "Each gate drives a line of its own, there are 1,000 lines, and 14 comes first."
--- Assumes nothing.
 use mathlib.Core.Bool.{true}
 use mathlib.Core.List.{List}
 use mathlib.Core.Logic.{_⊎_}

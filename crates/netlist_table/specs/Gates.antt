@@ -1,6 +1,5 @@
 -- What a netlist table says of its gates, whatever stands in it (docs/TABLES.md); a place past its end counts as 0.
 -- `proofs/HeldGates.antt` shows that of a table that holds statements these are their gates.
--- Assumes nothing.
 use mathlib.Core.List.{List, [], _∷_}
 use Prim.Native.Nat.{ℕ, zero, suc, _+_, _≤_, _<_, min}
 use lib.Dec.{eqb}

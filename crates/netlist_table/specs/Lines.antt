@@ -1,6 +1,5 @@
 -- What a netlist table says of its lines, whatever stands in it (docs/TABLES.md); a place past its end counts as 0.
 -- `proofs/HeldLines.antt` shows that of a table that holds statements this is what they say.
--- Assumes nothing.
 use mathlib.Core.Bool.{Bool, not}
 use mathlib.Core.List.{List}
 use Prim.Native.Nat.{ℕ}

@@ -1,5 +1,4 @@
 -- The lowest of the causes of a line: what a list of causes, each a number with whether it holds, comes to as one number.
--- Assumes nothing.
 use mathlib.Core.Bool.{Bool}
 use mathlib.Core.List.{List, [], _∷_}
 use Prim.Native.Nat.{ℕ}

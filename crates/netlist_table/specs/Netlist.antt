@@ -1,6 +1,5 @@
 -- The netlist: its statements, and where a text of them stops. Document 01, "Netlist" and "Where a text stops", netlist line;
 -- document 02, K5 and K10.
--- Assumes nothing.
 use mathlib.Core.Bool.{Bool, true, false, not, _&&_, _||_}
 use mathlib.Core.List.{List, [], _∷_, _++_, flatMap}
 use mathlib.Core.Option.{Option, none, some}

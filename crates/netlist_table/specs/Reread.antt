@@ -1,5 +1,4 @@
 -- A netlist read again under another library. Document 02, K14. What is shown stands in proofs/Reread.antt.
--- Assumes nothing.
 use mathlib.Core.List.{List}
 use mathlib.Core.Logic.{_⊎_}
 use mathlib.Core.Path.{_≡_}

@@ -1,6 +1,5 @@
 -- What holds of the statements of every netlist that is read: the facts on which the parts behind the reader rest.
 -- `proofs/Laws.antt` shows them of every text, and of every list of statements that is admitted, and gives them by membership.
--- Assumes nothing.
 use mathlib.Core.Bool.{true, false}
 use mathlib.Core.List.{List, [], _∷_, List·Memᴰ}
 use mathlib.Core.Path.{_≡_}

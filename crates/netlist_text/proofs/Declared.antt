@@ -1,5 +1,4 @@
 -- What comes behind the lines of a text: refusal 20; and what the reader as a call of its own leaves.
--- Assumes nothing.
 use Rattle.common_laws.proofs.Base.{true, false, _&&_, List, _++_, _≡_, ap, _∙_, ℕ, length, drop, replicate}
 use Rattle.sizes.specs.Sizes as Size
 use Rattle.reading.specs.Choice.{pick}

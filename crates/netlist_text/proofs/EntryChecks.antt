@@ -1,5 +1,4 @@
 -- The entry of the reader: what its two checks say of the lengths, and what the reader answers and leaves then.
--- Assumes nothing.
 use Rattle.common_laws.proofs.Base.{List, [], _≡_, refl, sym, _∙_, ℕ, _≤_, ltb-false, ltb, length}
 use Rattle.sizes.specs.Sizes as Size
 use Rattle.reading.specs.Numbers as No

@@ -1,5 +1,4 @@
 -- The statement of a line of text, field by field.
--- Assumes nothing.
 use Rattle.common_laws.proofs.Base.{Bool, true, false, _&&_, _||_, or-false, or-assoc, List, [], _∷_, _++_, append-nil, append-assoc, inl, Option, none, some, _≡_, refl, sym, ap}
 use Rattle.common_laws.proofs.Base.{_∙_, ℕ, _+_, _≤_, _<_, arith, ne-eqb, eqb, length, getD, set, length-append}
 use Rattle.sizes.specs.Sizes as Size

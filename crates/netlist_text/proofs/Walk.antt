@@ -1,5 +1,4 @@
 -- The walk over the lines of a text, from a cursor on.
--- Assumes nothing.
 use Rattle.common_laws.proofs.Base.{List, [], _∷_, _++_, Option, _≡_, sym, ap, _∙_, ℕ, _+_, _-_, _≤_, _<_, add-one, arith, length, drop, drop-at}
 use Rattle.sizes.specs.Sizes as Size
 use Rattle.table.specs.Blocks.{cleared}

@@ -1,5 +1,4 @@
 -- The pins of a line of text, as they are gathered.
--- Assumes nothing.
 use mathlib.Core.Bool.{true, false}
 use mathlib.Core.List.{List}
 use mathlib.Core.Option.{Option, none, some}

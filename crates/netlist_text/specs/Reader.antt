@@ -1,5 +1,4 @@
 -- The reader of a netlist text: what reading one answers and leaves.
--- Assumes nothing.
 use mathlib.Core.Bool.{true, false, _||_}
 use mathlib.Core.List.{List, [], _∷_, _++_}
 use mathlib.Core.Path.{_≡_}

@@ -1,5 +1,4 @@
 -- The laws that carry a sentence of the papers, as one theorem.
--- Assumes nothing.
 use mathlib.Core.List.{[]}
 use Rattle.netlist_table.specs.declared.Rules.the-variants.{New}
 use Rattle.netlist_table.proofs.Reread.{text-rereadable}

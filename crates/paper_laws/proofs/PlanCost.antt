@@ -1,5 +1,4 @@
 -- A plan written out beside a standing analysis costs the number that stands.
--- Assumes nothing.
 use Rattle.common_laws.proofs.Base.{true, _&&_, List, _≡_, refl, sym, ap, subst, _∙_, ℕ, _+_, _≤_, arith, leb-true, leb, getD}
 use Rattle.sizes.specs.Sizes as Size
 use Rattle.reading.specs.Choice.{pick}

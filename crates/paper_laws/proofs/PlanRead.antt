@@ -1,5 +1,4 @@
 -- A plan's text read back is the plan's tree: its lines by their depths, then the tree of the depths.
--- Assumes nothing.
 use Rattle.common_laws.proofs.Base.{true, false, List, [], _∷_, _++_, map, append-assoc, append-nil, List·Memᴰ, List·Memᴰ·head, List·Memᴰ·tail, List·Memᴰ·not-nil}
 use Rattle.common_laws.proofs.Base.{List·Memᴰ·append-cases, ⊎-elim, Option, some, _≡_, refl, sym, ap, _∙_, ℕ, zero, suc, _+_, _%_, _/_, _^_, _≤_, _<_, arith, eq-eqb, ne-eqb, eqb}
 use Rattle.common_laws.proofs.Base.{ltb, length, length-append}

@@ -1,5 +1,4 @@
 -- Which line, and which number, a text is refused by: weighing conditions in ascending order finds the least cause.
--- Assumes nothing.
 use Rattle.common_laws.proofs.Base.{Bool, true, false, not, _||_, List, [], _∷_, _++_, List·Memᴰ, List·Memᴰ·head, List·Memᴰ·tail, List·Memᴰ·not-nil, _↔_, Option, none, some, _≡_}
 use Rattle.common_laws.proofs.Base.{refl, sym, ap, subst, _∙_, ℕ, suc, _≤_, _<_, arith, leb, eqb, length}
 use Rattle.sizes.specs.Sizes as Size

@@ -1,6 +1,5 @@
 -- The laws that carry a sentence of the papers and are no clause of a promise, each under the statement of its home. `laws-hold`
 -- of proofs/Laws.antt is their proof.
--- Assumes nothing.
 use mathlib.Core.List.{List}
 use Prim.Native.Nat.{ℕ}
 use Rattle.netlist_table.specs.Ceiling.{GateCeiling}

@@ -1,6 +1,5 @@
 -- A plan written out beside a standing analysis. Document 02, K14: "a plan written out has the reported cost but may be
 -- another".
--- Assumes nothing.
 use mathlib.Core.List.{List}
 use mathlib.Core.Path.{_≡_}
 use Prim.Native.Nat.{ℕ, _+_}

@@ -1,6 +1,5 @@
 -- A plan's text read back. Document 02, K3: "One text line per node, parents before children, as `depth in tree,line,value,row`."
 -- The text is taken apart by its bytes alone: lines, fields, and the tree that the depths tell.
--- Assumes nothing.
 use mathlib.Core.List.{List, [], _∷_, map}
 use mathlib.Core.Option.{Option, none, some}
 use mathlib.Core.Path.{_≡_}

@@ -1,7 +1,6 @@
 -- Which line, and which number, a text is refused by. Document 01, "Where a text stops": "the topmost bad line counts, and within
 -- it the lowest number." The readers weigh lists of conditions in their order; here is no order: a line has causes, and the
 -- number is the least of them.
--- Assumes nothing.
 use mathlib.Core.Bool.{true, not, _||_}
 use mathlib.Core.List.{List, [], _∷_, _++_, List·Memᴰ}
 use mathlib.Core.Logic.{_↔_}

@@ -1,5 +1,4 @@
 -- The end of the call.
--- Assumes nothing.
 use Rattle.common_laws.proofs.Base.{true, _&&_, List, _++_, _≡_, refl, sym, ap, _∙_, ℕ, zero, suc, _+_, _≤_, _<_, ℕ-discrete, arith, lt-ltb, le-ltb, le-leb, leb-true, ltb-true}
 use Rattle.common_laws.proofs.Base.{ltb-false, leb, ltb, length, getD, take, drop, List·getD-append, take-at}
 use Rattle.sizes.specs.Sizes as Size

@@ -1,5 +1,4 @@
 -- What is printed of two texts, from the promise of `write_plan` on tables of its own and a buffer of 65,536 bytes.
--- Assumes nothing.
 use Rattle.common_laws.proofs.Base.{true≢false, List, _≡_, refl, sym, ap, _∙_, ℕ, arith, length}
 use Rattle.sizes.specs.Sizes as Size
 use Rattle.reading.specs.Choice.{pick}

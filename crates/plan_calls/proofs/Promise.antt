@@ -1,5 +1,4 @@
 -- From the parts of the call to its promise.
--- Assumes nothing.
 use Rattle.common_laws.proofs.Base.{true, false, true≢false, _||_, List, _≡_, refl, sym, ap, subst, _∙_, ℕ, arith, eqb-true, eqb, length, drop, replicate}
 use Rattle.sizes.specs.Sizes as Size
 use Rattle.reading.specs.Choice.{pick}

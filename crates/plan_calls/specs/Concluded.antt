@@ -1,5 +1,4 @@
 -- What is written of an accepted library and netlist. Document 02, K3.
--- Assumes nothing.
 use mathlib.Core.Bool.{Bool, true, false, _&&_}
 use mathlib.Core.List.{List, [], _∷_, _++_}
 use mathlib.Core.Path.{_≡_, refl}

@@ -1,5 +1,4 @@
 -- What a call that writes out the cheapest way answers and leaves. Document 02, K3.
--- Assumes nothing.
 use mathlib.Core.Bool.{Bool, true, false, _||_}
 use mathlib.Core.List.{List, _++_}
 use mathlib.Core.Path.{_≡_}

@@ -1,5 +1,4 @@
 -- Plans written out: whole texts in, whole text out, by computation over the definitions. Document 02, K3.
--- Assumes nothing.
 use mathlib.Core.List.{List, [], _∷_}
 use mathlib.Core.Path.{_≡_, refl}
 use Prim.Native.Nat.{ℕ}

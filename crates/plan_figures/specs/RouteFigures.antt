@@ -1,6 +1,5 @@
 -- Routes written out: whole texts in, whole text out, by computation over the definitions. They are figures of request E1, whose
 -- call is to come (D196).
--- Assumes nothing.
 use mathlib.Core.List.{List, [], _∷_}
 use mathlib.Core.Path.{_≡_, refl}
 use Prim.Native.Nat.{ℕ}

@@ -1,5 +1,4 @@
 -- A visit with its mark: what is noted of it is what the definitions remember.
--- Assumes nothing.
 use Rattle.common_laws.proofs.Base.{List, [], _∷_, Option, none, some, _≡_, refl, sym, ap, _∙_, ℕ, suc, _+_, _*_, _≤_, _<_, ℕ-discrete, arith, lt-ltb, length, getD, set}
 use Rattle.common_laws.proofs.Base.{length-set, sets, getD-set-same, getD-set-other}
 use Rattle.sizes.specs.Sizes as Size

@@ -1,6 +1,5 @@
 -- The sweeps that observe lines, of one kind, from the numbers that those that set lines leave: they rest after as many as
 -- document 01 allows, what they remember tells the way of each number, and their numbers are those reported.
--- Assumes nothing.
 use Rattle.common_laws.proofs.Base.{List, none, some, _≡_, refl, sym, ap, _∙_, ℕ, _+_, _*_, _%_, _≤_, le-trans, arith, length}
 use Rattle.sizes.specs.Sizes as Size
 use Rattle.cost.specs.Cost.{most}

@@ -1,5 +1,4 @@
 -- Outputs that are added, as pads are, change nothing of what the sweeps that set lines remember. Of request E1 (D196).
--- Assumes nothing.
 use Rattle.common_laws.proofs.Base.{List, _≡_, refl, sym, ap, _∙_, ℕ, _+_, _*_, length}
 use Rattle.plans.specs.Sweep.{at, renew}
 use Rattle.plans.specs.Continued.{Alike}

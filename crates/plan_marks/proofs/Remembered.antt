@@ -1,5 +1,4 @@
 -- Sweeps that remember, one after the other: where they rest, they remember nothing more.
--- Assumes nothing.
 use Rattle.common_laws.proofs.Base.{Bool, true, false, List, [], _∷_, _++_, List·Memᴰ·head, List·Memᴰ·tail, Option, some, _≡_, refl, sym, ap, _∙_, ℕ, zero, suc, _+_, _≤_, _<_}
 use Rattle.common_laws.proofs.Base.{decLt, le-trans, arith, le-ltb, ltb, length, set-out}
 use Rattle.reading.specs.Choice.{pick}

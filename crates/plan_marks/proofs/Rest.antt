@@ -1,6 +1,5 @@
 -- The sweeps of one kind from the start on: they rest after as many as document 01 allows, and their numbers are those
 -- reported.
--- Assumes nothing.
 use Rattle.common_laws.proofs.Base.{List, List·Memᴰ, Memᴰ·append-left, Memᴰ·append-right, _≡_, refl, sym, ap, subst, _∙_, ℕ, _+_, _*_, arith, length}
 use Rattle.sizes.specs.Sizes as Size
 use Rattle.plans.specs.System.{Way, Visit, Offers}

@@ -1,5 +1,4 @@
 -- The first of the rows that come to the least sum, and the same over the costs of the columns and over the numbers.
--- Assumes nothing.
 use Rattle.common_laws.proofs.Base.{Bool, true, false, List, [], Option, none, some, _≡_, refl, sym, _∙_, ℕ, zero, suc, _+_, _*_, _-_, _^_, _≤_, _<_, arith, le-leb, lt-leb}
 use Rattle.common_laws.proofs.Base.{ltb-true, ltb-false, ltb, getD}
 use Rattle.sizes.specs.Sizes as Size

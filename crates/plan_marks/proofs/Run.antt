@@ -1,5 +1,4 @@
 -- The run at the tables of accepted cells and statements: its marks are those that the definitions remember.
--- Assumes nothing.
 use Rattle.common_laws.proofs.Base.{false, List, Option, none, _≡_, refl, sym, ap, subst, _∙_, ℕ, zero, suc, _+_, _*_, _-_, _≤_, _<_, arith, length, getD, getD-replicate}
 use Rattle.common_laws.proofs.Base.{replicate, length-replicate, List·getD-eq-default, decLt}
 use Rattle.sizes.specs.Sizes as Size

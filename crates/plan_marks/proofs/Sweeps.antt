@@ -1,5 +1,4 @@
 -- The turns of a sweep with their marks, and those that are passed over.
--- Assumes nothing.
 use Rattle.common_laws.proofs.Base.{Bool, false, List, [], _≡_, refl, sym, ap, _∙_, ℕ, zero, suc, _*_, arith, length, length-append}
 use Rattle.sizes.specs.Sizes as Size
 use Rattle.reading.specs.Choice.{pick}

@@ -1,7 +1,6 @@
 -- At which times a gate's pins have their turns in the sweeps that observe lines: behind those of all later gates, "gates in
 -- reverse order, pins in order". So what a writer of marks notes, a gate and a pin, is the turn at the mark's time.
 -- No code cites this page yet: the marks of request E1 are to (D196).
--- Assumes nothing.
 use Rattle.common_laws.proofs.Base.{List, [], _∷_, _++_, append-assoc, append-nil, _≡_, refl, sym, ap, _∙_, ℕ, zero, suc, _+_, _*_, _%_, _<_, mod-eq-of-lt, add-mul-mod-self-right}
 use Rattle.common_laws.proofs.Base.{arith, length, length-append, getD-append-add}
 use Rattle.library_table.specs.Cells.{Cell}

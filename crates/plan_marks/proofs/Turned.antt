@@ -1,6 +1,5 @@
 -- The turns of a sweep: each is of a gate of the netlist, in a role that its cell has; and the visit that is made at a time is
 -- that of the turn at that time.
--- Assumes nothing.
 use Rattle.common_laws.proofs.Base.{List, [], _∷_, map, List·Memᴰ, List·Memᴰ·head, List·Memᴰ·tail, List·Memᴰ·not-nil, List·Memᴰ·append-cases, Memᴰ·of-map, ⊎-elim, _≡_, refl, sym}
 use Rattle.common_laws.proofs.Base.{ap, _∙_, ℕ, zero, suc, _+_, _%_, _≤_, _<_, mod-lt, arith, length, getD, length-map}
 use Rattle.common_laws.proofs.Lists.{getD-map}

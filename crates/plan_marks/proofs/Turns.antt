@@ -1,5 +1,4 @@
 -- Visits with their marks one after the other.
--- Assumes nothing.
 use Rattle.common_laws.proofs.Base.{Bool, false, _||_, List, [], _∷_, _≡_, refl, sym, ap, _∙_, ℕ, _+_, le-trans, add-one, length}
 use Rattle.reading.specs.Choice.{pick}
 use Rattle.plans.specs.System.{Visit}

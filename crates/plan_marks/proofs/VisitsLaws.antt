@@ -1,5 +1,4 @@
 -- A visit out of the tables, from what the parts of `visit` read and store.
--- Assumes nothing.
 use Rattle.common_laws.proofs.Base.{Bool, true, false, List, [], _∷_, Option, some, _≡_, refl, sym, ap, _∙_, ℕ, suc, _+_, _*_, _^_, _≤_, _<_, decLe, arith, eqb-true, eqb-false}
 use Rattle.common_laws.proofs.Base.{not-true, not-false, length, getD, set, sets, length-sets, set-getD}
 use Rattle.sizes.specs.Sizes as Size

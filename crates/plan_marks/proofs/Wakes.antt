@@ -1,5 +1,4 @@
 -- A gate's two visits, and those that read its line awake after a number of it was lowered.
--- Assumes nothing.
 use Rattle.common_laws.proofs.Base.{Bool, false, or-false, List, [], _∷_, _≡_, refl, sym, _∙_, ℕ, _<_, arith, getD}
 use Rattle.reading.specs.Choice.{pick}
 use Rattle.plans.specs.System.{Visit}

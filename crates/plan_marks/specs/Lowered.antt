@@ -2,7 +2,6 @@
 -- lowered the number, the first in library order among equals at that visit". Request E1 (D196), of a line observed: the gate is
 -- the one at whose visit the sweeps last lowered its number, the pin the lowest, and the row the first in library order, of those
 -- whose sums reach the number at that visit.
--- Assumes nothing.
 use mathlib.Core.List.{List}
 use mathlib.Core.Option.{Option}
 use Prim.Native.Nat.{ℕ, _+_, _*_, _%_}

@@ -1,6 +1,5 @@
 -- The marks as numbers of a table: what stands there of the visit that last lowered a number.
 -- A kind is a number here, 0 combinational and 1 sequential.
--- Assumes nothing.
 use mathlib.Core.List.{List}
 use mathlib.Core.Option.{Option, none, some}
 use mathlib.Core.Path.{_≡_}

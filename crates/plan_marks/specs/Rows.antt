@@ -1,6 +1,5 @@
 -- A row of a group: which one is way k, how it is written, by which columns it asks, and the first that comes to the least row
 -- sum.
--- Assumes nothing.
 use mathlib.Core.Bool.{Bool}
 use mathlib.Core.List.{List}
 use mathlib.Core.Option.{Option, none, some}

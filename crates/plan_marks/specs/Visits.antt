@@ -1,5 +1,4 @@
 -- What a visit and a gate's two visits ask and leave.
--- Assumes nothing.
 use mathlib.Core.Bool.{Bool}
 use mathlib.Core.List.{List}
 use mathlib.Core.Path.{_≡_}

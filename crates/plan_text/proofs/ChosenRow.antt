@@ -1,6 +1,5 @@
 -- What a mark tells: which gate serves a purpose, in which role and by which row, that what the row asks for was last lowered
 -- earlier, and that it sums to the number.
--- Assumes nothing.
 use Rattle.common_laws.proofs.Base.{List, [], _∷_, List·Memᴰ, Memᴰ·map, Memᴰ·of-map, map, _⊎_, inl, inr, Option, none, some, _≡_, refl, sym, ap, subst, _∙_, ℕ, suc, _+_, _≤_, _<_}
 use Rattle.common_laws.proofs.Base.{arith, length, getD, length-map}
 use Rattle.common_laws.proofs.Lists.{getD-map}

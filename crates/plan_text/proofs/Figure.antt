@@ -1,7 +1,6 @@
 -- Wherever the number of a purpose is a figure, the marks tell a plan for it: one in document 01's own sense, whose rows are those
 -- by which the sweeps last lowered each number, at just that cost, than which none costs less. So it is of a line set to a value
 -- (document 02, K3) and of a line observed (request E1), loops or not.
--- Assumes nothing.
 use Rattle.common_laws.proofs.Base.{List, [], _≡_, refl, sym, _∙_, ℕ, suc, _≤_, _<_, arith, getD}
 use Rattle.cost.specs.Cost.{most}
 use Rattle.plans.specs.Sweep.{at}

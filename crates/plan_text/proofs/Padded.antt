@@ -1,6 +1,5 @@
 -- Outputs that are added, as pads are, change no setting plan's text: the setting plans of a route are those that K3 writes.
 -- No code cites this page yet: request E1 is to (D196).
--- Assumes nothing.
 use Rattle.common_laws.proofs.Base.{List, [], _∷_, _++_, map, List·Memᴰ, List·Memᴰ·head, List·Memᴰ·tail, append-nil, append-assoc, Option, none, some, _≡_, refl, sym, ap, ap₂}
 use Rattle.common_laws.proofs.Base.{subst, _∙_, ℕ, zero, suc, _%_, _≤_, _<_, decLt, arith, length, getD, List·getD-eq-default}
 use Rattle.plans.specs.Trace.{Mark}

@@ -1,6 +1,5 @@
 -- The plan that the marks tell: one for just the purpose and the kind, at the number reported, and its text is the one that is
 -- computed and the one that is written. A line set to a value and a line observed go the same way.
--- Assumes nothing.
 use Rattle.common_laws.proofs.Base.{Bool, true, false, List, [], _∷_, _++_, List·Memᴰ, List·Memᴰ·head, List·Memᴰ·tail, Option, none, some, _≡_, refl, sym, ap, ap₂, subst, _∙_, ℕ}
 use Rattle.common_laws.proofs.Base.{zero, suc, _+_, _≤_, _<_, le-trans, le-refl, arith, length}
 use Rattle.reading.specs.Choice.{pick}

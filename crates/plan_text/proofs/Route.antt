@@ -1,7 +1,6 @@
 -- A route goes from line to line: a node that observes has the values that its row names below it, and then, last, the node that
 -- observes its gate's output. So a writer may go along a route in a loop, and turn to the writer of setting plans for each value.
 -- No code cites this page yet: the writer of request E1 is to (D196).
--- Assumes nothing.
 use Rattle.common_laws.proofs.Base.{Bool, true, false, List, [], _∷_, _++_, List·Memᴰ, append-assoc, append-nil, some, _≡_, refl, sym, ap, _∙_, ℕ, suc, _≤_, _<_, arith, length}
 use Rattle.reading.specs.Choice.{pick}
 use Rattle.cost.specs.Cost.{most}

@@ -1,5 +1,4 @@
 -- A mark's time is before the end of the sweeps, which are few.
--- Assumes nothing.
 use Rattle.common_laws.proofs.Base.{List, [], _∷_, _⊎_, inl, inr, Option, none, some, Option·some-injective, Option·none-ne-some, _≡_, refl, sym, ap, subst, _∙_, ℕ, zero, suc, _+_}
 use Rattle.common_laws.proofs.Base.{_*_, _≤_, _<_, ℕ-discrete, decLt, arith, lt-ltb, le-ltb, length, getD, set, replicate, length-replicate, getD-replicate, List·getD-eq-default}
 use Rattle.common_laws.proofs.Base.{getD-set-same, getD-set-other, set-out}

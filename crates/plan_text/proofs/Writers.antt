@@ -1,5 +1,4 @@
 -- What the two writers put.
--- Assumes nothing.
 use Rattle.common_laws.proofs.Base.{List, [], _∷_, _++_, _≡_, refl, sym, ap, _∙_, ℕ, zero, suc, _+_, _-_, _/_, _%_, _^_, _≤_, _<_, add-one, arith, lt-ltb, le-ltb, ltb-true, bitAnd}
 use Rattle.common_laws.proofs.Base.{trailingZeros, ltb, length}
 use Rattle.common_laws.proofs.Lists.{sets-past}

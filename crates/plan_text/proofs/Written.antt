@@ -1,5 +1,4 @@
 -- What the two writers put from the tables that `trace` and the readers leave is the text of the plan.
--- Assumes nothing.
 use Rattle.common_laws.proofs.Base.{Bool, true, false, _&&_, List, [], _∷_, _++_, List·Memᴰ, List·Memᴰ·head, List·Memᴰ·tail, map, append-nil, Option, none, some, _≡_, refl, sym}
 use Rattle.common_laws.proofs.Base.{ap, ap₂, subst, _∙_, ℕ, zero, suc, _+_, _*_, _-_, _/_, _%_, _^_, _≤_, _<_, le-trans, pow-le-pow-right, arith, ne-eqb, length, getD}
 use Rattle.sizes.specs.Sizes as Size

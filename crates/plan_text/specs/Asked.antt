@@ -1,5 +1,4 @@
 -- What putting a plan asks and leaves.
--- Assumes nothing.
 use mathlib.Core.List.{List}
 use mathlib.Core.Path.{_≡_}
 use Prim.Native.Nat.{ℕ, _≤_}

@@ -1,6 +1,5 @@
 -- The plan that is written out. Document 02, K3: "The text is a plan in document 01's sense and costs exactly the reported
 -- number." Request E1 (D196) asks the same of an observing plan and the CO or SO reported.
--- Assumes nothing.
 use mathlib.Core.List.{List}
 use mathlib.Core.Path.{_≡_}
 use Prim.Native.Nat.{ℕ, _≤_}

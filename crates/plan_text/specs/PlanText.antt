@@ -1,7 +1,6 @@
 -- A plan written out. Document 02, K3: "One text line per node, parents before children, as `depth in tree,line,value,row`."
 -- Request E1 (D196): an observing node is `depth in tree,line,see,gate,pin,row`, or `depth in tree,line,see,output` where the line
 -- is an output or a pad.
--- Assumes nothing.
 use mathlib.Core.List.{List, [], _∷_, _++_}
 use mathlib.Core.Option.{Option, none, some}
 use mathlib.Core.Path.{_≡_}

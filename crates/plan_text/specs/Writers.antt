@@ -1,6 +1,5 @@
 -- What the two writers put, over the tables: the marks that crate `plan_marks` notes, and the netlist table. A goal is a line
 -- at a value, as twice the line and the value.
--- Assumes nothing.
 use mathlib.Core.List.{List, [], _∷_, _++_}
 use Prim.Native.Nat.{ℕ, zero, suc, _+_, _*_, _-_, _/_, _%_}
 use lib.Dec.{ltb, eqb}

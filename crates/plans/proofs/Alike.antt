@@ -1,5 +1,4 @@
 -- Runs on tables that are alike at the nodes that the run looks at, and what they remember.
--- Assumes nothing.
 use Rattle.common_laws.proofs.Base.{List, [], _∷_, List·Memᴰ, List·Memᴰ·head, List·Memᴰ·tail, none, _≡_, refl, sym, _∙_, ap, ap₂, ℕ, zero, suc, _≤_, _<_, ℕ-discrete, decLt, arith}
 use Rattle.common_laws.proofs.Base.{length, replicate, set-out}
 use Rattle.cost.specs.Cost.{lesser}

@@ -1,5 +1,4 @@
 -- "becomes the least row sum" agrees with "keeps the lesser", sweep by sweep.
--- Assumes nothing.
 use Rattle.common_laws.proofs.Base.{List, [], _∷_, List·Memᴰ, List·Memᴰ·head, List·Memᴰ·tail, _↔_, _≡_, refl, sym, _∙_, ap, subst, ℕ, zero, suc, _≤_, _<_, ℕ-discrete, decLt}
 use Rattle.common_laws.proofs.Base.{le-refl, le-trans, le-of-eq, le-antisymm, arith, length, set}
 use Rattle.cost.specs.Cost.{lesser}

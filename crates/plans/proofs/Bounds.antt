@@ -1,7 +1,6 @@
 -- How many sweeps there are at most. A node that can be had for a cost can be had without going through the same key twice
 -- on a way down, so the way down is no longer than the list of keys; and after as many sweeps its number is no higher.
 -- The key of a step is the node had (controllabilities), or the one needed node that is itself visited (observabilities).
--- Assumes nothing.
 use Rattle.common_laws.proofs.Base.{List, [], _∷_, List·Memᴰ, List·Memᴰ·head, List·Memᴰ·tail, _⊎_, inl, inr, _≡_, refl, sym, _∙_, subst, ℕ, zero, suc, _≤_, _<_, min, ℕ-discrete}
 use Rattle.common_laws.proofs.Base.{decLe, le-refl, le-trans, le-of-eq, arith, length}
 use Rattle.cost.specs.Cost.{never, _⊕_, capped, lesser, counted}

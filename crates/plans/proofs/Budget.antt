@@ -1,7 +1,6 @@
 -- Why the numbers of a budgeted run are exact: no plan of a node that is not fixed costs less than the cheapest bid. A plan of
 -- such a node has a price, or a way all of whose nodes are fixed, or it holds a plan of another node that is not fixed.
 -- Costs are compared capped throughout, so that nothing is asked of the order among those that are over.
--- Assumes nothing.
 use Rattle.common_laws.proofs.Base.{Bool, true, false, List, [], _∷_, List·Memᴰ, List·Memᴰ·head, List·Memᴰ·tail, _⊎_, inl, inr, Option, none, some, _≡_, refl, sym, _∙_, ap, ℕ}
 use Rattle.common_laws.proofs.Base.{zero, suc, _+_, _≤_, _<_, ℕ-discrete, decLt, le-refl, le-trans, le-of-eq, le-antisymm, arith, ltb-true, ltb-false, leb-true, leb-false}
 use Rattle.common_laws.proofs.Base.{eqb-true, lt-ltb, le-ltb, le-leb, lt-leb, eq-eqb, ne-eqb, eqb, leb, ltb, length, set, replicate, length-set, length-replicate}

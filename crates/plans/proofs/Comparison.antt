@@ -1,5 +1,4 @@
 -- Exact numbers of one node, and of two systems.
--- Assumes nothing.
 use Rattle.common_laws.proofs.Base.{List, _⊎_, inl, inr, some, _≡_, refl, sym, _∙_, ap, ℕ, zero, suc, _+_, _≤_, _<_, min, ℕ-discrete, decLe, le-refl, arith}
 use Rattle.cost.specs.Cost.{most, over, never, capped}
 use Rattle.plans.specs.System.{

@@ -1,5 +1,4 @@
 -- Runs that go on from numbers that stand.
--- Assumes nothing.
 use Rattle.common_laws.proofs.Base.{List, [], _∷_, List·Memᴰ, List·Memᴰ·head, List·Memᴰ·tail, inl, inr, _≡_, refl, sym, _∙_, ap, ℕ, zero, suc, _+_, _-_, _≤_, _<_, ℕ-discrete}
 use Rattle.common_laws.proofs.Base.{decLt, le-refl, le-trans, le-of-eq, arith, length, set, set-out}
 use Rattle.cost.specs.Cost.{capped}

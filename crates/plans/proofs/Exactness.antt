@@ -1,5 +1,4 @@
 -- Why the numbers are exact: each is attained by a plan, no plan costs less at rest, and so Exact.
--- Assumes nothing.
 use Rattle.common_laws.proofs.Base.{List, [], _∷_, List·Memᴰ, List·Memᴰ·head, List·Memᴰ·tail, _⊎_, inl, inr, some, _≡_, refl, sym, ℕ, zero, suc, _≤_, _<_, ℕ-discrete, decLt}
 use Rattle.common_laws.proofs.Base.{le-refl, le-trans, le-of-eq, arith, length, set, set-out}
 use Rattle.cost.specs.Cost.{most, over, never, _⊕_, capped, lesser}

@@ -1,5 +1,4 @@
 -- Visits that change nothing: when they do so, and when they stay so.
--- Assumes nothing.
 use Rattle.common_laws.proofs.Base.{List, [], _∷_, _++_, append-nil, append-assoc, List·Memᴰ, List·Memᴰ·head, List·Memᴰ·tail, List·Memᴰ·not-nil, List·Memᴰ·append-cases}
 use Rattle.common_laws.proofs.Base.{Memᴰ·append-left, Memᴰ·append-right, _⊎_, inl, inr, _≢_, _≡_, refl, sym, _∙_, ap, ℕ, zero, suc, _≤_, _<_, ℕ-discrete, decLe, decLt, le-trans}
 use Rattle.common_laws.proofs.Base.{le-of-eq, le-antisymm, arith, length}

@@ -1,5 +1,4 @@
 -- What both rules keep: a visit stores one number, at most never, at its own node.
--- Assumes nothing.
 use Rattle.common_laws.proofs.Base.{List, [], _∷_, _++_, List·Memᴰ·head, List·Memᴰ·tail, _≡_, refl, sym, _∙_, ℕ, zero, suc, _≤_, _<_, ℕ-discrete, decLt, arith, length, set}
 use Rattle.common_laws.proofs.Base.{length-set, set-out}
 use Rattle.cost.specs.Cost.{never, lesser}

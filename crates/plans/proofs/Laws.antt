@@ -1,6 +1,5 @@
 -- The theorems that specs/Statements.antt, specs/Stages.antt, specs/Idle.antt and specs/Budget.antt state, and the laws of
 -- tables and sweeps that other crates cite.
--- Assumes nothing.
 use Rattle.common_laws.proofs.Base.{List, refl, ℕ, suc, _+_, le-refl, le-trans, arith, length}
 use Rattle.plans.specs.Sweep.{at, renew, lower, Above, Lowering.keeps, Lowering.renews}
 use Rattle.plans.specs.Statements.{

@@ -1,6 +1,5 @@
 -- Sums and visits against tables that lie under one another: lower numbers have lower sums, and a visit that keeps the
 -- lesser only lowers.
--- Assumes nothing.
 use Rattle.common_laws.proofs.Base.{List, [], _∷_, List·Memᴰ, List·Memᴰ·head, List·Memᴰ·tail, _⊎_, inl, inr, _≡_, refl, sym, _∙_, ap, ℕ, zero, suc, _≤_, _<_, decLe, le-refl}
 use Rattle.common_laws.proofs.Base.{le-trans, le-of-eq, arith, length, set, set-out, set-getD}
 use Rattle.cost.specs.Cost.{never, capped, lesser, counted}

@@ -1,5 +1,4 @@
 -- The table as numbers by node: what a store changes, when two tables are the same, and when one lies under another.
--- Assumes nothing.
 use Rattle.common_laws.proofs.Base.{true, List, [], _∷_, _≢_, _≡_, refl, _∙_, ap₂, ℕ, zero, suc, _≤_, _<_, ℕ-discrete, decLt, le-refl, le-trans, le-antisymm, arith, eqb-true}
 use Rattle.common_laws.proofs.Base.{eq-eqb, eqb, length, getD, set, length-set, getD-set-same, getD-set-other, set-out, ext-getD}
 use Rattle.reading.proofs.Laws.{and-left, and-right}

@@ -1,5 +1,4 @@
 -- Runs: `run` with fuel enough settles, and what settles is settled by the start.
--- Assumes nothing.
 use Rattle.common_laws.proofs.Base.{Bool, true, false, List, _≡_, refl, sym, _∙_, ap, ℕ, zero, suc, _≤_, _<_, arith}
 use Rattle.plans.specs.System.{Visit}
 use Rattle.reading.specs.Choice.{pick}

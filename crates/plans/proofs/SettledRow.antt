@@ -1,6 +1,5 @@
 -- The settled row: the way by which a figure was last lowered still sums to it where sweeps have settled.
 -- Were one of its needs lowered later, its sum would be lower now than the number, and the number would not be settled.
--- Assumes nothing.
 use Rattle.common_laws.proofs.Base.{List, [], _∷_, _++_, List·Memᴰ, List·Memᴰ·head, List·Memᴰ·tail, Memᴰ·append-right, append-assoc, append-nil, _⊎_, inl, inr, Option, none, some}
 use Rattle.common_laws.proofs.Base.{Option·some-injective, Option·none-ne-some, _≡_, refl, sym, _∙_, ap, subst, ℕ, zero, suc, _+_, _*_, _%_, _≤_, _<_, min, ℕ-discrete, decLe}
 use Rattle.common_laws.proofs.Base.{decLt, le-refl, le-trans, zero-mul, suc-mul, add-comm, mod-eq-of-lt, add-mul-mod-self-right, arith, le-leb, lt-leb, lt-ltb, le-ltb, length}

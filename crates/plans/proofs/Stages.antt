@@ -1,5 +1,4 @@
 -- Runs one after the other: each stage works on what those before it leave, and what an earlier stage settled stays settled.
--- Assumes nothing.
 use Rattle.common_laws.proofs.Base.{List, [], _∷_, List·Memᴰ, List·Memᴰ·not-nil, List·Memᴰ·append-cases, Memᴰ·append-left, Memᴰ·append-right, _⊎_, inl, inr, ⊎-elim, Option, none}
 use Rattle.common_laws.proofs.Base.{some, _≡_, refl, sym, _∙_, ap, ap₂, ℕ, _≤_, le-trans, le-of-eq, arith}
 use Rattle.plans.specs.System.{Way, Visit, System, Offers, Plan.priced, cost}

@@ -1,5 +1,4 @@
 -- A list of nodes without one of them.
--- Assumes nothing.
 use Rattle.common_laws.proofs.Base.{Bool, true, false, List, [], _∷_, List·Memᴰ, List·Memᴰ·head, List·Memᴰ·tail, _≡_, refl, sym, _∙_, ℕ, suc, _≤_, _<_, le-refl, arith, eqb-true}
 use Rattle.common_laws.proofs.Base.{eqb-false, eq-eqb, eqb, length}
 

@@ -1,5 +1,4 @@
 -- Small systems computed by the checker: what the definitions say of a chain, a loop and a fan-out.
--- Assumes nothing.
 use Rattle.common_laws.proofs.Base.{List, [], _∷_, List·Memᴰ, List·Memᴰ·head, List·Memᴰ·tail, Option, none, some, _≡_, refl, sym, _∙_, ap, ℕ, zero, suc, arith}
 use Rattle.cost.specs.Cost.{over, never, capped}
 use Rattle.plans.specs.System.{

@@ -2,7 +2,6 @@
 -- What K12 calls settled is called fixed here, since "settled" is said of runs (specs/Sweep.antt). A node is fixed where its
 -- number is below never; every other number of the table is never. So the sum of a way is never unless all that it needs is
 -- fixed (`way-fixed` of proofs/Laws.antt), and no second table says which nodes are.
--- Assumes nothing.
 use mathlib.Core.Bool.{Bool}
 use mathlib.Core.List.{List, [], _∷_, List·Memᴰ}
 use mathlib.Core.Logic.{_⊎_, _≢_}

@@ -1,6 +1,5 @@
 -- Runs that go on from numbers that stand, where ways or prices were added since: document 02, K11 (a pad is a price of 0),
 -- K13 (a pad on trial) and K14 (rows added to a library). What is shown stands under the names of proofs/Continued.antt.
--- Assumes nothing.
 use mathlib.Core.List.{List, [], _∷_, List·Memᴰ}
 use mathlib.Core.Option.{some}
 use mathlib.Core.Path.{_≡_}

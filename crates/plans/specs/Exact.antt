@@ -1,5 +1,4 @@
 -- What the numbers are held against: demand 3 of the minutes, for plans of any kind, and for one node.
--- Assumes nothing.
 use mathlib.Core.List.{List}
 use mathlib.Core.Logic.{_↔_, _⊎_}
 use mathlib.Core.Option.{Option, none, some}

@@ -2,7 +2,6 @@
 -- a run to the same count of sweeps. The visits of a sweep come in blocks, one block to a turn. A turn is awake or asleep, from
 -- sweep to sweep; one that is asleep is left out.
 -- What is shown stands at the end, under the names of proofs/Laws.antt.
--- Assumes nothing.
 use mathlib.Core.List.{List, [], _++_, List·Memᴰ}
 use mathlib.Core.Logic.{_≢_}
 use mathlib.Core.Path.{_≡_}

@@ -1,6 +1,5 @@
 -- Runs one after the other on one table: CC and SC "run separately. Then CO and SO". What is shown of them stands at the end,
 -- under the names of proofs/Laws.antt.
--- Assumes nothing.
 use mathlib.Core.List.{List, [], _∷_, _++_, List·Memᴰ}
 use mathlib.Core.Path.{_≡_}
 use Prim.Native.Nat.{ℕ, _≤_, _<_}

@@ -1,6 +1,5 @@
 -- The theorems of this crate, stated, but for those on runs one after the other, which stand in Stages.antt, and those on idle
 -- visits, in Idle.antt. Each is proved in proofs/Laws.antt under the name that stands beside it.
--- Assumes nothing.
 use mathlib.Core.List.{List, List·Memᴰ}
 use mathlib.Core.Option.{none, some}
 use mathlib.Core.Path.{_≡_}

@@ -1,5 +1,4 @@
 -- Sweeps, as document 01, "Sweeps", has them, over the numbers as a list: the number of the node n stands at place n.
--- Assumes nothing.
 use mathlib.Core.Bool.{Bool, true, false, _&&_}
 use mathlib.Core.List.{List, [], _∷_, List·Memᴰ}
 use mathlib.Core.Logic.{_⊎_}

@@ -1,7 +1,6 @@
 -- Plans, as document 01, "Plans", has them, over nodes, ways and prices of any kind.
 -- A node is what a plan is for: a line set to a value or a line observed, in combinational or in sequential terms.
 -- Nodes are numbers: in the analyser, the places of the numbers table.
--- Assumes nothing.
 use mathlib.Core.List.{List, [], _∷_, List·Memᴰ}
 use mathlib.Core.Option.{Option, some}
 use mathlib.Core.Path.{_≡_}

@@ -1,7 +1,7 @@
 -- Sweeps that remember, for each node, the way by which its number was last lowered and the visit at which that was: what a
 -- cheapest plan is read off from ("the row is the one by which the sweeps last lowered the number, the first in library
 -- order among equals at that visit"). Request K3, which writes that plan out (`plan_marks`, `plan_text`), rests on it and on
--- proofs/SettledRow.antt. Assumes nothing.
+-- proofs/SettledRow.antt.
 use mathlib.Core.List.{List, [], _∷_, List·Memᴰ}
 use mathlib.Core.Logic.{_⊎_}
 use mathlib.Core.Option.{Option, none, some}

@@ -1,6 +1,5 @@
 -- What a refusal is told by: its number is one of those that may be, and its line is at most n. Readers show it of what they
 -- read.
--- Assumes nothing.
 use Rattle.common_laws.proofs.Base.{Bool, true, false, not, _&&_, List, [], _∷_, Option, none, some, _≡_, ℕ, _≤_, leb, eqb, not-true}
 use Rattle.reading.specs.Choice.{pick}
 use Rattle.reading.specs.Numbers as No

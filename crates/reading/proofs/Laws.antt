@@ -1,6 +1,5 @@
 -- The laws that readers share: of choices, of what holds of each element of a list, and of what reading comes to; with those
 -- of tests, which are at home in crate `common_laws`.
--- Assumes nothing.
 use Rattle.common_laws.proofs.Base.{Bool, true, false, List, [], _∷_, _++_, List·Memᴰ, List·Memᴰ·head, List·Memᴰ·tail, Option, none, some, _≡_, refl, sym, subst, ℕ, zero, suc, _≤_}
 use Rattle.common_laws.proofs.Base.{_<_, not-suc-le-zero, le-of-suc-le-suc, arith, length, getD}
 pub use Rattle.common_laws.proofs.Tests.{by-test, clash, and-left, and-right, or-left, or-right, or-cases}

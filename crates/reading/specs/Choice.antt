@@ -1,5 +1,4 @@
 -- A choice by a test, as every definition of this repository writes it.
--- Assumes nothing.
 use mathlib.Core.Bool.{Bool, true, false}
 use Prim.Native.Nat.{ℕ}
 

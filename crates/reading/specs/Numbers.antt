@@ -1,6 +1,5 @@
 -- The refusal numbers. Document 01, "Where a text stops". Pages that cite them say `as No`, so that a number and the condition
 -- that it stands for may have one name.
--- Assumes nothing.
 use mathlib.Core.Bool.{Bool, _||_}
 use Prim.Native.Nat.{ℕ}
 use lib.Dec.{eqb}

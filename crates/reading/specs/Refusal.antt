@@ -1,5 +1,4 @@
 -- What reading a text comes to: the thing read, or a refusal by its number and line. Document 01, "Where a text stops".
--- Assumes nothing.
 use mathlib.Core.Bool.{Bool}
 use mathlib.Core.List.{List, [], _∷_}
 use mathlib.Core.Option.{Option, none, some}

@@ -1,5 +1,4 @@
 -- What a reader's answer says, and what reading comes to apart from the thing read.
--- Assumes nothing.
 use Rattle.reading.specs.Refusal.{Read, refused, read}
 use Rattle.reading.specs.declared.Verdict.{Verdict}
 use Rattle.reading.specs.declared.Verdict.the-variants.{Accepted, Refused}

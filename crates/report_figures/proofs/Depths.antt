@@ -1,5 +1,5 @@
 -- Entries that begin with Name3 (02, K2), by computation: one entry written both ways, a chain of depth 7, the longest rows,
--- and what is refused. Assumes nothing.
+-- and what is refused.
 use Rattle.common_laws.proofs.Base.{List, [], _∷_, _++_, _≡_, refl}
 use Prim.Native.String.{String}
 use Rattle.text.specs.Bytes.{bytes, text}

@@ -1,6 +1,5 @@
 -- Library texts by computation: document 01's entries as the cells that they come to, the largest that passes, and a refused
 -- text for each number.
--- Assumes nothing.
 use Rattle.common_laws.proofs.Base.{List, [], _∷_, _++_, _≡_, refl, ℕ}
 use Prim.Native.String.{String}
 use Rattle.text.specs.Bytes.{bytes, text}

@@ -1,5 +1,5 @@
 -- Figures of document 01 "Netlist" and "Where a text stops", by computation: the NAND2 latch of "Figures to hold" reads to
--- its statements, and a text for each refusal 10 to 15, and 20 to 22, is refused by its number at its line. Assumes nothing.
+-- its statements, and a text for each refusal 10 to 15, and 20 to 22, is refused by its number at its line.
 use Rattle.common_laws.proofs.Base.{List, [], _∷_, _≡_, refl, ℕ}
 use Rattle.text.specs.Bytes.{bytes, text}
 use Rattle.reading.specs.Refusal.{Read, refused, read}

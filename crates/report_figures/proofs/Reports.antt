@@ -1,6 +1,6 @@
 -- Whole calls and reports by computation, beside document 01's own figures: a gate that reads its own output, lines that no
 -- netlist mentions, buffers that are just long enough and one byte too short, refusals at entry, and costs and counts of every
--- length. Assumes nothing.
+-- length.
 use Rattle.common_laws.proofs.Base.{List, [], _∷_, _++_, _≡_, refl, ℕ, _-_, eqb, replicate, take, drop}
 use Rattle.sizes.specs.Places.{linePlace}
 use Rattle.sizes.specs.Sizes as Size

@@ -1,5 +1,4 @@
 -- Closed instances of the definitions, by computation: what a text, a field and a refusal come to.
--- Assumes nothing.
 use Rattle.common_laws.proofs.Base.{true, false, List, [], _∷_, Option, none, some, _≡_, refl, ℕ}
 use Rattle.sizes.specs.Sizes as Size
 use Rattle.text.specs.Bytes.{bytes, text, bytes-open}

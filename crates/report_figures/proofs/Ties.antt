@@ -1,5 +1,5 @@
 -- Cells without pins and groups without rows (02, K1), by computation: what a tie cell's entry comes to, whole reports, and
--- what is refused. Assumes nothing.
+-- what is refused.
 use Rattle.common_laws.proofs.Base.{List, [], _∷_, _++_, _≡_, refl}
 use Prim.Native.String.{String}
 use Rattle.text.specs.Bytes.{bytes, text}

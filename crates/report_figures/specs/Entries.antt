@@ -1,6 +1,5 @@
 -- Document 01's library entries, each by its lines, "Cells" and "Figures to hold"; tie cells (02, K1), and entries of three-bit
 -- depths (02, K2).
--- Assumes nothing.
 use mathlib.Core.List.{List, [], _∷_}
 use Prim.Native.String.{String}
 

@@ -1,6 +1,5 @@
 -- Document 01's figures that are marked P, as document 02 changes them, and document 02's own: whole texts in, whole report
 -- out, by computation over the definitions. They are one theorem over a list, `figures-hold`.
--- Assumes nothing.
 use mathlib.Core.List.{List, [], _∷_, _++_}
 use mathlib.Core.Path.{_≡_, refl}
 use Prim.Native.Nat.{ℕ}

@@ -1,6 +1,5 @@
 -- What a refusal leaves of tables and a buffer that are full of sevens, by computation. Document 01: "Entry refusals leave lent
 -- memory untouched; later ones leave every table and the report buffer zero."
--- Assumes nothing.
 use mathlib.Core.List.{List, [], _∷_}
 use mathlib.Core.Path.{_≡_, refl}
 use Prim.Native.Nat.{ℕ, _-_}

@@ -1,5 +1,4 @@
 -- The laws of the report's bytes: what the report depends on, and how long it is.
--- Assumes nothing.
 use Rattle.common_laws.proofs.Base.{Bool, List, [], _∷_, _++_, _≡_, refl, ap, ℕ, zero, suc, _+_, _*_, _-_, _^_, _≤_, _<_, min, arith, leb, ltb, eqb, length, getD, length-append}
 use Rattle.common_laws.proofs.Base.{leb-false, ltb-true, ltb-false, eqb-false}
 use Rattle.sizes.specs.Sizes as Size

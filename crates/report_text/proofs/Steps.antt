@@ -1,5 +1,4 @@
 -- What the functions that write a report share: a cost more, a line more.
--- Assumes nothing.
 use Rattle.common_laws.proofs.Base.{Bool, false, List, [], _∷_, _++_, append-nil, append-assoc, _≡_, sym, ap, _∙_, ℕ, zero, suc, _+_, _-_, _≤_, _<_, add-zero, add-suc, suc-add}
 use Rattle.common_laws.proofs.Base.{arith, getD}
 use Rattle.sizes.specs.Sizes as Size

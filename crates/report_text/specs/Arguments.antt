@@ -1,5 +1,4 @@
 -- The report of a call's arguments, as the definitions of `Report` have it.
--- Assumes nothing.
 use mathlib.Core.Bool.{Bool}
 use mathlib.Core.List.{List}
 use Prim.Native.Nat.{ℕ}

@@ -1,5 +1,4 @@
 -- What the program `scoap_cell` prints of the text of `table.txt`. Document 02, K6.
--- Assumes nothing.
 use mathlib.Core.List.{List}
 use Prim.Native.Nat.{ℕ}
 use Rattle.writer.specs.Buffer.{shown}

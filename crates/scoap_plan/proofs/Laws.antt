@@ -1,5 +1,4 @@
 -- What the words of a command line come to, by their number.
--- Assumes nothing.
 use Rattle.common_laws.proofs.Base.{List, _≡_, refl, ℕ, eq-eqb, ne-eqb}
 use Rattle.reading.specs.Choice.{pick}
 use Rattle.text.specs.Numeral.{decimal}

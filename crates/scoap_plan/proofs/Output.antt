@@ -1,5 +1,4 @@
 -- What is printed of good arguments and of bad ones, from what the parts of the program put into the buffer.
--- Assumes nothing.
 use Rattle.common_laws.proofs.Base.{List, [], _∷_, _||_, _≡_, refl, ℕ, arith, length, replicate}
 use Rattle.sizes.specs.Sizes as Size
 use Rattle.reading.specs.Choice.{pick}

@@ -1,6 +1,5 @@
 -- The arguments of the program `scoap_plan`, LINE VALUE KIND, as bytes. No document says what it takes (docs/DECISIONS.md,
 -- D116).
--- Assumes nothing.
 use mathlib.Core.List.{List, [], _∷_, _++_}
 use mathlib.Core.Option.{Option, none, some}
 use Prim.Native.Nat.{ℕ}

@@ -1,5 +1,4 @@
 -- What the program `scoap_plan` prints, of its arguments and of files that were loaded. Document 02, K3.
--- Assumes nothing.
 use mathlib.Core.List.{List}
 use mathlib.Core.Path.{_≡_}
 use Prim.Native.Nat.{ℕ}

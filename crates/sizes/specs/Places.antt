@@ -1,5 +1,4 @@
 -- Where each thing stands in the lent tables, docs/TABLES.md. Cells, groups, rows and gates count from 0, lines from 1.
--- Assumes nothing.
 use Prim.Native.Nat.{ℕ, _+_, _*_, _-_, _/_, _%_}
 use Rattle.sizes.specs.Sizes as Size
 

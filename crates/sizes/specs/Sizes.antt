@@ -1,6 +1,5 @@
 -- The sizes of document 01 and those that follow from them, as src/lib.rt has them. Each is an `abbrev`, so that arithmetic
 -- sees its value; the published sizes of the three lent tables are `library`, `netlist` and `numbers`.
--- Assumes nothing.
 use Prim.Native.Nat.{ℕ, _+_, _*_, _/_}
 
 -- "2 a text above 65,535 bytes"

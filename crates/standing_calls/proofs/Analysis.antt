@@ -1,5 +1,4 @@
 -- The analysis that is to stand: what is promised follows from what the analysis answers and leaves.
--- Assumes nothing.
 use Rattle.common_laws.proofs.Base.{true, false, List, [], _++_, append-nil, _≡_, refl, sym, ap, subst, _∙_, ℕ, _<_, arith, length, drop, replicate, length-replicate, drop-length}
 use Rattle.sizes.specs.Sizes as Size
 use Rattle.reading.specs.Choice.{pick}

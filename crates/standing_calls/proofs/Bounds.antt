@@ -1,5 +1,4 @@
 -- What a refusal can be: none has the number 0, and its line is at most one above the bytes of a text.
--- Assumes nothing.
 use Rattle.common_laws.proofs.Base.{Bool, List, [], _∷_, _≡_, refl, subst, ℕ, _≤_, arith, leb-true, ltb-false, ltb, length}
 use Rattle.sizes.specs.Sizes as Size
 use Rattle.reading.specs.Numbers as No

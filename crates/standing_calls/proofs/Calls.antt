@@ -1,5 +1,4 @@
 -- Asking and committing, from what their parts leave.
--- Assumes nothing.
 use Rattle.common_laws.proofs.Base.{Bool, true, false, not, _||_, List, [], _∷_, _++_, _≡_, refl, sym, ap, _∙_, ℕ, suc, _+_, _≤_, _<_, arith, ltb-false, lt-ltb, le-ltb, eqb, ltb}
 use Rattle.common_laws.proofs.Base.{length, getD, take, drop, length-append, length-take, length-drop}
 use Rattle.sizes.specs.Sizes as Size

@@ -1,5 +1,4 @@
 -- A standing analysis in its table: what the calls come to of it, and what its numbers mean.
--- Assumes nothing.
 use Rattle.common_laws.proofs.Base.{false, List, _++_, _≡_, sym, ap, subst, _∙_, ℕ, _+_, _≤_, _<_, arith, le-ltb, length, getD, drop, length-append}
 use Rattle.sizes.specs.Sizes as Size
 use Rattle.reading.specs.Choice.{pick}

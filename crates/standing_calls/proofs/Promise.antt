@@ -1,5 +1,4 @@
 -- Asking and committing: what is promised follows from what is answered and left.
--- Assumes nothing.
 use Rattle.common_laws.proofs.Base.{Bool, true, false, not, _||_, List, [], _∷_, _++_, inl, inr, _≡_, refl, sym, ap, subst, _∙_, ℕ, _≤_, _<_, arith, ltb-false, not-false, ltb}
 use Rattle.common_laws.proofs.Base.{length, getD, drop, List·getD-append, ext-getD}
 use Rattle.sizes.specs.Sizes as Size

@@ -1,5 +1,4 @@
 -- What the calls come to, answer and leave, whatever is lent. Document 02, K11.
--- Assumes nothing.
 use mathlib.Core.Bool.{Bool}
 use mathlib.Core.List.{List, [], _∷_, _++_}
 use Prim.Native.Nat.{ℕ}

@@ -1,6 +1,5 @@
 -- What the three calls promise. Document 02, K11: `g` is what a call was given to read, `said` what it answered. By equation of
 -- every table, whatever stands in it (specs/Calls.antt); and of a standing analysis, `StandsIn`, what document 02 says of it.
--- Assumes nothing.
 use mathlib.Core.Bool.{true, false, _||_}
 use mathlib.Core.List.{List, _++_}
 use mathlib.Core.Logic.{_⊎_}

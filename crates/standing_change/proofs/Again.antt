@@ -1,5 +1,4 @@
 -- The netlist read again, and its pads marked.
--- Assumes nothing.
 use Rattle.common_laws.proofs.Base.{List, _≡_, refl, sym, subst, ℕ, drop}
 use Rattle.sizes.specs.Sizes as Size
 use Rattle.reading.specs.Refusal.{Read, read}

@@ -1,5 +1,4 @@
 -- Reading the netlist again, reading the new library, and the call, from what their parts leave.
--- Assumes nothing.
 use Rattle.common_laws.proofs.Base.{Bool, true, false, not, _||_, or-true, List, [], _++_, _≡_, refl, sym, ap, subst, _∙_, ℕ, _≤_, _<_, arith, not-false, ltb-false, le-ltb, lt-ltb}
 use Rattle.common_laws.proofs.Base.{ltb, length, getD, drop, length-append, length-drop}
 use Rattle.sizes.specs.Sizes as Size

@@ -1,5 +1,4 @@
 -- Every list of calls: by the promise of each.
--- Assumes nothing.
 use Rattle.common_laws.proofs.Base.{Bool, true, false, List, [], _∷_, map, _≡_, refl, sym, ap, subst, _∙_, ℕ}
 use Rattle.reading.specs.Choice.{pick}
 use Rattle.reading.specs.Numbers as No

@@ -1,5 +1,4 @@
 -- The netlist under the cells of the new library, with the pads that stand: what a change comes to, whatever the numbers are.
--- Assumes nothing.
 use Rattle.common_laws.proofs.Base.{Bool, true, false, List, [], _∷_, _++_, _≡_, refl, sym, ap, _∙_, ℕ, le-ltb, length, drop}
 use Rattle.sizes.specs.Sizes as Size
 use Rattle.reading.specs.Choice.{pick}

@@ -1,5 +1,4 @@
 -- What a change promises, from what it answers and leaves.
--- Assumes nothing.
 use Rattle.common_laws.proofs.Base.{Bool, true, false, _||_, or-false, List, [], _∷_, _++_, _≡_, refl, sym, ap, subst, _∙_, ℕ, drop}
 use Rattle.sizes.specs.Sizes as Size
 use Rattle.reading.specs.Choice.{pick}

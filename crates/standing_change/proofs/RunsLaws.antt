@@ -1,5 +1,4 @@
 -- The runs from the numbers of a standing table, and those from the beginning, as they are stored.
--- Assumes nothing.
 use Rattle.common_laws.proofs.Base.{List, [], _++_, append-nil, _≡_, refl, sym, ap, _∙_, ℕ, _≤_, le-of-eq, arith, length, getD, take, drop, replicate, length-take, length-drop}
 use Rattle.common_laws.proofs.Base.{length-replicate, drop-of-length-le}
 use Rattle.sizes.specs.Sizes as Size

@@ -1,6 +1,5 @@
 -- Every list of calls on a standing table, each with what it promises. Document 02, K11: "For every list of asks and commits
 -- from a freshly analysed netlist"; K14: "one that an analysis, commits and earlier changes of library left".
--- Assumes nothing.
 use mathlib.Core.Bool.{Bool}
 use mathlib.Core.List.{List, [], _∷_, map}
 use mathlib.Core.Path.{_≡_}

@@ -1,6 +1,5 @@
 -- What a change of library comes to, answers and leaves, whatever is lent. Document 02, K14. `g` is what is given to read under
 -- the old library, `h` under the new one: the netlist is the same text, which goes by the names of cells.
--- Assumes nothing.
 use mathlib.Core.Bool.{Bool, true, false, _||_}
 use mathlib.Core.List.{List, [], _∷_, _++_}
 use Prim.Native.Nat.{ℕ}

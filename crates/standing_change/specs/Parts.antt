@@ -1,5 +1,4 @@
 -- What the parts of a change ask and leave.
--- Assumes nothing.
 use mathlib.Core.Bool.{Bool, true}
 use mathlib.Core.List.{List}
 use mathlib.Core.Path.{_≡_}

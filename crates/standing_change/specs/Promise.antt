@@ -1,7 +1,6 @@
 -- What a change of library promises. Document 02, K14: by equation of every table, whatever stands in it (specs/Calls.antt);
 -- and of a standing analysis, `StandsIn`, what document 02 says of it. Whatever list of asks, commits and changes led to it:
 -- what they leave stands (`CallsStand` of specs/CallList.antt).
--- Assumes nothing.
 use mathlib.Core.Bool.{Bool, true, false}
 use mathlib.Core.List.{List}
 use mathlib.Core.Path.{_≡_}

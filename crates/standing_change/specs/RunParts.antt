@@ -1,5 +1,4 @@
 -- What the runs of a change of library, and the reading before them, ask and leave.
--- Assumes nothing.
 use mathlib.Core.List.{List, _++_}
 use mathlib.Core.Path.{_≡_}
 use Prim.Native.Nat.{ℕ, _≤_}

@@ -1,6 +1,5 @@
 -- Other libraries under a standing analysis: whole texts in, numbers out, by computation over the definitions. Document 02,
 -- K14.
--- Assumes nothing.
 use mathlib.Core.Bool.{true, false}
 use mathlib.Core.List.{List, [], _∷_, _++_}
 use mathlib.Core.Path.{_≡_, refl}

@@ -1,5 +1,4 @@
 -- Pads asked for and placed: whole texts in, numbers out, by computation over the definitions. Document 02, K11.
--- Assumes nothing.
 use mathlib.Core.Bool.{false}
 use mathlib.Core.List.{List, [], _∷_}
 use mathlib.Core.Path.{_≡_, refl}

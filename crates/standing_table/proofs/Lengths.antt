@@ -1,5 +1,4 @@
 -- CO and SO run again leave as many numbers as there were.
--- Assumes nothing.
 use Rattle.common_laws.proofs.Base.{List, _≡_, refl, sym, ap, _∙_, ℕ, zero, suc, _≤_, arith, length, drop, length-drop}
 use Rattle.sizes.specs.Sizes as Size
 use Rattle.reading.specs.Choice.{pick}

@@ -1,5 +1,4 @@
 -- Pads on tables that hold accepted cells and statements.
--- Assumes nothing.
 use Rattle.common_laws.proofs.Base.{true, false, true≢false, List, [], _∷_, _++_, append-nil, some, _≡_, refl, sym, _∙_, ap, ℕ, suc, _≤_, _<_, arith, lt-ltb, le-ltb, not-true}
 use Rattle.common_laws.proofs.Base.{not-false, eqb, ltb, length, getD, take, drop, length-take, length-drop, take-suc, take-take, drop-cons, getD-take, length-take-le}
 use lib.ListN.{take-append-drop}

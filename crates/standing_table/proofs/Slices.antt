@@ -1,5 +1,4 @@
 -- A part of a lent slice that reaches to its end, as the numbers of a standing table do.
--- Assumes nothing.
 use Rattle.common_laws.proofs.Base.{List, [], _++_, append-nil, _≡_, ap, _∙_, ℕ, _-_, _≤_, le-of-eq, arith, length, take, drop, length-drop, drop-of-length-le, take-all}
 use borrow.Rule.Slice.PartMut.{putMid}
 use Rattle.sizes.specs.Sizes as Size

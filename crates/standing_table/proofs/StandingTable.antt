@@ -1,5 +1,4 @@
 -- What stands where in a standing table, and what its stores leave.
--- Assumes nothing.
 use Rattle.common_laws.proofs.Base.{List, [], _∷_, _++_, map, append-assoc, _≡_, refl, sym, ap, ap₂, _∙_, ℕ, suc, min, _+_, _-_, _≤_, _<_, arith, length, getD, set, take, drop}
 use Rattle.common_laws.proofs.Base.{replicate, length-append, length-take, length-drop, List·getD-append, take-at, take-suc-set, drop-at, drop-drop, length-take-le, getD-drop}
 use lib.Seq.{take-add, drop-set-add, drop-set-lt}

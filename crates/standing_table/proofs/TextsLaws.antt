@@ -1,5 +1,4 @@
 -- Both texts, the pads of a standing table, and one pad more, one after the other.
--- Assumes nothing.
 use Rattle.common_laws.proofs.Base.{Bool, true, false, not, List, [], _∷_, _≡_, refl, sym, ap, subst, _∙_, ℕ, le-of-eq, le-ltb, not-false, ltb, length, replicate, length-replicate}
 use Rattle.sizes.specs.Sizes as Size
 use Rattle.reading.specs.Choice.{pick}

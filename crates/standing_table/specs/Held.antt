@@ -1,5 +1,5 @@
 -- What was lent to a call on a standing analysis: the entry, the state that texts and table hold, and the causes of a pad.
--- Document 02, K11. Assumes nothing.
+-- Document 02, K11.
 use mathlib.Core.Bool.{Bool, not, _||_}
 use mathlib.Core.List.{List, [], _∷_}
 use Prim.Native.Nat.{ℕ}

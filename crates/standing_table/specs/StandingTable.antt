@@ -1,5 +1,5 @@
 -- The standing table: how it holds a standing analysis, and what any table says. Document 02, K11; docs/TABLES.md has the
--- layout in words. Assumes nothing.
+-- layout in words.
 use mathlib.Core.List.{List, [], _∷_, _++_}
 use mathlib.Core.Bool.{false}
 use mathlib.Core.Path.{_≡_}

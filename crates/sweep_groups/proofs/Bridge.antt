@@ -1,6 +1,5 @@
 -- The gates of the tables of accepted cells and statements: read place for place their visits are those of crate `calculation`,
 -- and every place that is read is there.
--- Assumes nothing.
 use Rattle.common_laws.proofs.Base.{Bool, true, false, _&&_, List, [], _++_, _∷_, map, List·Memᴰ, List·Memᴰ·head, List·Memᴰ·tail, Option, _≡_, refl, ap, _∙_, ℕ, zero, suc, _+_}
 use Rattle.common_laws.proofs.Base.{_*_, _-_, _^_, _≤_, _<_, arith, length, getD, length-append}
 use Rattle.sizes.specs.Sizes as Size

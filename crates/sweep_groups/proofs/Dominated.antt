@@ -1,5 +1,4 @@
 -- A row that another dominates: its sum is no lower, whatever the costs, so that the least row sum is the same without it.
--- Assumes nothing.
 use Rattle.common_laws.proofs.Base.{true, List, [], _∷_, inl, some, _≡_, refl, sym, _∙_, ℕ, zero, suc, _+_, _*_, _-_, _/_, _%_, _≤_, _<_, le-refl, arith, eqb-true, leb-true}
 use Rattle.common_laws.proofs.Base.{bitAnd, and-step, eqb, leb, getD}
 use Rattle.common_laws.proofs.Tests.{and-left, and-right}

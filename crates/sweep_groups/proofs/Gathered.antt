@@ -1,6 +1,5 @@
 -- The costs of a gate's columns, gathered out of the numbers table: one column after the other, and what the rows come to over
 -- them.
--- Assumes nothing.
 use Rattle.common_laws.proofs.Base.{Bool, true, false, List, Option, none, some, _≡_, refl, sym, ap, ap₂, _∙_, ℕ, zero, suc, _+_, _*_, _-_, _/_, _%_, _^_, _≤_, _<_, ℕ-discrete}
 use Rattle.common_laws.proofs.Base.{arith, length, getD, set, length-set, pow-mono, getD-set-same, getD-set-other}
 use Rattle.sizes.specs.Sizes as Size

@@ -1,5 +1,4 @@
 -- "For every row the columns gone to are exactly the named ones, each once, lowest first."
--- Assumes nothing.
 use Rattle.common_laws.proofs.Base.{map, _≡_, refl, _∙_, ℕ, _+_, _*_, _-_, _^_, _≤_, _<_}
 use Rattle.sizes.specs.Sizes as Size
 use Rattle.library_table.specs.Cells.{bitOf, settingColumns, observingColumns, named}

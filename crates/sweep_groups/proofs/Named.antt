@@ -1,5 +1,5 @@
 -- The columns that a row names at a gate: their places in the numbers table are the nodes that calculation/specs/Ways.antt
--- asks for. Assumes nothing.
+-- asks for.
 use Rattle.common_laws.proofs.Base.{List, [], _∷_, _++_, map, _≡_, refl, sym, ap, ap₂, _∙_, ℕ, zero, suc, _+_, _*_, _-_, _/_, _%_, _^_, _≤_, _<_, mod-lt, add-zero, div-one}
 use Rattle.common_laws.proofs.Base.{add-one, arith, eqb, length, getD, length-append, shr-shr}
 use Rattle.sizes.specs.Sizes as Size

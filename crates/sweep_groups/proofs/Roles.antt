@@ -1,5 +1,4 @@
 -- What goes by the role, 0 setting and 1 observing.
--- Assumes nothing.
 use Rattle.common_laws.proofs.Base.{List, _≡_, ℕ, _+_, _*_, _≤_, _<_, ℕ-discrete, arith, getD, eq-eqb, ne-eqb}
 use Rattle.sizes.specs.Sizes as Size
 use Rattle.sizes.specs.Places.{settingPlace, observingPlace}

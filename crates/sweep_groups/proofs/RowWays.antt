@@ -1,6 +1,5 @@
 -- A row of a gate, read out of the library table as its gate's rows are, is the way that specs/Ways.antt of crate `calculation`
 -- makes of it, if it is one.
--- Assumes nothing.
 use Rattle.common_laws.proofs.Base.{Bool, true, false, not, _&&_, List, [], _∷_, Option, none, some, _≡_, refl, sym, ap, _∙_, ℕ, suc, _*_, _-_, _^_, _≤_, _<_, arith, length, getD}
 use Rattle.sizes.specs.Sizes as Size
 use Rattle.reading.specs.Choice.{pick}

@@ -1,5 +1,4 @@
 -- Rows of the library table at a gate: where their columns stand, and their sums over the columns' costs.
--- Assumes nothing.
 use Rattle.common_laws.proofs.Base.{List, Option, none, some, _≡_, refl, ap, _∙_, ℕ, suc, _+_, _*_, _-_, _/_, _%_, _≤_, _<_, decLe, arith, getD, le-leb, lt-leb}
 use Rattle.sizes.specs.Sizes as Size
 use Rattle.sizes.specs.Places.{settingPlace, observingPlace}

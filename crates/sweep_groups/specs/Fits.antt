@@ -1,6 +1,5 @@
 -- What the inner functions ask of the tables: that every place which they read or write is there. `calculate` shows it once,
 -- from accepted cells and statements, and no loop tests it.
--- Assumes nothing.
 use mathlib.Core.Bool.{Bool, true, false}
 use mathlib.Core.List.{List}
 use mathlib.Core.Path.{_≡_}

@@ -1,5 +1,4 @@
 -- The columns that a row sum goes to, of the rows of a cell. Document 02, K4.
--- Assumes nothing.
 use mathlib.Core.List.{map}
 use mathlib.Core.Path.{_≡_}
 use Prim.Native.Nat.{_^_, _≤_, _<_}

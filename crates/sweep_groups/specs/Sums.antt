@@ -1,5 +1,4 @@
 -- The sum of a row that may be no way, and rows whose sum need not be taken.
--- Assumes nothing.
 use mathlib.Core.Bool.{Bool, _&&_}
 use mathlib.Core.List.{List}
 use mathlib.Core.Option.{Option, none, some}

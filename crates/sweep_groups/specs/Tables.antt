@@ -2,7 +2,6 @@
 -- and its visits. `proofs/Bridge.antt` shows that at the tables of accepted cells and statements these are the
 -- visits of crate `calculation`.
 -- A kind is a number here, 0 combinational and 1 sequential, and so is a role, 0 setting and 1 observing.
--- Assumes nothing.
 use mathlib.Core.Bool.{Bool, true, false}
 use mathlib.Core.List.{List, [], _∷_}
 use mathlib.Core.Option.{Option, none, some}

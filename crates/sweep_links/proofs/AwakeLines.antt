@@ -1,5 +1,4 @@
 -- The walk along a chain of the links, from pin to pin.
--- Assumes nothing.
 use Rattle.common_laws.proofs.Base.{List, _≡_, refl, sym, ap, _∙_, ℕ, _+_, _*_, _-_, _%_, _≤_, _<_, ℕ-discrete, lt-of-not-le, arith, length, getD}
 use Rattle.sizes.specs.Sizes as Size
 use Rattle.netlist_table.specs.Gates.{gateLine}

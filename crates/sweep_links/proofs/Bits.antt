@@ -1,5 +1,4 @@
 -- Bits of a number: of a power, of what `|` and `^` give, and the lowest one that is set.
--- Assumes nothing.
 use Rattle.common_laws.proofs.Base.{_≡_, refl, sym, ap, _∙_, ℕ, zero, suc, _+_, _*_, _-_, _/_, _%_, _^_, _≤_, _<_, max, pow-suc, div-eq-of-lt, one-add, arith, bitOr, bitXor}
 use Rattle.common_laws.proofs.Base.{differ, trailingZeros, pow-pos, pow-mono, shr-shr, shl-exact}
 use native.Mathlib.Nat.{zero-div, div-self, lt-of-lt-of-le}

@@ -1,5 +1,4 @@
 -- The highest place of each line, one place after the other; and the parts of the links.
--- Assumes nothing.
 use Rattle.common_laws.proofs.Base.{Bool, true, false, List, _≡_, refl, sym, ap, _∙_, ℕ, _+_, _-_, _≤_, _<_, ℕ-discrete, arith, length, getD, set, replicate, length-set}
 use Rattle.common_laws.proofs.Base.{length-replicate, getD-replicate, getD-set-same, getD-set-other}
 use Rattle.sizes.specs.Sizes as Size

@@ -1,5 +1,4 @@
 -- The set after a word is stored, and the next turn that is awake.
--- Assumes nothing.
 use Rattle.common_laws.proofs.Base.{List, _≡_, sym, ap, ap₂, _∙_, ℕ, _+_, _*_, _-_, _/_, _%_, _^_, _≤_, _<_, ℕ-discrete, lt-of-not-le, arith, ltb-true, ltb-false, bitOr, bitXor}
 use Rattle.common_laws.proofs.Base.{differ, trailingZeros, ltb, length, getD, set, length-set, getD-set-same, getD-set-other}
 use lib.Pow.{shr-le}

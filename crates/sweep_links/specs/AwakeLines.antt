@@ -1,5 +1,4 @@
 -- Waking gates by the links of a netlist (crate `sweep_links`): those that read a line, and the one that drives it.
--- Assumes nothing.
 use mathlib.Core.List.{List}
 use mathlib.Core.Path.{_≡_}
 use Prim.Native.Nat.{ℕ, _-_, _≤_, _<_}

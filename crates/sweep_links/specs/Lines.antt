@@ -1,6 +1,5 @@
 -- The links of a netlist, over the netlist table (docs/TABLES.md): the gates that read a line, the gate that drives it, and the
 -- gates whose pins are tied. All stand in one array; `sizes` has where each part of it begins.
--- Assumes nothing.
 use mathlib.Core.List.{List}
 use mathlib.Core.Path.{_≡_}
 use Prim.Native.Nat.{ℕ, _+_, _*_, _-_, _/_, _%_, _≤_, _<_}

@@ -1,5 +1,4 @@
 -- The set of the turns of a sweep that are awake: a bit for each, in words.
--- Assumes nothing.
 use mathlib.Core.List.{List}
 use mathlib.Core.Path.{_≡_}
 use Prim.Native.Nat.{ℕ, _/_, _%_, _^_, _≤_, _<_}

@@ -1,5 +1,4 @@
 -- Numbers that stand, kept as costs: the values alone, or all.
--- Assumes nothing.
 use Rattle.common_laws.proofs.Base.{Bool, true, false, List, [], _∷_, map, _≡_, refl, sym, _∙_, ap, ℕ, zero, suc, _+_, _%_, _≤_, _<_, ℕ-discrete, decLt, le-refl, arith, lt-ltb}
 use Rattle.common_laws.proofs.Base.{le-ltb, length, getD, set, take, length-set, length-map, List·getD-eq-default, ext-getD, getD-set-same, getD-set-other, getD-take}
 use Rattle.common_laws.proofs.Base.{length-take-le}

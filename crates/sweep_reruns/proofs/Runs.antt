@@ -1,5 +1,4 @@
 -- The runs from numbers that were kept, at the tables of accepted cells and statements.
--- Assumes nothing.
 use Rattle.common_laws.proofs.Base.{false, List, [], _∷_, _≡_, sym, _∙_, ap, ℕ, _≤_, length}
 use Rattle.sizes.specs.Sizes as Size
 use Rattle.plans.specs.Sweep.{Bounded}

@@ -1,5 +1,4 @@
 -- A pad on trial: the turns that a run from the numbers that stand begins with. Document 02, K13.
--- Assumes nothing.
 use Rattle.common_laws.proofs.Base.{List, List·Memᴰ, _≡_, refl, sym, _∙_, subst, ℕ, _+_, _*_, _-_, _≤_, _<_, ℕ-discrete, arith, length, getD, set, length-set}
 use Rattle.sizes.specs.Sizes as Size
 use Rattle.reading.specs.Choice.{pick}

@@ -1,5 +1,4 @@
 -- What the runs from numbers that stand ask and leave, whatever the numbers are. Document 02, K11 and K14.
--- Assumes nothing.
 use mathlib.Core.Bool.{Bool}
 use mathlib.Core.List.{List, map}
 use mathlib.Core.Path.{_≡_}

@@ -1,5 +1,4 @@
 -- What a pad on trial asks and leaves. Document 02, K13.
--- Assumes nothing.
 use mathlib.Core.List.{List}
 use Prim.Native.Nat.{ℕ}
 use lib.ListN.{set}

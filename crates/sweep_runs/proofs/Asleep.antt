@@ -1,5 +1,4 @@
 -- Turns that are passed over: why a sweep from one awake turn to the next is the whole sweep.
--- Assumes nothing.
 use Rattle.common_laws.proofs.Base.{Bool, false, or-false, List, [], _∷_, _++_, List·Memᴰ·head, List·Memᴰ·tail, _≡_, refl, sym, ap, _∙_, ℕ, _-_, _≤_, _<_, arith, getD}
 use Rattle.sizes.specs.Sizes as Size
 use Rattle.plans.specs.System.{Visit}

@@ -1,6 +1,5 @@
 -- The sweeps over the tables of accepted cells and statements: read place for place they are those of crate `calculation`, and
 -- so is the start.
--- Assumes nothing.
 use Rattle.common_laws.proofs.Base.{Bool, true, false, List, [], _∷_, _++_, append-nil, append-assoc, _≡_, refl, sym, ap, ap₂, _∙_, ℕ, zero, suc, _+_, _*_, _-_, _/_, _%_, _≤_, _<_}
 use Rattle.common_laws.proofs.Base.{arith, ne-eqb, eqb, length, getD}
 use Rattle.sizes.specs.Sizes as Size

@@ -1,5 +1,4 @@
 -- The four runs at the tables of accepted cells and statements.
--- Assumes nothing.
 use Rattle.common_laws.proofs.Base.{Bool, List, [], _∷_, _++_, _≡_, refl, sym, ap, _∙_, ℕ, _+_, _*_, _≤_, le-trans, arith, length, getD, replicate}
 use Rattle.sizes.specs.Sizes as Size
 use Rattle.plans.specs.System.{Visit}

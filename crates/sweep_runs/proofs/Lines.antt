@@ -1,5 +1,4 @@
 -- The lines of the gates, at the tables of accepted cells and statements: which gates need a line, for the links that tell it.
--- Assumes nothing.
 use Rattle.common_laws.proofs.Base.{List, _∷_, _++_, List·Memᴰ, Memᴰ·map, Memᴰ·of-map, _≡_, refl, sym, ap, _∙_, subst, ℕ, zero, suc, _+_, _-_, _≤_, _<_, arith, length, getD}
 use Rattle.sizes.specs.Sizes as Size
 use Rattle.sizes.specs.Places.{settingPlace, observingPlace}

@@ -1,5 +1,4 @@
 -- A run, sweep by sweep: what its loop keeps, and what it comes to.
--- Assumes nothing.
 use Rattle.common_laws.proofs.Base.{Bool, true, false, List, _≡_, sym, _∙_, ℕ, suc, _+_, _-_, _^_, _≤_, _<_, arith}
 use Rattle.plans.specs.System.{Visit}
 use Rattle.plans.specs.Sweep.{lower, Settles}

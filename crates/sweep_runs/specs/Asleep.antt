@@ -1,5 +1,4 @@
 -- Turns of a sweep that are passed over: not awake, and idle. `specs/Wakes.antt` of crate `sweep_turns` says what wakes a turn.
--- Assumes nothing.
 use mathlib.Core.List.{List}
 use mathlib.Core.Path.{_≡_}
 use Prim.Native.Nat.{ℕ}

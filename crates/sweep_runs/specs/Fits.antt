@@ -1,5 +1,4 @@
 -- What sweeps and runs ask of the tables and the numbers (specs/Fits.antt of crate `sweep_turns`).
--- Assumes nothing.
 use mathlib.Core.List.{List}
 use mathlib.Core.Path.{_≡_}
 use Prim.Native.Nat.{ℕ}

@@ -1,5 +1,4 @@
 -- What each half of the calculation asks and leaves: the setting half, CC and SC, and the observing half, CO and SO.
--- Assumes nothing.
 use mathlib.Core.List.{List, [], _∷_}
 use mathlib.Core.Path.{_≡_}
 use Prim.Native.Nat.{ℕ}

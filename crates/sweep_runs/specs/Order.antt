@@ -1,6 +1,6 @@
 -- The visits of a sweep over the tables, in order. A role is a number, 0 setting and 1 observing, and a kind, 0 combinational
 -- and 1 sequential. `proofs/Bridge.antt` shows that at the tables of accepted cells and statements these are the visits of
--- crate `calculation`. Assumes nothing.
+-- crate `calculation`.
 use mathlib.Core.List.{List}
 use Prim.Native.Nat.{ℕ}
 use lib.ListN.{getD}

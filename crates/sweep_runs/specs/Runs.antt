@@ -1,5 +1,4 @@
 -- What a run asks of its sweeps.
--- Assumes nothing.
 use mathlib.Core.List.{List}
 use Prim.Native.Nat.{ℕ, _^_, _<_}
 use Rattle.plans.specs.System.{Visit}

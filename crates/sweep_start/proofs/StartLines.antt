@@ -1,5 +1,4 @@
 -- The start, line by line.
--- Assumes nothing.
 use Rattle.common_laws.proofs.Base.{Bool, List, [], _∷_, _++_, append-assoc, append-nil, _≡_, refl, sym, ap, _∙_, ℕ, zero, suc, _+_, _*_, _-_, _≤_, _<_, arith, length, getD, drop}
 use Rattle.common_laws.proofs.Base.{set, replicate, length-append, length-drop, length-replicate, replicate-append-replicate, sets, sets-eq, take-at, drop-at, drop-drop}
 use lib.Seq.{drop-append-add}

@@ -1,5 +1,4 @@
 -- The columns that a row names: the lowest of them and the rest.
--- Assumes nothing.
 use Rattle.common_laws.proofs.Base.{List, [], _∷_, _≡_, refl, sym, ap, _∙_, ℕ, zero, suc, _+_, _*_, _-_, _/_, _%_, _^_, _≤_, _<_, min, ℕ-discrete, pow-suc, mod-lt, arith, bitAnd}
 use Rattle.common_laws.proofs.Base.{and-step, and-le-l, trailingZeros, ones, length}
 use lib.Bits.{and-self}

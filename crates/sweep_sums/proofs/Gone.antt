@@ -1,6 +1,5 @@
 -- The columns gone to are the bits that are set, lowest first. That they are the columns which a row of a cell names:
 -- `gone-named` of sweep_groups/proofs/Gone.antt.
--- Assumes nothing.
 use Rattle.common_laws.proofs.Base.{List, [], _∷_, _≡_, sym, ap, _∙_, ℕ, zero, suc, _-_, _^_, _≤_, _<_, ℕ-discrete, zero-add, arith, ne-eqb, bitAnd, and-le-l, trailingZeros, ones}
 use Rattle.reading.specs.Choice.{pick}
 use Rattle.sweep_sums.specs.Columns.{columnPlaces, namedColumns}

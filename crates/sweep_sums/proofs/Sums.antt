@@ -1,5 +1,4 @@
 -- The sum of a row's columns, over their costs; kinds of places; how costs stand to each other.
--- Assumes nothing.
 use Rattle.common_laws.proofs.Base.{Bool, true, false, List, _≡_, refl, sym, ap, _∙_, ℕ, _+_, _*_, _-_, _%_, _^_, _≤_, _<_, arith, lt-ltb, le-ltb, bitAnd, and-le-l, trailingZeros}
 use Rattle.common_laws.proofs.Base.{ones, ltb, eqb, getD}
 use Rattle.sizes.specs.Sizes as Size

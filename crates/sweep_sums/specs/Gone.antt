@@ -1,6 +1,5 @@
 -- The columns that a row sum goes to. Document 02, K4: "go from one named column straight to the next by counting trailing
 -- zeros."
--- Assumes nothing.
 use mathlib.Core.List.{List, [], _∷_}
 use Prim.Native.Nat.{ℕ, zero, suc, _-_}
 use lib.Bits.{bitAnd}

@@ -1,5 +1,4 @@
 -- Sums in the costs of their kind. A kind is a number here, 0 combinational and 1 sequential.
--- Assumes nothing.
 use mathlib.Core.List.{List}
 use mathlib.Core.Path.{_≡_}
 use Prim.Native.Nat.{ℕ, _-_, _/_, _%_}

@@ -1,5 +1,4 @@
 -- The group of a gate's output at a value, out of the tables: its rows over the costs of the gate's columns.
--- Assumes nothing.
 use Rattle.common_laws.proofs.Base.{Bool, true, List, Option, some, _≡_, ℕ, _*_, _^_, _≤_, _<_, arith, length}
 use Rattle.sizes.specs.Sizes as Size
 use Rattle.sizes.specs.Places.{groupPlace}

@@ -1,5 +1,4 @@
 -- A gate's visits, turn by turn: what one asks of the costs of its columns, and what it leaves of them to the next.
--- Assumes nothing.
 use Rattle.common_laws.proofs.Base.{Bool, true, false, true≢false, List, List·Memᴰ, _≡_, refl, sym, ap, subst, _∙_, ℕ, _+_, _*_, _-_, _/_, _≤_, _<_, ℕ-discrete, decLe, arith}
 use Rattle.common_laws.proofs.Base.{length, getD}
 use Rattle.sizes.specs.Sizes as Size

@@ -1,5 +1,4 @@
 -- Visits one after the other: what a visit leaves, a gate's visits, and the sweeps that are made of them.
--- Assumes nothing.
 use Rattle.common_laws.proofs.Base.{Bool, true, false, not, _||_, or-false, List, [], _∷_, _++_, List·Memᴰ, List·Memᴰ·head, List·Memᴰ·tail, _≡_, refl, sym, ap, _∙_, ℕ, _+_, _-_}
 use Rattle.common_laws.proofs.Base.{_≤_, _<_, ℕ-discrete, add-one, arith, eqb, length, getD, set, set-getD}
 use Rattle.sizes.specs.Places.{groupPlace}

@@ -1,5 +1,4 @@
 -- What wakes a turn: the gates that need a line, and what a visit leaves of those that are asleep.
--- Assumes nothing.
 use Rattle.common_laws.proofs.Base.{Bool, true, not, _||_, or-true, List, List·Memᴰ, _≡_, refl, sym, ap, subst, _∙_, ℕ, _+_, _-_, _≤_, _<_, ℕ-discrete, le-of-eq, arith, length}
 use Rattle.common_laws.proofs.Base.{getD}
 use Rattle.sizes.specs.Sizes as Size

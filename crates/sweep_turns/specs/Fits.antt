@@ -1,5 +1,4 @@
 -- What the visits of a gate ask of the tables, the links and the numbers (specs/VisitFits.antt).
--- Assumes nothing.
 use mathlib.Core.Bool.{Bool, true}
 use mathlib.Core.List.{List}
 use mathlib.Core.Path.{_≡_}

@@ -1,6 +1,6 @@
 -- The visits of a gate over the tables, in order, and of a turn of a sweep. A role is a number, 0 setting and 1 observing, and
 -- a kind, 0 combinational and 1 sequential. `proofs/Bridge.antt` of crate `sweep_runs` shows that at the tables of accepted
--- cells and statements these are the visits of crate `calculation`. Assumes nothing.
+-- cells and statements these are the visits of crate `calculation`.
 use mathlib.Core.Bool.{Bool}
 use mathlib.Core.List.{List, [], _∷_}
 use Prim.Native.Nat.{ℕ, _+_, _*_, _-_}

@@ -1,5 +1,4 @@
 -- What the calls that visit leave in the numbers and say.
--- Assumes nothing.
 use mathlib.Core.Bool.{Bool, not}
 use mathlib.Core.List.{List, List·Memᴰ}
 use mathlib.Core.Path.{_≡_}

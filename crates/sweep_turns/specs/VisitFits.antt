@@ -1,5 +1,4 @@
 -- What one visit asks of the tables and the numbers (specs/Fits.antt of crate `sweep_groups`).
--- Assumes nothing.
 use mathlib.Core.Bool.{Bool}
 use mathlib.Core.List.{List}
 use mathlib.Core.Path.{_≡_}

@@ -1,6 +1,5 @@
 -- Which turns of a sweep are awake. A turn that is not awake is passed over, since the visits of its gate change nothing; a
 -- gate becomes awake when a number changes that it needs. A role is a number, 0 setting and 1 observing.
--- Assumes nothing.
 use mathlib.Core.Bool.{Bool, true}
 use mathlib.Core.List.{List, List·Memᴰ}
 use mathlib.Core.Path.{_≡_}

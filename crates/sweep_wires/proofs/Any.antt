@@ -1,5 +1,4 @@
 -- Whether one of the numbers below a count passes.
--- Assumes nothing.
 use Rattle.common_laws.proofs.Base.{Bool, true, false, _&&_, _||_, List, [], _∷_, _≡_, refl, sym, ap, ap₂, _∙_, ℕ, zero, suc, _+_, _*_, _-_, _≤_, _<_, ℕ-discrete, arith, length}
 use Rattle.common_laws.proofs.Base.{getD}
 use Rattle.table.specs.Blocks.{fitted}

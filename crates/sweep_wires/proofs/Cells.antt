@@ -1,5 +1,4 @@
 -- The rows of a cell of the library table that name both values of one pin.
--- Assumes nothing.
 use Rattle.common_laws.proofs.Base.{Bool, true, false, not, _||_, List, [], _∷_, _++_, List·Memᴰ, List·Memᴰ·head, List·Memᴰ·tail, Memᴰ·append-left, Memᴰ·append-right, _≡_, refl}
 use Rattle.common_laws.proofs.Base.{sym, ap, ap₂, _∙_, ℕ, zero, suc, _+_, _*_, _≤_, _<_, arith, length, getD, not-true}
 use Rattle.sizes.specs.Sizes as Size

@@ -1,5 +1,4 @@
 -- Over the columns that a row is gone through: one after the other, and the same by the bits below a count.
--- Assumes nothing.
 use Rattle.common_laws.proofs.Base.{Bool, true, false, _&&_, _||_, or-false, List, [], _∷_, _≡_, refl, sym, ap, ap₂, _∙_, ℕ, zero, suc, _+_, _*_, _-_, _/_, _%_, _^_, _≤_, _<_}
 use Rattle.common_laws.proofs.Base.{pow-suc, mod-lt, zero-add, mul-assoc, div-one, add-one, arith, bitAnd, and-le-l, trailingZeros, eqb, pow-mono, shr-shr}
 use native.Mathlib.Nat.{mul-add}

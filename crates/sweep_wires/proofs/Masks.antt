@@ -1,5 +1,4 @@
 -- A number by its bits.
--- Assumes nothing.
 use Rattle.common_laws.proofs.Base.{Bool, true, false, _≡_, sym, ap, _∙_, ℕ, zero, suc, _+_, _*_, _-_, _/_, _%_, _^_, _≤_, _<_, pow-suc, div-one, arith, eqb, shr-shr}
 use lib.Pow.{field, mod-mod-pow}
 use Rattle.reading.specs.Choice.{pick}

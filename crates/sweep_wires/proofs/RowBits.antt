@@ -1,5 +1,4 @@
 -- Rows read by their bits are those of specs/Ways.antt of crate `calculation`.
--- Assumes nothing.
 use Rattle.common_laws.proofs.Base.{Bool, true, false, not, _&&_, _||_, List, [], _∷_, _≡_, refl, sym, ap, ap₂, _∙_, ℕ, zero, suc, _+_, _*_, _-_, _/_, _%_, _^_, _≤_, _<_}
 use Rattle.common_laws.proofs.Base.{ℕ-discrete, mod-lt, arith, eqb, length, getD, pow-pos, eq-eqb, ne-eqb}
 use Rattle.reading.specs.Choice.{pick}

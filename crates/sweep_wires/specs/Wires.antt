@@ -1,7 +1,6 @@
 -- Rows of a gate whose pins share a line, by the bits of their columns. Document 02, K7. Column j of a cell of n pins, from the
 -- lowest bit up, names a line of `lines`, the gate's line and those of its pins, at 1 where j is even and at 0 where it is odd.
 -- `proofs/RowBits.antt` shows that rows so read are those of specs/Ways.antt of crate `calculation`.
--- Assumes nothing.
 use mathlib.Core.Bool.{Bool, false, not, _&&_, _||_}
 use mathlib.Core.List.{List, [], _∷_}
 use Prim.Native.Nat.{ℕ, zero, suc, _+_, _*_, _-_, _/_, _%_, _^_, _≤_, _<_}

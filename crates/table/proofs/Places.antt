@@ -1,5 +1,4 @@
 -- What stands at a place of a table that is put together from parts of a fixed length.
--- Assumes nothing.
 use Rattle.common_laws.proofs.Base.{List, [], _∷_, _++_, append-assoc, append-nil, _≡_, refl, sym, ap, _∙_, ℕ, zero, suc, _+_, _*_, _-_, _≤_, _<_, min, zero-add, add-comm}
 use Rattle.common_laws.proofs.Base.{add-assoc, zero-mul, suc-mul, not-suc-le-zero, le-of-suc-le-suc, arith, length, getD, replicate, length-append, List·getD-append}
 use Rattle.common_laws.proofs.Base.{getD-append-add, drop-length}

@@ -1,5 +1,4 @@
 -- How far a part of a table is used: what stands behind the last number that is not 0.
--- Assumes nothing.
 use Rattle.common_laws.proofs.Base.{Bool, true, _&&_, List, _≡_, refl, sym, ap, _∙_, ℕ, zero, suc, _+_, _-_, _≤_, _<_, min, ℕ-discrete, decLe, add-one, arith, eqb, length, getD}
 use Rattle.common_laws.proofs.Base.{List·getD-eq-default, eqb-true}
 use Rattle.common_laws.proofs.Tests.{and-left, and-right}

@@ -1,6 +1,5 @@
 -- Tables of numbers put together from parts of a fixed length, as the layouts of the library and the netlist table have them.
 -- The laws that say what stands at a place are in `proofs/Places.antt`.
--- Assumes nothing.
 use mathlib.Core.Bool.{Bool, true, _&&_}
 use mathlib.Core.List.{List, [], _∷_, _++_}
 use Prim.Native.Nat.{ℕ, zero, suc, _+_, min}

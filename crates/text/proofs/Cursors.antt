@@ -1,5 +1,4 @@
 -- One turn of a walk over the fields of a line, and fields by their place.
--- Assumes nothing.
 use Rattle.common_laws.proofs.Base.{true, false, _&&_, List, [], _∷_, _≡_, sym, ap, _∙_, ℕ, suc, _+_, _≤_, _<_, arith, leb, ltb, eqb, length, getD, drop, length-drop, drop-drop}
 use Rattle.common_laws.proofs.Base.{getD-drop, leb-true, leb-false, ltb-true, ltb-false, eq-eqb, ne-eqb}
 use Rattle.text.specs.Lines.{fields, fieldsFrom, part, nextAfter}

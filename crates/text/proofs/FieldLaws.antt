@@ -1,5 +1,4 @@
 -- The laws of names and numbers that other crates cite, and what this crate's own proofs share.
--- Assumes nothing.
 use Rattle.common_laws.proofs.Base.{Bool, true, false, _&&_, _||_, List, [], _∷_, List·Memᴰ, List·Memᴰ·head, List·Memᴰ·tail, List·Memᴰ·not-nil, none, some, _≡_, refl, ℕ, suc, _+_}
 use Rattle.common_laws.proofs.Base.{_*_, _-_, _^_, _≤_, _<_, pow-suc, mul-le-mul-right, arith, leb, ltb, eqb, length, le-leb, leb-true, ltb-true}
 use Rattle.sizes.specs.Sizes as Size

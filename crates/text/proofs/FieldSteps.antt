@@ -1,5 +1,4 @@
 -- One turn of each of this crate's loops, as an equation over what remains of the list.
--- Assumes nothing.
 use Rattle.common_laws.proofs.Base.{true, false, not, List, [], _∷_, _≡_, refl, ℕ, _+_, _*_, _-_, _^_, _≤_, _<_, pow-le-pow-right, add-one, arith, eqb, length, getD, drop}
 use Rattle.common_laws.proofs.Base.{drop-of-length-le, drop-cons, le-leb, lt-leb, eq-eqb}
 use Rattle.sizes.specs.Sizes as Size

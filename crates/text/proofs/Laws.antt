@@ -1,5 +1,4 @@
 -- The laws of texts, fields and classes that other crates cite, and what this crate's own proofs share.
--- Assumes nothing.
 use Rattle.common_laws.proofs.Base.{Bool, true, false, not, _&&_, List, [], _∷_, _++_, List·Memᴰ, List·Memᴰ·head, List·Memᴰ·tail, none, some, _≡_, refl, sym, ap, _∙_, ℕ, suc, _+_}
 use Rattle.common_laws.proofs.Base.{_-_, _≤_, _<_, arith, leb, eqb, length, take, drop, length-take, length-drop, drop-of-length-le, drop-drop, le-leb, lt-leb, eq-eqb, ne-eqb}
 use Rattle.common_laws.proofs.Base.{leb-true, leb-false, eqb-true}

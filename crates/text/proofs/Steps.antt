@@ -1,5 +1,4 @@
 -- One turn of each of this crate's loops, as an equation over what remains of the list.
--- Assumes nothing.
 use Rattle.common_laws.proofs.Base.{Bool, true, false, _||_, List, [], _≡_, ℕ, zero, suc, _+_, _-_, _≤_, _<_, decLe, add-one, arith, eqb, length, getD, take, drop, length-drop}
 use Rattle.common_laws.proofs.Base.{drop-of-length-le, drop-cons, take-nil, take-all, eq-eqb, ne-eqb, eqb-false}
 use Rattle.reading.proofs.Laws.{or-left, or-right}

@@ -1,5 +1,4 @@
 -- Text written out in definitions and figures, as the bytes that it stands for.
--- Assumes nothing.
 use mathlib.Core.List.{List, [], _∷_, _++_}
 use Prim.Native.Nat.{ℕ}
 use Prim.Native.Char.{code}

@@ -1,6 +1,5 @@
 -- The class of a byte. Document 01, "Forms for each place": the "classifier matches a byte local over ranges of digits,
 -- letters, comma and line end". The laws that relate the classes to the tests of other pages stand in `proofs/Laws.antt`.
--- Assumes nothing.
 use mathlib.Core.Bool.{Bool, true, false, not, _&&_}
 use Prim.Native.Nat.{ℕ}
 use lib.Dec.{leb, eqb}

@@ -1,6 +1,5 @@
 -- The lines of a text and the fields of a line, as lists of bytes. Document 01, "Netlist", of both texts.
 -- The laws that readers cite stand in `proofs/Laws.antt`.
--- Assumes nothing.
 use mathlib.Core.Bool.{Bool, true, false, _&&_, _||_}
 use mathlib.Core.List.{List, [], _∷_}
 use mathlib.Core.Option.{Option, none, some}

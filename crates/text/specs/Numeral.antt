@@ -1,5 +1,4 @@
 -- Numbers and names as they are written in fields. Document 01, "Cells" and "Netlist".
--- Assumes nothing.
 use mathlib.Core.Bool.{Bool, true, not, _&&_, _||_}
 use mathlib.Core.List.{List, [], _∷_}
 use mathlib.Core.Option.{Option, none, some}

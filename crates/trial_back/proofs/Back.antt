@@ -1,5 +1,4 @@
 -- A walk that has ended has put all back.
--- Assumes nothing.
 use Rattle.common_laws.proofs.Base.{Bool, true, _&&_, List, _⊎_, inl, inr, ⊎-elim, _≡_, refl, sym, _∙_, ℕ, zero, suc, _+_, _-_, _≤_, _<_, ℕ-discrete, decLt, arith, eqb, length}
 use Rattle.common_laws.proofs.Base.{getD, set, length-set, ext-getD, getD-set-same, getD-set-other, eqb-true}
 use Rattle.reading.proofs.Laws.{and-left, and-right}

@@ -1,5 +1,4 @@
 -- What a walk puts back: the CO and SO of lines that a pad on trial changed, from the pad's line backwards.
--- Assumes nothing.
 use mathlib.Core.Bool.{Bool, true}
 use mathlib.Core.List.{List}
 use mathlib.Core.Logic.{_⊎_}

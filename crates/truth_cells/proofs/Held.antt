@@ -1,5 +1,4 @@
 -- What the tests of rows and groups say of a table in which groups stand.
--- Assumes nothing.
 use Rattle.common_laws.proofs.Base.{true, List, [], _∷_, map, _↔_, _≡_, refl, sym, ap, _∙_, ℕ, suc, _+_, _*_, _/_, _%_, _≤_, _<_, add-zero, add-suc, arith, eqb, length, getD, drop}
 use Rattle.common_laws.proofs.Base.{drop-of-length-le, drop-cons, eqb-true, eq-eqb}
 use Rattle.sizes.specs.Places.{groupPlace}

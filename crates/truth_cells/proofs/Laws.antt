@@ -1,5 +1,4 @@
 -- What `generatedAt` says of a table that holds the cells of an accepted library.
--- Assumes nothing.
 use Rattle.common_laws.proofs.Base.{Bool, true, false, _&&_, List, [], _∷_, _++_, map, _↔_, _≡_, refl, sym, ap, _∙_, ℕ, zero, suc, _+_, _^_, _≤_, _<_, arith, leb, ltb, length}
 use Rattle.common_laws.proofs.Base.{getD, lt-ltb, le-leb, leb-true}
 use Rattle.sizes.specs.Places.{groupPlace}

@@ -1,5 +1,4 @@
 -- One step of each walk of the code.
--- Assumes nothing.
 use Rattle.common_laws.proofs.Base.{Bool, true, false, _&&_, _||_, and-true, List, [], _∷_, _++_, map, _≡_, refl, sym, ap, _∙_, ℕ, zero, suc, _+_, _*_, _-_, _/_, _%_, _^_, _≤_}
 use Rattle.common_laws.proofs.Base.{_<_, zero-add, add-one, arith, length, getD, take, set, length-map, take-suc-set}
 use Rattle.sizes.specs.Places.{groupPlace}

@@ -1,5 +1,4 @@
 -- The rows of value 1 of a cell that has a truth table tell the truth table.
--- Assumes nothing.
 use Rattle.common_laws.proofs.Base.{Bool, true, false, _&&_, List, [], _∷_, map, Option, none, some, _≡_, refl, sym, ap, subst, _∙_, ℕ, zero, suc, _+_, _*_, _/_, _%_, _^_, _≤_}
 use Rattle.common_laws.proofs.Base.{_<_, min, one-le-pow, add-zero, mul-add-div-right, div-eq-of-lt, add-mul-mod-self-right, mod-eq-of-lt, arith, length, getD, drop}
 use Rattle.common_laws.proofs.Base.{drop-of-length-le, drop-cons}

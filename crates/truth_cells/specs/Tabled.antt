@@ -1,5 +1,4 @@
 -- Cells that have a truth table, whichever it is.
--- Assumes nothing.
 use mathlib.Core.Bool.{Bool}
 use mathlib.Core.List.{List}
 use Rattle.library_table.specs.Cells.{Cell}

@@ -1,6 +1,5 @@
 -- Whether a cell of a library table has the groups that the generator makes of a truth table, by the numbers of the table.
 -- `proofs/Laws.antt` says what this is of a table that holds the cells of an accepted library.
--- Assumes nothing.
 use mathlib.Core.Bool.{Bool, true, false, _&&_, _||_}
 use mathlib.Core.List.{List, [], _∷_, map}
 use Prim.Native.Nat.{ℕ, zero, suc, _+_, _*_, _/_, _%_, _^_, min}

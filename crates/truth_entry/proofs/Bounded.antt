@@ -1,5 +1,4 @@
 -- What a text comes to is bounded: its entry fits the program's buffer, its refusal has a small number and line.
--- Assumes nothing.
 use Rattle.common_laws.proofs.Base.{true, _&&_, List, [], _∷_, map, Option, none, some, _≡_, refl, sym, ℕ, _≤_, _<_, arith, ltb, length, le-ltb, ltb-true, ltb-false}
 use Rattle.sizes.specs.Sizes as Size
 use Rattle.reading.specs.Choice.{pick}

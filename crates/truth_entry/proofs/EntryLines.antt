@@ -1,5 +1,4 @@
 -- How far the lines of an entry are printed, group by group.
--- Assumes nothing.
 use Rattle.common_laws.proofs.Base.{Bool, List, [], _∷_, _++_, append-assoc, append-nil, _≡_, refl, sym, ap, _∙_, ℕ, suc, _+_, _-_, _<_, sub-self, add-one, arith}
 use Rattle.writer.specs.Put.{Put}
 use Rattle.writer.proofs.Steps.{put-none, put-then}

@@ -1,5 +1,4 @@
 -- What a line of given fields comes to, case by case.
--- Assumes nothing.
 use Rattle.common_laws.proofs.Base.{Bool, true, _&&_, List, map, Option, none, some, _≡_, refl, ℕ, _^_, _≤_, _<_, arith, length, lt-ltb, le-ltb, le-leb, lt-leb, eq-eqb, ne-eqb}
 use Rattle.reading.specs.Choice.{pick}
 use Rattle.reading.specs.Numbers as No

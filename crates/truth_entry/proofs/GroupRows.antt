@@ -1,5 +1,4 @@
 -- How far the rows of a group are printed, while they are found one by one.
--- Assumes nothing.
 use Rattle.common_laws.proofs.Base.{Bool, true, false, _||_, List, [], _∷_, _++_, map, append-assoc, append-nil, _≡_, refl, sym, ap, subst, _∙_, ℕ, suc, _-_, _^_, _<_, arith}
 use Rattle.reading.specs.Choice.{pick}
 use Rattle.reading.proofs.Laws.{by-test}

@@ -1,5 +1,4 @@
 -- What is printed of the rows that are asked for is their group.
--- Assumes nothing.
 use Rattle.common_laws.proofs.Base.{true, false, List, [], _∷_, _++_, map, append-assoc, append-nil, _≡_, refl, sym, ap, _∙_, ℕ}
 use Rattle.reading.specs.Choice.{pick}
 use Rattle.text.specs.Bytes.{bytes}

@@ -1,5 +1,4 @@
 -- The line of a truth table, by its fields.
--- Assumes nothing.
 use Rattle.common_laws.proofs.Base.{Bool, true, false, _&&_, List, [], _∷_, _++_, Option, none, some, _≡_, refl, sym, ap, _∙_, ℕ, _+_, _≤_, _<_, arith, ltb, eqb, length, getD}
 use Rattle.common_laws.proofs.Base.{drop, drop-cons, eqb-true, eqb-false, ne-eqb, le-ltb, ltb-true, ltb-false}
 use Rattle.sizes.specs.Sizes as Size

@@ -1,5 +1,4 @@
 -- What the generator makes of a text, and what it leaves in a lent buffer. Document 02, K6.
--- Assumes nothing.
 use mathlib.Core.Bool.{Bool, true, not, _&&_}
 use mathlib.Core.List.{List, [], _∷_, map}
 use mathlib.Core.Option.{Option, none, some}

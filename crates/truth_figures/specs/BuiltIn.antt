@@ -1,6 +1,5 @@
 -- The built-in library. Document 02, K6: "A built-in library text of AND2 to AND4, then likewise NAND, OR, NOR, XOR (1 for an
 -- odd count of ones) and XNOR (its opposite), and last NOT, is byte for byte what the generator prints."
--- Assumes nothing.
 use mathlib.Core.List.{List, [], _∷_, _++_}
 use Prim.Native.Nat.{ℕ}
 use Prim.Native.String.{String}

@@ -1,5 +1,4 @@
 -- The figures of document 02, K6: lines in, entries out, by computation over the definitions. They are one theorem.
--- Assumes nothing.
 use mathlib.Core.List.{[], _∷_}
 use mathlib.Core.Path.{_≡_, refl}
 use Rattle.text.specs.Bytes.{text, bytes-open}

@@ -1,5 +1,4 @@
 -- What the generator prints of the built-in library's truth tables is its text.
--- Assumes nothing.
 use Rattle.common_laws.proofs.Base.{List, _↔_, _≡_, refl, sym, ap, _∙_, ℕ, _<_, arith, ltb, length, ltb-true, ltb-false}
 use Rattle.reading.specs.Numbers as No
 use Rattle.reading.specs.Refusal.{refused, read, _>>=_}

@@ -1,5 +1,4 @@
 -- What the built-in library comes to in a lent buffer.
--- Assumes nothing.
 use mathlib.Core.List.{List}
 use Prim.Native.Nat.{ℕ}
 use Rattle.reading.specs.Numbers as No

@@ -1,5 +1,4 @@
 -- What the code asks of BITS is what the definitions ask of settings, and what it makes of terms is their rows' numbers.
--- Assumes nothing.
 use Rattle.common_laws.proofs.Base.{Bool, true, false, not, _||_, List, [], _∷_, _++_, map, none, some, _≡_, refl, sym, ap, subst, _∙_, ℕ, zero, suc, _+_, _*_, _-_, _/_, _%_, _^_}
 use Rattle.common_laws.proofs.Base.{_≤_, _<_, pow-suc, one-le-pow, add-zero, add-suc, suc-add, zero-add, mul-assoc, mul-comm, div-eq-of-lt, mod-eq-of-lt, add-mul-div-right}
 use Rattle.common_laws.proofs.Base.{add-mul-mod-self-right, arith, eqb, length, getD, pow-add, ne-eqb, eqb-true}

@@ -1,5 +1,4 @@
 -- Masks put together from those of fewer pins, and rows without their last digit.
--- Assumes nothing.
 use Rattle.common_laws.proofs.Base.{Bool, true, false, not, and-false, List, [], _∷_, _++_, map, none, some, _≡_, refl, sym, ap, _∙_, ℕ, zero, suc, _+_, _*_, _-_, _/_, _%_, _^_}
 use Rattle.common_laws.proofs.Base.{_≤_, _<_, pow-suc, mul-le-mul-right, div-add-mod', mul-assoc, mul-comm, pow-le-pow-right, arith, eqb, length, length-append, length-map}
 use Rattle.common_laws.proofs.Base.{pow-add, eqb-true, eqb-false}

@@ -1,5 +1,4 @@
 -- The rows that the code finds are the prime implicants: masks against settings, numbers in base 3 against terms.
--- Assumes nothing.
 use Rattle.common_laws.proofs.Base.{Bool, true, false, not, _&&_, _||_, List, [], _∷_, _++_, map, append-assoc, Option, none, some, _≡_, refl, sym, ap, _∙_, ℕ, zero, suc, _+_, _*_}
 use Rattle.common_laws.proofs.Base.{_-_, _/_, _%_, _^_, _≤_, _<_, min, pow-suc, pow-zero, one-le-pow, add-zero, add-suc, suc-add, add-mul-div-right, add-mul-mod-self-right}
 use Rattle.common_laws.proofs.Base.{mul-add-div-right, div-eq-of-lt, mul-assoc, mul-comm, mod-eq-of-lt, arith, bitAnd, and-step, eqb, length, pow-add, eq-eqb, ne-eqb, eqb-true}

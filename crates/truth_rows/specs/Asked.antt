@@ -1,5 +1,4 @@
 -- What the code asks of the rows of a group.
--- Assumes nothing.
 use mathlib.Core.List.{map}
 use mathlib.Core.Path.{_≡_}
 use Prim.Native.Nat.{ℕ, _≤_}

@@ -1,6 +1,5 @@
 -- How the code holds conditions and terms: a condition as the bits of a number, a term as a number in base 3, its digits the
 -- pins' columns. `proofs/Primes.antt` ties them to the definitions of crate `truth_tables`, which are the ones to read.
--- Assumes nothing.
 use mathlib.Core.Bool.{Bool, true, false, not, _&&_, _||_}
 use mathlib.Core.List.{List, [], _∷_, _++_, map}
 use mathlib.Core.Option.{Option, none, some}

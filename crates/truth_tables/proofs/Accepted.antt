@@ -1,5 +1,4 @@
 -- The entry of every truth table is accepted by the library reader, and read as the table's cell.
--- Assumes nothing.
 use Rattle.common_laws.proofs.Base.{Bool, true, false, true≢false, not, List, [], _∷_, map, List·Memᴰ, List·Memᴰ·head, List·Memᴰ·tail, none, some, _≡_, refl, sym, ap, _∙_, ℕ, zero}
 use Rattle.common_laws.proofs.Base.{suc, _+_, _*_, _-_, _/_, _%_, _^_, _≤_, _<_, pow-le-pow-right, one-le-pow, add-mul-div-right, div-eq-of-lt, arith, length, length-map, pow-add}
 use Rattle.common_laws.proofs.Base.{eq-eqb, ne-eqb, le-ltb, lt-leb}

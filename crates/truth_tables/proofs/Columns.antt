@@ -1,5 +1,4 @@
 -- Which columns the row of a term names: a pin at a value exactly where the term has that value for the pin.
--- Assumes nothing.
 use Rattle.common_laws.proofs.Base.{Bool, true, false, [], _∷_, Option, none, some, _≡_, refl, sym, subst, ap, _∙_, ℕ, zero, suc, _+_, _*_, _-_, _/_, _%_, _^_, _≤_, _<_}
 use Rattle.common_laws.proofs.Base.{not-suc-le-zero, le-of-suc-le-suc, div-one, one-add, arith, shr-shr, eqb, length, getD, eqb-true}
 use lib.Arith.{digits-div}

@@ -1,7 +1,6 @@
 -- A truth table of at most four pins has at most 16 prime implicants, so that each group has at most as many rows as the
 -- library reader takes. The prime implicants of n + 1 pins are those of n pins of three conditions, one for what the first pin
 -- is named; so those of four pins are counted by nine conditions on two pins, of which a table of 256 cases is computed.
--- Assumes nothing.
 use Rattle.common_laws.proofs.Base.{Bool, true, false, not, _&&_, _||_, and-true, List, [], _∷_, _++_, map, List·Memᴰ, List·Memᴰ·head, List·Memᴰ·tail, Option, none, some, _≡_}
 use Rattle.common_laws.proofs.Base.{refl, sym, ap, _∙_, ℕ, zero, suc, _+_, _*_, _≤_, arith, leb-true, leb, length, length-append, length-map}
 use Rattle.reading.specs.Choice.{pick}

@@ -1,5 +1,4 @@
 -- The one fact for all truth tables: a setting is one of a condition exactly when it meets a prime implicant of it.
--- Assumes nothing.
 use Rattle.common_laws.proofs.Base.{Bool, true, false, not, _||_, and-false, List, [], _∷_, map, List·Memᴰ, List·Memᴰ·head, Memᴰ·append-left, Memᴰ·append-right, _↔_, Option, none}
 use Rattle.common_laws.proofs.Base.{some, _≡_, refl, sym, ap, subst, _∙_, ℕ, zero, suc, _-_, _≤_, arith, length, not-false}
 use Rattle.reading.specs.Each.{Each}

@@ -1,5 +1,4 @@
 -- The entry of a cell is read as the cell.
--- Assumes nothing.
 use Rattle.common_laws.proofs.Base.{true, false, _&&_, List, [], _∷_, _++_, append-assoc, append-nil, List·Memᴰ, List·Memᴰ·head, List·Memᴰ·tail, List·Memᴰ·not-nil}
 use Rattle.common_laws.proofs.Base.{List·Memᴰ·append-cases, _⊎_, ⊎-elim, some, _≡_, refl, sym, ap, _∙_, ℕ, zero, suc, _+_, _*_, _/_, _%_, _^_, _≤_, _<_, arith, leb, length, eq-eqb}
 use Rattle.common_laws.proofs.Base.{le-ltb, leb-true}

@@ -1,5 +1,4 @@
 -- No entry of a truth table is long.
--- Assumes nothing.
 use Rattle.common_laws.proofs.Base.{Bool, true, false, List, [], _∷_, _++_, map, none, _≡_, refl, ℕ, zero, suc, _+_, _*_, _-_, _≤_, arith, length, length-append, length-map}
 use Rattle.reading.specs.Each.{Each}
 use Rattle.text.specs.Bytes.{bytes}

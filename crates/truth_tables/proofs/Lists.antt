@@ -1,5 +1,4 @@
 -- What holds of each element of a list, of some element, and of those that are kept.
--- Assumes nothing.
 use Rattle.common_laws.proofs.Base.{Bool, true, false, _&&_, List, [], _∷_, _++_, map, List·Memᴰ, List·Memᴰ·head, List·Memᴰ·tail, List·Memᴰ·not-nil, _≡_, refl, sym, ap, _∙_, _+_}
 use Rattle.common_laws.proofs.Base.{_≤_, arith, length}
 use Rattle.reading.specs.Choice.{pick}

@@ -1,5 +1,4 @@
 -- The rows of each group stand by descending value, and no row has a bit above its columns.
--- Assumes nothing.
 use Rattle.common_laws.proofs.Base.{Bool, true, false, List, [], _∷_, _++_, map, Option, none, some, _≡_, refl, sym, ap, subst, _∙_, ℕ, zero, suc, _+_, _*_, _-_, _^_, _≤_, _<_}
 use Rattle.common_laws.proofs.Base.{pow-suc, arith, length}
 use Rattle.reading.specs.Choice.{pick}

@@ -1,5 +1,4 @@
 -- The fact of document 02, K6, over rows and groups: a setting meets the row of a term exactly when it meets the term.
--- Assumes nothing.
 use Rattle.common_laws.proofs.Base.{Bool, true, false, List, [], _∷_, _++_, map, List·Memᴰ, List·Memᴰ·head, List·Memᴰ·tail, List·Memᴰ·append-cases, Memᴰ·append-left, _⊎_, inl, inr}
 use Rattle.common_laws.proofs.Base.{⊎-elim, _↔_, none, _≡_, refl, sym, ap, subst, _∙_, ℕ, zero, suc, _+_, _*_, _-_, _^_, _≤_, _<_, pow-suc, add-zero, add-suc, suc-add, zero-add}
 use Rattle.common_laws.proofs.Base.{arith, eqb, length, getD, eq-eqb, eqb-true}

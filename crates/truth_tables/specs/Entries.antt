@@ -1,5 +1,4 @@
 -- The cell of a truth table, and the text of a cell's entry. Document 02, K6; document 01, "Cells".
--- Assumes nothing.
 use mathlib.Core.Bool.{Bool, true, false}
 use mathlib.Core.List.{List, [], _∷_, _++_, map}
 use mathlib.Core.Option.{Option, none, some}

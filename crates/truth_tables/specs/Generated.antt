@@ -1,5 +1,4 @@
 -- Cells that have a truth table. Document 02, K8: "cells that K6 generates, constants among them".
--- Assumes nothing.
 use mathlib.Core.Bool.{Bool}
 use mathlib.Core.List.{List}
 use mathlib.Core.Path.{_≡_}

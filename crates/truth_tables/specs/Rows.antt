@@ -1,6 +1,5 @@
 -- When a setting of the pins meets a row, and what the rows of a cell tell of a truth table. Document 02, K6: "One fact covers
 -- all truth tables: a setting of the pins gives e exactly when it meets a row of group e."
--- Assumes nothing.
 use mathlib.Core.Bool.{Bool, true, false}
 use mathlib.Core.List.{List, []}
 use mathlib.Core.Logic.{_↔_}

@@ -1,5 +1,4 @@
 -- What is shown of every truth table, under the names of proofs/. Document 02, K6.
--- Assumes nothing.
 use mathlib.Core.Bool.{Bool, true}
 use mathlib.Core.List.{List, [], _∷_, map}
 use mathlib.Core.Path.{_≡_}

@@ -1,5 +1,4 @@
 -- Truth tables, implicants and prime implicants. Document 02, K6: "Rows from the truth table".
--- Assumes nothing.
 use mathlib.Core.Bool.{Bool, true, false, not, _&&_, _||_}
 use mathlib.Core.List.{List, [], _∷_, _++_, map}
 use mathlib.Core.Option.{Option, none, some}

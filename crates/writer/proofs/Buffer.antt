@@ -1,6 +1,5 @@
 -- The laws of a text in a buffer, or a refusal: from the cursor behind the text to the answer, from the answer to what is
 -- printed, and from a refusal to its one number and back.
--- Assumes nothing.
 use Rattle.common_laws.proofs.Base.{Bool, false, List, _++_, _≡_, refl, sym, ap, _∙_, ℕ, _+_, _≤_, _<_, arith, leb, ltb, length, drop, replicate, length-append, take-append-seam}
 use Rattle.common_laws.proofs.Base.{length-sets, le-leb, lt-leb, le-ltb, lt-ltb, leb-true, leb-false}
 use lib.Seq.{drop-append-seam}

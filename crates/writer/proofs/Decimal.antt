@@ -1,5 +1,4 @@
 -- The laws of numbers in decimal: what the digits read back as, and how many there are.
--- Assumes nothing.
 use Rattle.common_laws.proofs.Base.{[], _∷_, _++_, append-assoc, some, _≡_, refl, ℕ, suc, _+_, _/_, _%_, _^_, _≤_, _<_, arith, length}
 use Rattle.text.specs.Numeral.{numeral}
 use Rattle.writer.specs.Decimal.{decimalBytes, twoDigits}

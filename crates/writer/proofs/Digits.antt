@@ -1,5 +1,4 @@
 -- The laws of numbers in any base: the last digit and those above it, how many there are, and what they read back as.
--- Assumes nothing.
 use Rattle.common_laws.proofs.Base.{Bool, true, false, not, List, [], _∷_, _++_, some, _≡_, refl, sym, ap, _∙_, ℕ, zero, suc, _+_, _*_, _-_, _/_, _%_, _^_, _≤_, _<_, pow-zero}
 use Rattle.common_laws.proofs.Base.{pow-suc, one-le-pow, mod-lt, mod-eq-of-lt, div-add-mod', arith, ltb, eqb, length, length-append, lt-ltb, le-ltb, le-leb, ne-eqb, ltb-true}
 use Rattle.common_laws.proofs.Base.{ltb-false}

@@ -1,5 +1,4 @@
 -- The laws of numbers in octal.
--- Assumes nothing.
 use Rattle.common_laws.proofs.Base.{true, [], _∷_, _++_, some, _≡_, ℕ, suc, _+_, _/_, _%_, _^_, _≤_, _<_, arith, length}
 use Rattle.text.specs.Numeral.{allDigits, value, numeral}
 use Rattle.writer.specs.Octal.{octalBytes}

@@ -1,5 +1,4 @@
 -- How far a number's digits stand in a buffer that is filled from the last digit to the first.
--- Assumes nothing.
 use Rattle.common_laws.proofs.Base.{List, [], _∷_, _++_, append-nil, append-assoc, _≡_, refl, sym, ap, _∙_, ℕ, _+_, _-_, _/_, _%_, _^_, _≤_, _<_, arith, length, length-append}
 use Rattle.common_laws.proofs.Base.{sets}
 use Rattle.writer.specs.Decimal.{decimalBytes, twoDigits}

@@ -1,5 +1,4 @@
 -- What the proofs of the functions that write at a cursor share: bytes put behind bytes.
--- Assumes nothing.
 use Rattle.common_laws.proofs.Base.{List, [], _∷_, _++_, ltb, ltb-true, ltb-false, _≡_, refl, sym, ap, _∙_, ℕ, suc, _+_, _-_, _≤_, _<_, min, zero-add, add-zero, arith, length, set}
 use Rattle.common_laws.proofs.Base.{drop, length-append, sets, length-sets, sets-eq}
 use Rattle.reading.proofs.Laws.{by-test}

@@ -1,7 +1,6 @@
 -- A text in the front of a lent buffer, or a refusal: what a call answers that writes one, what it leaves in the buffer, the
 -- one number for a caller in C, and what a program prints. Document 01, "Report", "Where a text stops" and "Callers". What is
 -- to be written is a `Read (List ℕ)`: the bytes of the text, or the refusal.
--- Assumes nothing.
 use mathlib.Core.List.{List, [], _∷_, _++_}
 use mathlib.Core.Path.{_≡_}
 use Prim.Native.Nat.{ℕ, _+_, _*_, _/_, _%_, _≤_, _<_}

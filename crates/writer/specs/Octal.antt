@@ -1,5 +1,4 @@
 -- Numbers as they are written, in octal.
--- Assumes nothing.
 use mathlib.Core.List.{List}
 use Prim.Native.Nat.{ℕ}
 use Rattle.writer.specs.Digits.{digits, digits-open}

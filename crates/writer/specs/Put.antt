@@ -1,6 +1,5 @@
 -- What a function leaves that writes at a cursor. Document 01, "Report", has none of this: it says how the report comes
 -- to stand in its buffer.
--- Assumes nothing.
 use mathlib.Core.List.{List}
 use mathlib.Core.Path.{_≡_}
 use Prim.Native.Nat.{ℕ, _+_, _-_, min}

@@ -1,5 +1,4 @@
 -- A refusal as it is printed. Document 01, "Report".
--- Assumes nothing.
 use mathlib.Core.List.{List, [], _∷_, _++_}
 use Prim.Native.Nat.{ℕ}
 use Rattle.text.specs.Bytes.{bytes}

@@ -1,4 +1,4 @@
--- `advise` reads both texts, and lays the advice into the answer. Assumes nothing.
+-- `advise` reads both texts, and lays the advice into the answer.
 use Rattle.common_laws.proofs.Base.{refl, now, needs}
 use Rattle.demands.specs.Outcome.{givenTexts}
 use Rattle.demands.proofs.Given.{texts-checked}

@@ -1,4 +1,4 @@
--- `put_advice` lays the largest CO of an advice that names a line. Assumes nothing.
+-- `put_advice` lays the largest CO of an advice that names a line.
 use Rattle.common_laws.proofs.Base.{refl, needs}
 use Rattle.advice_calls.specs.Calls.{adviceInto}
 use Rattle.advice_calls.proofs.put_advice.Statement.{statement}

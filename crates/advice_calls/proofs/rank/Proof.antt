@@ -1,4 +1,4 @@
--- `rank` reads both texts, and lays the ranks into the table. Assumes nothing.
+-- `rank` reads both texts, and lays the ranks into the table.
 use Rattle.common_laws.proofs.Base.{refl, now, needs}
 use Rattle.sizes.specs.Sizes as Size
 use Rattle.demands.specs.Outcome.{givenTexts}

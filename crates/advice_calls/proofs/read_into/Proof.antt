@@ -1,4 +1,4 @@
--- `read_into` refuses a short answer, and reads both texts. Assumes nothing.
+-- `read_into` refuses a short answer, and reads both texts.
 use Rattle.common_laws.proofs.Base.{refl, _∙_, now, needs}
 use Rattle.reading.specs.Verdict.{verdictRead}
 use Rattle.table.proofs.Places.{cleared-all}

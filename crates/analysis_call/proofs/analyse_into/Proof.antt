@@ -1,4 +1,4 @@
--- `analyse_into`: the entry and both texts, then the end. Assumes nothing.
+-- `analyse_into`: the entry and both texts, then the end.
 use Rattle.common_laws.proofs.Base.{now, needs}
 use Rattle.demands.specs.Answer.{lentOf}
 use Rattle.demands.specs.Outcome.{Given, Lent, givenTexts}

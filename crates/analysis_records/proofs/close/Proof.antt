@@ -1,4 +1,4 @@
--- `close` ends a call, with what comes behind the last record. Assumes nothing.
+-- `close` ends a call, with what comes behind the last record.
 use Rattle.common_laws.proofs.Base.{_≡_, sym, _∙_, subst, now, needs}
 use Rattle.analysis_texts.specs.declared.Progress.{Progress}
 use Rattle.demands.specs.Answer.{answerRead, lentOf}

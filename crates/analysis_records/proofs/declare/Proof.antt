@@ -1,4 +1,4 @@
--- `declare` refuses 20 where nothing is refused so far. Assumes nothing.
+-- `declare` refuses 20 where nothing is refused so far.
 use Rattle.common_laws.proofs.Base.{_≡_, refl, sym, _∙_, now, needs}
 use Rattle.analysis_texts.proofs.Reached.{entry-shut, later-shut}
 use Rattle.analysis_records.proofs.Laws.{declared-stays, declares-some, declares-none}

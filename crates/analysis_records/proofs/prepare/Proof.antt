@@ -1,4 +1,4 @@
--- `prepare` begins the call, and clears the netlist table where nothing is refused. Assumes nothing.
+-- `prepare` begins the call, and clears the netlist table where nothing is refused.
 use Rattle.common_laws.proofs.Base.{sym, _∙_, now, needs}
 use Rattle.analysis_texts.proofs.Reached.{entry-shut, later-shut}
 use Rattle.analysis_records.proofs.Call.{prepared-kept, prepared-cleared}

@@ -1,7 +1,6 @@
 -- `analysis_records::walk` meets its contract: a walk of its MIR, by hand. Each turn looks into the slice of records, copies
 -- one record out, lends the table again to `step` for a lifetime that is made for the call, and takes it back at its last list.
 -- All that the proof knows of `step` is that it meets its contract: `Walked` is never unfolded here.
--- Assumes nothing.
 use Rattle.common_laws.proofs.Base.{_≡_, refl, sym, _∙_, ap, subst, ℕ, zero, suc, _+_, _*_, _-_, _≤_, _<_, _^_, add-one, arith, Bool, not, List, [], _∷_, T, ltb, length, getD}
 use Rattle.common_laws.proofs.Base.{take, take-suc, take-all, length-take-le, RefT}
 use Prim.Native.Nat.{zero-le}

@@ -1,4 +1,4 @@
--- `begin` reads the library text behind the entry. Assumes nothing.
+-- `begin` reads the library text behind the entry.
 use Rattle.common_laws.proofs.Base.{List, _++_, _≡_, sym, ap, subst, _∙_, ℕ, length, drop, now, needs}
 use Rattle.sizes.specs.Sizes as Size
 use Rattle.reading.specs.Refusal.{read}

@@ -1,4 +1,4 @@
--- `clear_lent` clears a table that was lent. Assumes nothing.
+-- `clear_lent` clears a table that was lent.
 use Rattle.common_laws.proofs.Base.{now, needs}
 use Rattle.analysis_texts.proofs.Own.{own-cleared}
 use Rattle.analysis_texts.proofs.clear_lent.Statement.{statement}

@@ -1,4 +1,4 @@
--- `read_netlist` reads the netlist text where nothing is refused so far. Assumes nothing.
+-- `read_netlist` reads the netlist text where nothing is refused so far.
 use Rattle.common_laws.proofs.Base.{_≡_, sym, ap, subst, _∙_, _≤_, length, drop, now, needs}
 use Rattle.sizes.specs.Sizes as Size
 use Rattle.netlist_text.specs.Reader.{NoStatements}

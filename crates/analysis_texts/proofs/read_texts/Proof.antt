@@ -1,4 +1,4 @@
--- `read_texts`: the entry and the library, then the netlist text. Assumes nothing.
+-- `read_texts`: the entry and the library, then the netlist text.
 use Rattle.common_laws.proofs.Base.{sym, _∙_, now, needs}
 use Rattle.library_table.specs.Library.{library}
 use Rattle.demands.specs.Outcome.{givenBy}

@@ -1,4 +1,4 @@
--- `advised_code` tells an advice by its line, a refusal by its one number. Assumes nothing.
+-- `advised_code` tells an advice by its line, a refusal by its one number.
 use Rattle.common_laws.proofs.Base.{ap, _∙_, needs}
 use Rattle.advice_calls.specs.Calls.{advisedRead}
 use Rattle.answer_codes.specs.Advice.{adviceLine}

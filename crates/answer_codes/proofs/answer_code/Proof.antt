@@ -1,4 +1,4 @@
--- `answer_code` tells a report's length by itself, a refusal by its one number. Assumes nothing.
+-- `answer_code` tells a report's length by itself, a refusal by its one number.
 use Rattle.common_laws.proofs.Base.{ap, needs}
 use Rattle.demands.specs.declared.Summary.{Summary}
 use Rattle.demands.specs.Answer.{answerRead}

@@ -1,4 +1,4 @@
--- `change_code` tells which of the two happened by 1 or 0, a refusal by its one number. Assumes nothing.
+-- `change_code` tells which of the two happened by 1 or 0, a refusal by its one number.
 use Rattle.common_laws.proofs.Base.{ap, needs}
 use Rattle.reading.specs.Choice.{pick}
 use Rattle.standing_change.specs.Calls.{changedRead}

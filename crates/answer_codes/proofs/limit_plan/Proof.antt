@@ -1,4 +1,4 @@
--- `limit_plan` keeps what was answered, or refuses a text whose length is not told. Assumes nothing.
+-- `limit_plan` keeps what was answered, or refuses a text whose length is not told.
 use Rattle.common_laws.proofs.Base.{arith, needs}
 use Rattle.reading.specs.Numbers as No
 use Rattle.answer_codes.proofs.Plan.{limits-short, limits-refused, limits-long}

@@ -1,4 +1,4 @@
--- `line_number` tells a line by itself, that there is none by 0. Assumes nothing.
+-- `line_number` tells a line by itself, that there is none by 0.
 use Rattle.common_laws.proofs.Base.{refl, needs}
 use Rattle.answer_codes.specs.Advice.{adviceLine}
 use Rattle.answer_codes.proofs.line_number.Statement.{statement}

@@ -1,4 +1,4 @@
--- `pads_code` tells a count by itself, a refusal by its one number. Assumes nothing.
+-- `pads_code` tells a count by itself, a refusal by its one number.
 use Rattle.common_laws.proofs.Base.{refl, ap, needs}
 use Rattle.writer.specs.Buffer.{codeOf}
 use Rattle.standing_calls.specs.Calls.{padsRead}

@@ -1,4 +1,4 @@
--- `ranked_code` tells a count by itself, a refusal by its one number. Assumes nothing.
+-- `ranked_code` tells a count by itself, a refusal by its one number.
 use Rattle.common_laws.proofs.Base.{refl, ap, needs}
 use Rattle.writer.specs.Buffer.{codeOf}
 use Rattle.advice_calls.specs.Calls.{rankedRead}

@@ -1,4 +1,4 @@
--- `steps_code` tells a count by itself, a refusal by its one number. Assumes nothing.
+-- `steps_code` tells a count by itself, a refusal by its one number.
 use Rattle.common_laws.proofs.Base.{refl, ap, needs}
 use Rattle.writer.specs.Buffer.{codeOf}
 use Rattle.budget_call.specs.Promise.{stepsRead}

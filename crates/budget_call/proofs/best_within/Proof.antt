@@ -1,4 +1,4 @@
--- `best_within`: the entry and both texts, then the run. Assumes nothing.
+-- `best_within`: the entry and both texts, then the run.
 use Rattle.common_laws.proofs.Base.{refl, _∙_, now, needs}
 use Rattle.table.proofs.Places.{cleared-all}
 use Rattle.budget_call.specs.Promise.{stepsRead}

@@ -1,4 +1,4 @@
--- `fill`: the run, its last cost, and the words of all values. Assumes nothing.
+-- `fill`: the run, its last cost, and the words of all values.
 use Rattle.common_laws.proofs.Base.{refl, _∙_, length-set, needs}
 use Rattle.budget_call.proofs.Words.{filled}
 use Rattle.budget_call.proofs.fill.Statement.{statement}

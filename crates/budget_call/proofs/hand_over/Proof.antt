@@ -1,4 +1,4 @@
--- `hand_over` lays the words of one value more with each turn. Assumes nothing.
+-- `hand_over` lays the words of one value more with each turn.
 use Rattle.common_laws.proofs.Base.{_≡_, _-_, _≤_, arith, needs}
 use Rattle.sizes.specs.Sizes as Size
 use Rattle.budget_call.specs.Parts.{Handed}

@@ -1,4 +1,4 @@
--- `hand_value` goes by whether the number is below never. Assumes nothing.
+-- `hand_value` goes by whether the number is below never.
 use Rattle.common_laws.proofs.Base.{_∙_, needs}
 use Rattle.budget_call.proofs.Words.{value-fixed, value-open}
 use Rattle.budget_call.proofs.hand_value.Statement.{statement}

@@ -1,4 +1,4 @@
--- `put_value` stores one word behind the other. Assumes nothing.
+-- `put_value` stores one word behind the other.
 use Rattle.common_laws.proofs.Base.{List, ap, _∙_, ℕ, _+_, set, needs}
 use Rattle.sizes.specs.Places.{flagPlace}
 use Rattle.budget_call.proofs.put_value.Statement.{statement}

@@ -1,4 +1,4 @@
--- `cost_at` reads a key. Assumes nothing.
+-- `cost_at` reads a key.
 use Rattle.common_laws.proofs.Base.{arith, _+_, _/_, _≤_, getD, needs, refl}
 use Rattle.sizes.specs.Sizes as Size
 use Rattle.cost.specs.Cost.{never}

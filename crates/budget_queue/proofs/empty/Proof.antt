@@ -1,4 +1,4 @@
--- `empty` has the key of never everywhere. Assumes nothing.
+-- `empty` has the key of never everywhere.
 use borrow.Author.Needs.{needs}
 use Rattle.budget_queue.proofs.Laws.{empty-key}
 use Rattle.budget_queue.proofs.empty.Statement.{statement}

@@ -1,4 +1,4 @@
--- `front` reads the root. Assumes nothing.
+-- `front` reads the root.
 use Rattle.common_laws.proofs.Base.{needs, arith}
 use Rattle.budget_queue.proofs.Laws.{front-of}
 use Rattle.budget_queue.proofs.front.Statement.{statement}

@@ -1,4 +1,4 @@
--- `put` stores a key at its leaf and then goes up, a place at a time. Assumes nothing.
+-- `put` stores a key at its leaf and then goes up, a place at a time.
 use Rattle.common_laws.proofs.Base.{needs, _≡_, _∙_, refl, sym, ap, ℕ, _+_, _*_, _-_, _/_, _%_, _≤_, _<_, min, arith, length, getD, set, length-set, getD-set-same}
 use Rattle.sizes.specs.Sizes as Size
 use Rattle.budget_queue.proofs.Laws.{Above, SameLeaves, above-store, above-step, beside-lower, leaves-step, put-same, put-done}

@@ -1,4 +1,4 @@
--- `offer_of` gathers the costs of the gate's columns, and takes the least row sum over them. Assumes nothing.
+-- `offer_of` gathers the costs of the gate's columns, and takes the least row sum over them.
 use Rattle.common_laws.proofs.Base.{Bool, true, false, List, _≡_, refl, sym, ap₂, _∙_, ℕ, _+_, _*_, _≤_, arith, needs, length}
 use Rattle.sizes.specs.Sizes as Size
 use Rattle.sizes.specs.Places.{groupPlace}

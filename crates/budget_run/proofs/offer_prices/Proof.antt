@@ -1,4 +1,4 @@
--- `offer_prices` puts one price more with each turn. Assumes nothing.
+-- `offer_prices` puts one price more with each turn.
 use Rattle.common_laws.proofs.Base.{_≡_, ap, ℕ, _-_, _≤_, arith, getD, needs}
 use Rattle.sizes.specs.Sizes as Size
 use Rattle.sizes.specs.Places.{leafPlace}

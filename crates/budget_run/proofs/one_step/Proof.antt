@@ -1,4 +1,4 @@
--- `one_step` fixes the front of the queue, wakes the readers of its line and takes their offers anew. Assumes nothing.
+-- `one_step` fixes the front of the queue, wakes the readers of its line and takes their offers anew.
 use Rattle.common_laws.proofs.Base.{_∙_, arith, length-set, needs}
 use Rattle.budget_run.proofs.Step.{stepped-none, stepped-fix}
 use Rattle.budget_run.proofs.one_step.Statement.{statement}

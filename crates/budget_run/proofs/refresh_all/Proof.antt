@@ -1,4 +1,4 @@
--- `refresh_all` goes through the gates. Assumes nothing.
+-- `refresh_all` goes through the gates.
 use Rattle.common_laws.proofs.Base.{_⊎_, inl, inr, _≡_, ℕ, _+_, _-_, _≤_, _<_, ℕ-discrete, arith, getD}
 use Rattle.sizes.specs.Sizes as Size
 use Rattle.budget_run.specs.Steps.{AnyGate}

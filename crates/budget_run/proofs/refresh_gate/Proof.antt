@@ -1,4 +1,4 @@
--- `refresh_gate` takes both values. Assumes nothing.
+-- `refresh_gate` takes both values.
 use borrow.Author.Needs.{needs}
 use Rattle.budget_run.proofs.Offers.{output-stands, refreshed}
 use Rattle.budget_run.proofs.refresh_gate.Statement.{statement}

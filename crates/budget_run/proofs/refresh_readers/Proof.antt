@@ -1,4 +1,4 @@
--- `refresh_readers` walks along the chain of the line. Assumes nothing.
+-- `refresh_readers` walks along the chain of the line.
 use Rattle.common_laws.proofs.Base.{_≡_, _*_, _≤_, _<_, arith, needs}
 use Rattle.sizes.specs.Sizes as Size
 use Rattle.budget_run.proofs.Offers.{Walk, walk-start, next-below, gate-inside, walk-on, walk-end}

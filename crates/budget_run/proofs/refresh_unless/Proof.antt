@@ -1,4 +1,4 @@
--- `refresh_unless` is a test. Assumes nothing.
+-- `refresh_unless` is a test.
 use Rattle.common_laws.proofs.Base.{refl, needs}
 use Rattle.budget_run.proofs.refresh_unless.Statement.{statement}
 use Rattle.budget_run.proofs.refresh_unless.Tie as tie

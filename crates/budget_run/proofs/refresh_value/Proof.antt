@@ -1,4 +1,4 @@
--- `refresh_value` puts the gate's bid at its leaf. Assumes nothing.
+-- `refresh_value` puts the gate's bid at its leaf.
 use Rattle.common_laws.proofs.Base.{_≡_, ℕ, _<_, needs}
 use Rattle.sizes.specs.Sizes as Size
 use Rattle.budget_queue.specs.Queue.{Put}

@@ -1,4 +1,4 @@
--- `run`: the prices and the offers at the start, then one step after the other. Assumes nothing.
+-- `run`: the prices and the offers at the start, then one step after the other.
 use Rattle.common_laws.proofs.Base.{List, refl, _∙_, ap, _-_, _≤_, arith, length, length-replicate, needs}
 use Rattle.sizes.specs.Sizes as Size
 use Rattle.cost.specs.Cost.{never}

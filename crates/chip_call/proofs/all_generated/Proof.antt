@@ -1,4 +1,4 @@
--- `all_generated` goes on while each cell is generated. Assumes nothing.
+-- `all_generated` goes on while each cell is generated.
 use Rattle.common_laws.proofs.Base.{_≡_, refl, sym, ap, _∙_, _-_, _≤_, arith, length}
 use Rattle.sizes.specs.Sizes as Size
 use Rattle.netlist_table.specs.Gates.{eachOf, gateAt, gatesHeld}

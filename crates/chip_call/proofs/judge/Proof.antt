@@ -1,4 +1,4 @@
--- `judge` keeps what is known. Assumes nothing.
+-- `judge` keeps what is known.
 use borrow.Author.Needs.{needs}
 use Rattle.chip_call.proofs.Judged.{judged-known, judged-other, judged-new}
 use Rattle.chip_call.proofs.judge.Statement.{statement}

@@ -1,4 +1,4 @@
--- `qualifies` puts the three answers together. Assumes nothing.
+-- `qualifies` puts the three answers together.
 use Rattle.netlist_table.specs.Gates.{gatesHeld}
 use Rattle.chip_loops.specs.Marks.{readOnce}
 use Rattle.chip_call.specs.Qualified.{allGenerated, qualifying}

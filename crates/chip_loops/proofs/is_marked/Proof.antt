@@ -1,4 +1,4 @@
--- `is_marked` looks at the line's mark. Assumes nothing.
+-- `is_marked` looks at the line's mark.
 use Rattle.common_laws.proofs.Base.{not, ap, ℕ, eqb}
 use Rattle.chip_loops.specs.Marks.{marked}
 use Rattle.chip_loops.proofs.is_marked.Statement.{statement}

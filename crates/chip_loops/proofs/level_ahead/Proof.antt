@@ -1,4 +1,4 @@
--- `level_ahead` is ahead by the gates below the one that it is at. Assumes nothing.
+-- `level_ahead` is ahead by the gates below the one that it is at.
 use Rattle.common_laws.proofs.Base.{_≡_, refl, _∙_, _-_, _≤_, arith, length, needs}
 use Rattle.sizes.specs.Sizes as Size
 use Rattle.netlist_table.specs.Gates.{gatesHeld}

@@ -1,4 +1,4 @@
--- `level_from` goes on from gate to gate while the count lasts. Assumes nothing.
+-- `level_from` goes on from gate to gate while the count lasts.
 use Rattle.common_laws.proofs.Base.{_≡_, refl, _∙_, arith, length, needs}
 use Rattle.netlist_table.specs.Gates.{gatesHeld}
 use Rattle.chip_loops.specs.Marks.{Ahead, Ahead.none}

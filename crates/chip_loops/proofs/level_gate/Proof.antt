@@ -1,4 +1,4 @@
--- `level_gate` marks the line of a gate that is ready. Assumes nothing.
+-- `level_gate` marks the line of a gate that is ready.
 use Rattle.common_laws.proofs.Base.{refl, ap, _∙_, arith, length, length-set}
 use Rattle.chip_loops.proofs.Steps.{levelled-before, not-ready, levels}
 use Rattle.chip_loops.proofs.level_gate.Statement.{statement}

@@ -1,4 +1,4 @@
--- `level_lines` has so many passes left, or the last one levelled nothing. Assumes nothing.
+-- `level_lines` has so many passes left, or the last one levelled nothing.
 use Rattle.common_laws.proofs.Base.{_≡_, refl, ap, _∙_, _≤_, arith, length}
 use Rattle.netlist_table.specs.Gates.{gatesHeld}
 use Rattle.chip_loops.specs.Marks.{passes, mostPasses}

@@ -1,4 +1,4 @@
--- `level_or_wait` changes the marks by `level_gate` alone. Assumes nothing.
+-- `level_or_wait` changes the marks by `level_gate` alone.
 use Rattle.common_laws.proofs.Base.{arith, needs}
 use Rattle.chip_loops.specs.Marks.{Ahead.none}
 use Rattle.chip_loops.proofs.Order.{ahead-gate}

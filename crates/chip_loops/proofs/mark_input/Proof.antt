@@ -1,4 +1,4 @@
--- `mark_input` marks a line that is an input. Assumes nothing.
+-- `mark_input` marks a line that is an input.
 use Rattle.common_laws.proofs.Base.{ap, _∙_, length, length-set, needs}
 use Rattle.chip_loops.proofs.Steps.{input-marked, input-none}
 use Rattle.chip_loops.proofs.mark_input.Statement.{statement}

@@ -1,4 +1,4 @@
--- `mark_inputs` has marked the inputs below the line that it is at. Assumes nothing.
+-- `mark_inputs` has marked the inputs below the line that it is at.
 use Rattle.common_laws.proofs.Base.{_≡_, refl, sym, ap, _∙_, _-_, _≤_, arith, length}
 use Rattle.sizes.specs.Sizes as Size
 use Rattle.netlist_table.specs.Netlist.{linesWhere}

@@ -1,4 +1,4 @@
--- `mentions_marked` goes on while the lines that are mentioned are marked. Assumes nothing.
+-- `mentions_marked` goes on while the lines that are mentioned are marked.
 use Rattle.common_laws.proofs.Base.{not, _≡_, refl, sym, ap, _∙_, _-_, _≤_, arith}
 use Rattle.sizes.specs.Sizes as Size
 use Rattle.netlist_table.specs.Netlist.{linesWhere}

@@ -1,4 +1,4 @@
--- `note_line` marks the line where it has no mark. Assumes nothing.
+-- `note_line` marks the line where it has no mark.
 use Rattle.common_laws.proofs.Base.{refl, sym, ap, _∙_, length, length-set}
 use Rattle.chip_loops.proofs.Steps.{note-none, note-again, note-new}
 use Rattle.chip_loops.proofs.note_line.Statement.{statement}

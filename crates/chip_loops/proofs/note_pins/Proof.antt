@@ -1,4 +1,4 @@
--- `note_pins` has marked the lines of the pins below the one that it is at. Assumes nothing.
+-- `note_pins` has marked the lines of the pins below the one that it is at.
 use Rattle.common_laws.proofs.Base.{false, _≡_, refl, sym, ap, _∙_, _-_, _≤_, arith, length}
 use Rattle.sizes.specs.Sizes as Size
 use Rattle.reading.proofs.Laws.{clash}

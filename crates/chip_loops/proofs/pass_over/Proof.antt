@@ -1,4 +1,4 @@
--- `pass_over` has passed over the gates below the one that it is at. Assumes nothing.
+-- `pass_over` has passed over the gates below the one that it is at.
 use Rattle.common_laws.proofs.Base.{false, _≡_, refl, sym, ap, _∙_, _-_, _≤_, arith, length}
 use Rattle.sizes.specs.Sizes as Size
 use Rattle.netlist_table.specs.Gates.{eachOf, gateAt, gatesHeld}

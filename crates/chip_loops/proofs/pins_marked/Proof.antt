@@ -1,4 +1,4 @@
--- `pins_marked` asks for a pin that is not marked. Assumes nothing.
+-- `pins_marked` asks for a pin that is not marked.
 use Rattle.chip_loops.proofs.pins_marked.Statement.{statement}
 use Rattle.chip_loops.proofs.pins_marked.Tie as tie
 

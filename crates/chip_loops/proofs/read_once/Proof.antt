@@ -1,4 +1,4 @@
--- `read_once` goes on while no line has a mark. Assumes nothing.
+-- `read_once` goes on while no line has a mark.
 use Rattle.common_laws.proofs.Base.{flatMap, _≡_, refl, sym, ap, _∙_, _-_, _≤_, arith, length}
 use Rattle.sizes.specs.Sizes as Size
 use Rattle.netlist_table.specs.Gates.{eachOf, gateAt}

@@ -1,4 +1,4 @@
--- `unlevelled_pin` goes on while the pins are marked. Assumes nothing.
+-- `unlevelled_pin` goes on while the pins are marked.
 use Rattle.common_laws.proofs.Base.{_≡_, refl, sym, ap, _∙_, _-_, _≤_, arith, eqb}
 use Rattle.sizes.specs.Sizes as Size
 use Rattle.netlist_table.specs.Gates.{gateLine, eachOf, present, pinLines}

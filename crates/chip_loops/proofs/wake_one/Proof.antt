@@ -1,4 +1,4 @@
--- `wake_one` changes the marks by `level_or_wait` alone. Assumes nothing.
+-- `wake_one` changes the marks by `level_or_wait` alone.
 use borrow.Author.Needs.{needs}
 use Rattle.chip_loops.specs.Marks.{Ahead.none}
 use Rattle.chip_loops.proofs.wake_one.Statement.{statement}

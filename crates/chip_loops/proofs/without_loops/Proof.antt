@@ -1,4 +1,4 @@
--- `without_loops` marks the inputs, levels ahead, makes passes and looks at the lines that are mentioned. Assumes nothing.
+-- `without_loops` marks the inputs, levels ahead, makes passes and looks at the lines that are mentioned.
 use borrow.Author.Needs.{needs}
 use Rattle.chip_loops.proofs.Order.{all-levelled}
 use Rattle.chip_loops.proofs.without_loops.Statement.{statement}

@@ -1,5 +1,4 @@
 -- `capped_sum` is the sum of document 01: the tests that led to each answer say which of its three cases holds.
--- Assumes nothing.
 use Rattle.common_laws.proofs.Base.{needs, inl, inr, sym, arith}
 use Rattle.cost.proofs.Laws.{sum-never, sum-over, sum-exact}
 use Rattle.cost.proofs.capped_sum.Statement.{statement}

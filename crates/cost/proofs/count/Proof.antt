@@ -1,4 +1,4 @@
--- `count` is the number that a raw number counts as. Assumes nothing.
+-- `count` is the number that a raw number counts as.
 use native.Mathlib.Omega.{arith}
 use Rattle.cost.specs.Cost.{counted}
 use Rattle.cost.proofs.count.Statement.{statement}

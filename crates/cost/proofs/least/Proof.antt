@@ -1,4 +1,4 @@
--- `least` is the lower of two costs. Assumes nothing.
+-- `least` is the lower of two costs.
 use Rattle.common_laws.proofs.Base.{needs, arith}
 use Rattle.cost.specs.Cost.{counted, lesser}
 use Rattle.cost.proofs.least.Statement.{statement}

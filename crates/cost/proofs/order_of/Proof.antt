@@ -1,4 +1,4 @@
--- `order_of` says how one cost stands to another, by the order of what they count as. Assumes nothing.
+-- `order_of` says how one cost stands to another, by the order of what they count as.
 use Rattle.common_laws.proofs.Base.{needs, arith}
 use Rattle.cost.proofs.Laws.{order-lower, order-same, order-higher}
 use Rattle.cost.proofs.order_of.Statement.{statement}

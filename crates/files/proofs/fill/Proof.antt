@@ -1,4 +1,4 @@
--- `fill` stays within its buffer and ends: each turn but the last reads at least one byte. Assumes nothing.
+-- `fill` stays within its buffer and ends: each turn but the last reads at least one byte.
 use Rattle.common_laws.proofs.Base.{_≡_, sym, _∙_, _≤_, _<_, _-_, arith, length, needs}
 use Rattle.files.proofs.Answers.{more, done}
 use Rattle.files.proofs.fill.Statement.{statement}

@@ -1,4 +1,4 @@
--- `front` is the part asked for, or all of the buffer where that is shorter. Assumes nothing.
+-- `front` is the part asked for, or all of the buffer where that is shorter.
 use Rattle.common_laws.proofs.Base.{sym, arith, length-take-le, take-all, needs}
 use Rattle.files.proofs.front.Statement.{statement}
 use Rattle.files.proofs.front.Tie as tie

@@ -1,4 +1,4 @@
--- `load`: the buffer is longer than a text may be. Assumes nothing.
+-- `load`: the buffer is longer than a text may be.
 use borrow.Author.Needs.{needs}
 use Rattle.files.proofs.Output.{seen}
 use Rattle.files.proofs.load.Statement.{statement}

@@ -1,4 +1,4 @@
--- `next` tells a read's answer by its sign and by where the bytes end. Assumes nothing.
+-- `next` tells a read's answer by its sign and by where the bytes end.
 use Rattle.common_laws.proofs.Base.{_||_, List, _≡_, _∙_, ℕ, _+_, _-_, now, eqb, length, take, drop, length-take, length-drop, arith, needs}
 use lib.IntN.{ℤ}
 use mir.Facts.{toZ-ofZ}

@@ -1,4 +1,4 @@
--- `put_unreadable` puts the line's bytes. Assumes nothing.
+-- `put_unreadable` puts the line's bytes.
 use borrow.Author.Needs.{needs}
 use Rattle.text.specs.Bytes.{bytes}
 use Rattle.files.specs.Output.{unreadable}

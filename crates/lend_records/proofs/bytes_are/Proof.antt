@@ -1,4 +1,4 @@
--- `bytes_are` ends: the place comes nearer to the end. Assumes nothing.
+-- `bytes_are` ends: the place comes nearer to the end.
 use Rattle.common_laws.proofs.Base.{_-_, length, needs}
 use Rattle.lend_records.proofs.bytes_are.Statement.{statement}
 use Rattle.lend_records.proofs.bytes_are.Tie as tie

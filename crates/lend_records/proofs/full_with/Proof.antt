@@ -1,4 +1,4 @@
--- `full_with` stores within the list. Assumes nothing.
+-- `full_with` stores within the list.
 use Rattle.common_laws.proofs.Base.{_≡_, _-_, length, needs}
 use Rattle.sizes.specs.Sizes as Size
 use Rattle.lend_records.proofs.full_with.Statement.{statement}

@@ -1,4 +1,4 @@
--- `print_words` ends: the place comes nearer to the end. Assumes nothing.
+-- `print_words` ends: the place comes nearer to the end.
 use Rattle.common_laws.proofs.Base.{_-_, needs}
 use Rattle.lend_records.proofs.print_words.Statement.{statement}
 use Rattle.lend_records.proofs.print_words.Tie as tie

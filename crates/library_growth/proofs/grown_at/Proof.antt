@@ -1,4 +1,4 @@
--- `grown_at` goes over the cells, to one that has not grown. Assumes nothing.
+-- `grown_at` goes over the cells, to one that has not grown.
 use Rattle.common_laws.proofs.Base.{List, _≡_, refl, sym, ap, _∙_, ℕ, _+_, _-_, _≤_, _<_, arith, needs, not-true, not-false, length}
 use Rattle.library_table.specs.Cells.{Cell}
 use Rattle.calculation.specs.Growth.{grownCell, grown}

@@ -1,4 +1,4 @@
--- `grown_cell` looks at the entry, then at the groups, then at the one-wire reading. Assumes nothing.
+-- `grown_cell` looks at the entry, then at the groups, then at the one-wire reading.
 use Rattle.common_laws.proofs.Base.{Bool, not, _||_, List, _≡_, refl, sym, ap, ap₂, _∙_, ℕ, _+_, _≤_, arith, needs, not-true, not-false, length}
 use Rattle.sizes.specs.Places.{cellPlace}
 use Rattle.sizes.specs.Sizes as Size

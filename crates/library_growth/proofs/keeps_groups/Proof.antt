@@ -1,4 +1,4 @@
--- `keeps_groups` goes over the groups, to one that lost a row. Assumes nothing.
+-- `keeps_groups` goes over the groups, to one that lost a row.
 use Rattle.common_laws.proofs.Base.{List, _≡_, refl, sym, ap, _∙_, ℕ, _+_, _*_, _-_, _≤_, _<_, arith, needs, not-true, not-false}
 use Rattle.sizes.specs.Places.{groupPlace}
 use Rattle.sizes.specs.Sizes as Size

@@ -1,4 +1,4 @@
--- `keeps_rows` has found the rows passed, each behind the one before it. Assumes nothing.
+-- `keeps_rows` has found the rows passed, each behind the one before it.
 use Rattle.common_laws.proofs.Base.{List, ⊎-elim, _≡_, refl, sym, ap, _∙_, ℕ, _+_, _*_, _-_, _≤_, _<_, arith, needs}
 use Rattle.sizes.specs.Sizes as Size
 use Rattle.library_table.specs.Cells.{Row}

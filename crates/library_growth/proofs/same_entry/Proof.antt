@@ -1,4 +1,4 @@
--- `same_entry` goes over the numbers before the groups, to one that differs. Assumes nothing.
+-- `same_entry` goes over the numbers before the groups, to one that differs.
 use Rattle.common_laws.proofs.Base.{List, _≡_, refl, sym, ap, _∙_, ℕ, _+_, _-_, _≤_, _<_, arith, needs, eq-eqb, ne-eqb, eqb, getD}
 use Rattle.sizes.specs.Places.{cellPlace}
 use Rattle.sizes.specs.Sizes as Size

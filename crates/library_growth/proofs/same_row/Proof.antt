@@ -1,4 +1,4 @@
--- `same_row` compares depths and columns. Assumes nothing.
+-- `same_row` compares depths and columns.
 use Rattle.common_laws.proofs.Base.{refl, needs}
 use Rattle.calculation.specs.Growth.{sameRow}
 use Rattle.library_growth.specs.Held.{rowAt}

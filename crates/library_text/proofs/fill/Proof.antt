@@ -1,4 +1,4 @@
--- `fill` meets its contract. Assumes nothing.
+-- `fill` meets its contract.
 use Rattle.common_laws.proofs.Base.{_≡_, refl, sym, ap, subst, _∙_, length, drop, needs}
 use Rattle.sizes.specs.Sizes as Size
 use Rattle.table.proofs.Places.{cleared-all}

@@ -1,4 +1,4 @@
--- `read_library` meets its contract: the entry by its two tests, then `fill`. Assumes nothing.
+-- `read_library` meets its contract: the entry by its two tests, then `fill`.
 use Rattle.common_laws.proofs.Base.{refl, needs}
 use Rattle.reading.specs.Refusal.{_>>_}
 use Rattle.reading.specs.Verdict.{verdictRead, doneRead}

@@ -1,4 +1,4 @@
--- `admit` checks a statement of each kind and admits it. Assumes nothing.
+-- `admit` checks a statement of each kind and admits it.
 use Rattle.common_laws.proofs.Base.{true, _≡_, refl, not-true, not-false, needs}
 use Rattle.netlist_table.specs.declared.RawStatement.{RawStatement}
 use Rattle.netlist_table.specs.Netlist.{Mark, input, output, opened, kindOf}

@@ -1,4 +1,4 @@
--- `some_undeclared` asks one line more with each turn; those past the highest that is mentioned are none. Assumes nothing.
+-- `some_undeclared` asks one line more with each turn; those past the highest that is mentioned are none.
 use Rattle.common_laws.proofs.Base.{Bool, _||_, or-false, List, _≡_, refl, sym, ap, _∙_, ℕ, _+_, _-_, _≤_, arith, needs}
 use Rattle.netlist_table.specs.Lines.{highestMentioned}
 use Rattle.netlist_table.specs.Admission.{wordsUndeclared, someUndeclared}

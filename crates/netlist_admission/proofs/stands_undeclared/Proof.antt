@@ -1,4 +1,4 @@
--- `stands_undeclared` looks at the two words of a line. Assumes nothing.
+-- `stands_undeclared` looks at the two words of a line.
 use Rattle.common_laws.proofs.Base.{Bool, _&&_, not, List, _≡_, ℕ, eqb, getD, needs}
 use Rattle.sizes.specs.Places.{driverPlace, mentionPlace}
 use Rattle.netlist_table.specs.Admission.{wordsUndeclared}

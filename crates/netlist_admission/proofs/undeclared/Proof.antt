@@ -1,4 +1,4 @@
--- `undeclared` looks at the two words of a line. Assumes nothing.
+-- `undeclared` looks at the two words of a line.
 use Rattle.common_laws.proofs.Base.{Bool, _&&_, ap, _∙_, ℕ, eqb, needs}
 use Rattle.netlist_table.specs.Lines.{mentionAt}
 use Rattle.netlist_admission.proofs.undeclared.Statement.{statement}

@@ -1,4 +1,4 @@
--- `put_copy` puts the copy, or the refusal, into the buffer. Assumes nothing.
+-- `put_copy` puts the copy, or the refusal, into the buffer.
 use Rattle.common_laws.proofs.Base.{_≡_, refl, arith, now, length, needs}
 use Rattle.netlist_open.specs.Copied.{copyBytes}
 use Rattle.netlist_open.proofs.Opens.{put-refused, put-accepted, at-entry, later, both-old}

@@ -1,4 +1,4 @@
--- `put_declared` stores the netlist, and the open lines behind it. Assumes nothing.
+-- `put_declared` stores the netlist, and the open lines behind it.
 use Rattle.writer.proofs.Steps.{put-then}
 use borrow.Author.Needs.{needs}
 use Rattle.netlist_open.proofs.put_declared.Statement.{statement}

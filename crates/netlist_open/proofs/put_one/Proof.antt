@@ -1,4 +1,4 @@
--- `put_one` stores the line of a text for a line that asks for it. Assumes nothing.
+-- `put_one` stores the line of a text for a line that asks for it.
 use Rattle.common_laws.proofs.Base.{_≡_, sym, _∙_, arith, needs}
 use Rattle.reading.specs.Choice.{pick}
 use Rattle.writer.proofs.Steps.{put-none}

@@ -1,4 +1,4 @@
--- `put_open` stores the word, the line and the line's end, one behind the other. Assumes nothing.
+-- `put_open` stores the word, the line and the line's end, one behind the other.
 use Rattle.text.specs.Bytes.{bytes}
 use Rattle.writer.proofs.Steps.{put-then}
 use Rattle.netlist_open.specs.Copy.{openLine}

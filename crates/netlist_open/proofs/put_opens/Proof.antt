@@ -1,4 +1,4 @@
--- `put_opens` stores the lines one by one, ascending: those passed stand in the buffer. Assumes nothing.
+-- `put_opens` stores the lines one by one, ascending: those passed stand in the buffer.
 use Rattle.common_laws.proofs.Base.{_≡_, _∙_, refl, _≤_, _-_, add-one, arith, needs, length}
 use Rattle.sizes.specs.Sizes as Size
 use Rattle.writer.specs.Put.{Put}

@@ -1,4 +1,4 @@
--- `line_bad` tests a line number against the range. Assumes nothing.
+-- `line_bad` tests a line number against the range.
 use Rattle.common_laws.proofs.Base.{sym, _∙_, ltb, ltb-true, ltb-false}
 use Rattle.sizes.specs.Sizes as Size
 use Rattle.reading.proofs.Laws.{by-test}

@@ -1,4 +1,4 @@
--- `some_range` looks at one word. Assumes nothing.
+-- `some_range` looks at one word.
 use Rattle.common_laws.proofs.Base.{not, ap, ℕ, eqb, needs}
 use Rattle.netlist_table.proofs.some_range.Statement.{statement}
 use Rattle.netlist_table.proofs.some_range.Tie as tie

@@ -1,4 +1,4 @@
--- `declare` refuses 20 where the rules ask for it. Assumes nothing.
+-- `declare` refuses 20 where the rules ask for it.
 use Rattle.common_laws.proofs.Base.{Bool, _&&_, _≡_, refl, sym, ap, _∙_, now, needs}
 use Rattle.reading.specs.Verdict.{verdictRead}
 use Rattle.reading.specs.declared.Verdict.the-variants.{Accepted}

@@ -1,4 +1,4 @@
--- `fill` clears the table before the text is read, and behind a refusal. Assumes nothing.
+-- `fill` clears the table before the text is read, and behind a refusal.
 use Rattle.common_laws.proofs.Base.{sym, ap, subst, _∙_, ℕ, drop, replicate, now, needs}
 use Rattle.sizes.specs.Sizes as Size
 use Rattle.table.proofs.Places.{cleared-all}

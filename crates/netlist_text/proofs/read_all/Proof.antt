@@ -1,4 +1,4 @@
--- `read_all` reads the lines of a text, and what comes behind them. Assumes nothing.
+-- `read_all` reads the lines of a text, and what comes behind them.
 use Rattle.common_laws.proofs.Base.{now, needs}
 use Rattle.netlist_text.proofs.Declared.{all-refused, all-read}
 use Rattle.netlist_text.proofs.read_all.Statement.{statement}

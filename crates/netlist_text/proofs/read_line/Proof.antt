@@ -1,4 +1,4 @@
--- `read_line` reads the statement of a line and admits it. Assumes nothing.
+-- `read_line` reads the statement of a line and admits it.
 use borrow.Author.Needs.{needs}
 use Rattle.netlist_text.proofs.read_line.Statement.{statement}
 use Rattle.netlist_text.proofs.read_line.Tie as tie

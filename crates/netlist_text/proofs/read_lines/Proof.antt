@@ -1,4 +1,4 @@
--- `read_lines` walks the lines of the text: the table holds the statements passed. Assumes nothing.
+-- `read_lines` walks the lines of the text: the table holds the statements passed.
 use Rattle.common_laws.proofs.Base.{List, _≡_, refl, sym, ap, subst, _∙_, ℕ, _+_, _-_, _≤_, _<_, arith, length, drop}
 use Rattle.sizes.specs.Sizes as Size
 use Rattle.text.specs.Lines.{part, fields, nextAfter}

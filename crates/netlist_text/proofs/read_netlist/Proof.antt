@@ -1,4 +1,4 @@
--- `read_netlist` reads the lines behind the entry. Assumes nothing.
+-- `read_netlist` reads the lines behind the entry.
 use Rattle.common_laws.proofs.Base.{now, needs}
 use Rattle.netlist_text.proofs.EntryChecks.{entered, shut, unshut, behind}
 use Rattle.netlist_text.proofs.read_netlist.Statement.{statement}

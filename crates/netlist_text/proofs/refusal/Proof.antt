@@ -1,4 +1,4 @@
--- `refusal` answers why. Assumes nothing.
+-- `refusal` answers why.
 use mathlib.Core.Path.{refl}
 use Rattle.reading.specs.Verdict.{verdictRead}
 use Rattle.netlist_text.proofs.refusal.Statement.{statement}

@@ -1,4 +1,4 @@
--- `write_plan_into`: the entry and both texts, then the plan. Assumes nothing.
+-- `write_plan_into`: the entry and both texts, then the plan.
 use Rattle.common_laws.proofs.Base.{now, needs}
 use Rattle.demands.specs.Answer.{lentOf}
 use Rattle.demands.specs.Outcome.{Given, Lent, givenTexts}

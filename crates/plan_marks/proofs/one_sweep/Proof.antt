@@ -1,5 +1,5 @@
 -- `one_sweep` goes from one awake gate to the next: the visits between change nothing and leave no mark, so that with each gate
--- all before it are visited, and the gates that are asleep stay idle. Assumes nothing.
+-- all before it are visited, and the gates that are asleep stay idle.
 use Rattle.common_laws.proofs.Base.{_≡_, _∙_, _-_, _≤_, _<_, arith, length, getD, needs}
 use Rattle.sizes.specs.Sizes as Size
 use Rattle.reading.specs.Choice.{pick}

@@ -1,4 +1,4 @@
--- `trace` sweeps until nothing changes: what is marked then is all that the definitions remember. Assumes nothing.
+-- `trace` sweeps until nothing changes: what is marked then is all that the definitions remember.
 use Rattle.common_laws.proofs.Base.{false, _≡_, refl, ap, _∙_, ℕ, suc, _+_, _*_, _-_, _≤_, arith, length, getD, length-replicate, needs, not-true}
 use Rattle.sizes.specs.Sizes as Size
 use Rattle.plans.specs.Sweep.{Bounded}

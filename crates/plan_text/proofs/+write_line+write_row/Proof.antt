@@ -1,5 +1,5 @@
 -- The two writers call each other: the line writer hands on the visit at which its number was last lowered, which is below the
--- one that it was handed. The measures are twice that bound, and one more for a row. Assumes nothing.
+-- one that it was handed. The measures are twice that bound, and one more for a row.
 use Rattle.common_laws.proofs.Base.{_≡_, refl, ap, _∙_, ℕ, _+_, _*_, _-_, _≤_, _<_, arith, and-le-l, ones, length, needs}
 use borrow.Fn.Kinds.{In}
 use borrow.Fn.PlainCycle.{Measures, is, falls, and}

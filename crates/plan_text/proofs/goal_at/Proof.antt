@@ -1,4 +1,4 @@
--- `goal_at` reads the line of a column's pin. Assumes nothing.
+-- `goal_at` reads the line of a column's pin.
 use Rattle.common_laws.proofs.Base.{refl, arith, needs}
 use Rattle.plan_text.specs.Writers.{goalAt}
 use Rattle.plan_text.proofs.goal_at.Statement.{statement}

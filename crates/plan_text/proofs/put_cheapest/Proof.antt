@@ -1,4 +1,4 @@
--- `put_cheapest` marks, and writes the line that is asked for. Assumes nothing.
+-- `put_cheapest` marks, and writes the line that is asked for.
 use Rattle.common_laws.proofs.Base.{refl, needs}
 use Rattle.netlist_table.specs.Sound.{InRange}
 use Rattle.plan_marks.specs.Runs.{Traceable}

@@ -1,4 +1,4 @@
--- `put_node` puts the parts of a line one behind the other. Assumes nothing.
+-- `put_node` puts the parts of a line one behind the other.
 use borrow.Author.Needs.{needs}
 use Rattle.writer.proofs.Steps.{put-then}
 use Rattle.plan_text.specs.PlanText.{nodeLine}

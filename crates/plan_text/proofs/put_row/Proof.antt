@@ -1,4 +1,4 @@
--- `put_row` puts the word for an input, or the row in octal. Assumes nothing.
+-- `put_row` puts the word for an input, or the row in octal.
 use Rattle.common_laws.proofs.Base.{arith, needs, eq-eqb, ne-eqb}
 use Rattle.text.specs.Bytes.{bytes}
 use Rattle.reading.specs.Choice.{pick}

@@ -1,4 +1,4 @@
--- `last_line` asks the netlist table; no line is above 1,000. Assumes nothing.
+-- `last_line` asks the netlist table; no line is above 1,000.
 use Rattle.common_laws.proofs.Base.{arith, needs}
 use Rattle.netlist_table.proofs.HeldLines.{highest-few}
 use Rattle.report_text.proofs.last_line.Statement.{statement}

@@ -1,4 +1,4 @@
--- `mentioned` asks the netlist table. Assumes nothing.
+-- `mentioned` asks the netlist table.
 use borrow.Author.Needs.{needs}
 use Rattle.report_text.specs.Arguments.{marked}
 use Rattle.report_text.proofs.mentioned.Statement.{statement}

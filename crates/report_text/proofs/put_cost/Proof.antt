@@ -1,4 +1,4 @@
--- `put_cost` stores a cost: a decimal, `over` or `never`. Assumes nothing.
+-- `put_cost` stores a cost: a decimal, `over` or `never`.
 use Rattle.common_laws.proofs.Base.{le-leb, lt-leb, eq-eqb, ne-eqb, needs}
 use Rattle.text.specs.Bytes.{bytes}
 use Rattle.reading.specs.Choice.{pick}

@@ -1,4 +1,4 @@
--- `put_costs` stores a line's costs one by one: those passed stand in the buffer. Assumes nothing.
+-- `put_costs` stores a line's costs one by one: those passed stand in the buffer.
 use Rattle.common_laws.proofs.Base.{_≡_, _∙_, refl, _≤_, _-_, add-one, arith, needs, length}
 use Rattle.sizes.specs.Sizes as Size
 use Rattle.writer.specs.Put.{Put}

@@ -1,4 +1,4 @@
--- `put_count` stores a number and a byte. Assumes nothing.
+-- `put_count` stores a number and a byte.
 use Rattle.writer.proofs.Steps.{put-then}
 use borrow.Author.Needs.{needs}
 use Rattle.report_text.proofs.put_count.Statement.{statement}

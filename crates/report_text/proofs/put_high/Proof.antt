@@ -1,4 +1,4 @@
--- `put_high` stores the line between the reports. Assumes nothing.
+-- `put_high` stores the line between the reports.
 use Rattle.text.specs.Bytes.{bytes}
 use Rattle.report_text.specs.Report.{highLine}
 use borrow.Author.Needs.{needs}

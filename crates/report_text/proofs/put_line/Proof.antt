@@ -1,4 +1,4 @@
--- `put_line` stores a line's number, its costs and the line's end. Assumes nothing.
+-- `put_line` stores a line's number, its costs and the line's end.
 use Rattle.common_laws.proofs.Base.{_≡_, _+_, _-_, arith, needs}
 use Rattle.report_text.specs.Report.{lineBytes}
 use Rattle.writer.proofs.Steps.{put-then}

@@ -1,4 +1,4 @@
--- `put_lines` stores the lines one by one, ascending: those passed stand in the buffer. Assumes nothing.
+-- `put_lines` stores the lines one by one, ascending: those passed stand in the buffer.
 use Rattle.common_laws.proofs.Base.{false, List, _≡_, _∙_, refl, ℕ, _-_, _≤_, _<_, add-comm, add-one, arith, needs, length}
 use Rattle.sizes.specs.Sizes as Size
 use Rattle.netlist_table.specs.Lines.{highestMentioned}

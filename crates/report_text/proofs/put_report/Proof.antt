@@ -1,4 +1,4 @@
--- `put_report` stores the header, the lines and the sweeps. Assumes nothing.
+-- `put_report` stores the header, the lines and the sweeps.
 use Rattle.text.specs.Bytes.{bytes}
 use Rattle.report_text.specs.Report.{header, reportBytes}
 use Rattle.writer.proofs.Steps.{put-then}

@@ -1,4 +1,4 @@
--- `put_row` stores a line that is mentioned, and of another nothing. Assumes nothing.
+-- `put_row` stores a line that is mentioned, and of another nothing.
 use Rattle.common_laws.proofs.Base.{sym, _∙_, needs}
 use Rattle.reading.specs.Choice.{pick}
 use Rattle.writer.proofs.Steps.{put-none}

@@ -1,4 +1,4 @@
--- `put_sweeps` stores the counts in their order. Assumes nothing.
+-- `put_sweeps` stores the counts in their order.
 use Rattle.common_laws.proofs.Base.{append-assoc, needs}
 use Rattle.text.specs.Bytes.{bytes}
 use Rattle.report_text.specs.Report.{sweepsBytes}

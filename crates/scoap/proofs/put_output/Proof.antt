@@ -1,4 +1,4 @@
--- `put_output`: `unreadable`, or what the analysis prints. Assumes nothing.
+-- `put_output`: `unreadable`, or what the analysis prints.
 use borrow.Author.Needs.{needs}
 use Rattle.demands.specs.Outcome.{textLong}
 use Rattle.demands.specs.Printed.{reported, printed}

@@ -1,4 +1,4 @@
--- `scoap_advise` tells the answer of `advise` by one number. Assumes nothing.
+-- `scoap_advise` tells the answer of `advise` by one number.
 use borrow.Author.Needs.{needs}
 use Rattle.answer_codes.proofs.Advice.{advice-line, advice-coded}
 use Rattle.scoap_c.proofs.scoap_advise.Statement.{statement}

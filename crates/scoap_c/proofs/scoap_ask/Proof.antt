@@ -1,4 +1,4 @@
--- `scoap_ask` tells the answer of `ask` by one number. Assumes nothing.
+-- `scoap_ask` tells the answer of `ask` by one number.
 use borrow.Author.Needs.{needs}
 use Rattle.answer_codes.proofs.Stand.{ask-line, ask-coded}
 use Rattle.scoap_c.proofs.scoap_ask.Statement.{statement}

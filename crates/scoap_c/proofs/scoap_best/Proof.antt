@@ -1,4 +1,4 @@
--- `scoap_best` tells the answer of `best_within` by one number. Assumes nothing.
+-- `scoap_best` tells the answer of `best_within` by one number.
 use borrow.Author.Needs.{needs}
 use Rattle.answer_codes.proofs.Best.{best-line, best-coded}
 use Rattle.scoap_c.proofs.scoap_best.Statement.{statement}

@@ -1,4 +1,4 @@
--- `scoap_built_in` tells the answer of `put_built_in` by one number. Assumes nothing.
+-- `scoap_built_in` tells the answer of `put_built_in` by one number.
 use Rattle.answer_codes.proofs.Cells.{built-in-line, built-in-coded}
 use borrow.Author.Needs.{needs}
 use Rattle.scoap_c.proofs.scoap_built_in.Statement.{statement}

@@ -1,4 +1,4 @@
--- `scoap_cell` tells the answer of the generator by one number. Assumes nothing.
+-- `scoap_cell` tells the answer of the generator by one number.
 use Rattle.answer_codes.proofs.Cells.{cell-line, cell-coded}
 use borrow.Author.Needs.{needs}
 use Rattle.scoap_c.proofs.scoap_cell.Statement.{statement}

@@ -1,4 +1,4 @@
--- `scoap_change` tells the answer of `change` by one number. Assumes nothing.
+-- `scoap_change` tells the answer of `change` by one number.
 use borrow.Author.Needs.{needs}
 use Rattle.answer_codes.proofs.Change.{change-line, change-coded}
 use Rattle.scoap_c.proofs.scoap_change.Statement.{statement}

@@ -1,4 +1,4 @@
--- `scoap_commit` tells the answer of `commit` by one number. Assumes nothing.
+-- `scoap_commit` tells the answer of `commit` by one number.
 use borrow.Author.Needs.{needs}
 use Rattle.answer_codes.proofs.Stand.{commit-line, commit-coded}
 use Rattle.scoap_c.proofs.scoap_commit.Statement.{statement}

@@ -1,4 +1,4 @@
--- `scoap_plan` tells the answer of `write_plan` by one number. Assumes nothing.
+-- `scoap_plan` tells the answer of `write_plan` by one number.
 use Rattle.common_laws.proofs.Base.{refl, now, needs}
 use Rattle.demands.specs.Own.{ownTables}
 use Rattle.answer_codes.proofs.Plan.{plan-line, plan-coded}

@@ -1,4 +1,4 @@
--- `scoap_rank` tells the answer of `rank` by one number. Assumes nothing.
+-- `scoap_rank` tells the answer of `rank` by one number.
 use borrow.Author.Needs.{needs}
 use Rattle.answer_codes.proofs.Advice.{rank-line, rank-coded}
 use Rattle.scoap_c.proofs.scoap_rank.Statement.{statement}

@@ -1,4 +1,4 @@
--- `scoap_report` tells the answer of the analysis by one number. Assumes nothing.
+-- `scoap_report` tells the answer of the analysis by one number.
 use Rattle.common_laws.proofs.Base.{refl, now, needs}
 use Rattle.demands.specs.Own.{ownTables}
 use Rattle.answer_codes.proofs.ReportCode.{report-line, report-coded}

@@ -1,4 +1,4 @@
--- `scoap_stand` tells the answer of `stand` by one number. Assumes nothing.
+-- `scoap_stand` tells the answer of `stand` by one number.
 use borrow.Author.Needs.{needs}
 use Rattle.answer_codes.proofs.Stand.{stand-line, stand-coded}
 use Rattle.scoap_c.proofs.scoap_stand.Statement.{statement}

@@ -1,4 +1,4 @@
--- `put_output`: `unreadable`, or the entry, or its refusal. Assumes nothing.
+-- `put_output`: `unreadable`, or the entry, or its refusal.
 use Rattle.common_laws.proofs.Base.{needs, lt-ltb}
 use Rattle.truth_entry.specs.Generated.{generated}
 use Rattle.files.specs.Output.{OneLongRefused}

@@ -1,4 +1,4 @@
--- `put_output`: `unreadable`, or the copy, or its refusal. Assumes nothing.
+-- `put_output`: `unreadable`, or the copy, or its refusal.
 use borrow.Author.Needs.{needs}
 use Rattle.demands.specs.Outcome.{textLong}
 use Rattle.netlist_open.specs.Copied.{copied, copyPrinted}

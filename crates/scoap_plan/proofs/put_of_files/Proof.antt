@@ -1,4 +1,4 @@
--- `put_of_files`: `unreadable`, or the text, or its refusal. Assumes nothing.
+-- `put_of_files`: `unreadable`, or the text, or its refusal.
 use Rattle.common_laws.proofs.Base.{now, needs}
 use Rattle.files.proofs.Output.{library-unread, netlist-unread, both-read}
 use Rattle.scoap_plan.proofs.Output.{plan-long, plan-outputs}

@@ -1,4 +1,4 @@
--- `put_output`: what is printed of the files, or the usage. Assumes nothing.
+-- `put_output`: what is printed of the files, or the usage.
 use Rattle.common_laws.proofs.Base.{sym, _∙_, needs}
 use Rattle.scoap_plan.proofs.Output.{asked-outputs, usage-outputs}
 use Rattle.scoap_plan.proofs.put_output.Statement.{statement}

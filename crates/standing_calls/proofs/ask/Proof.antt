@@ -1,4 +1,4 @@
--- `ask`: what is lent read with the pad, CO and SO run again, and handed over. Assumes nothing.
+-- `ask`: what is lent read with the pad, CO and SO run again, and handed over.
 use Rattle.common_laws.proofs.Base.{false, _||_, _≡_, refl, sym, subst, _∙_, ℕ, drop, now, needs}
 use Rattle.sizes.specs.Sizes as Size
 use Rattle.reading.specs.Refusal.{read}

@@ -1,4 +1,4 @@
--- `clear_later` goes by the number. Assumes nothing.
+-- `clear_later` goes by the number.
 use Rattle.common_laws.proofs.Base.{true, false, _≡_, refl, _∙_, now, needs}
 use Rattle.reading.specs.Choice.{pick}
 use Rattle.reading.specs.Numbers as No

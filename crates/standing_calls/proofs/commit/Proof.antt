@@ -1,4 +1,4 @@
--- `commit`: the ticket's count, what is lent read with the pad, and the pad stored. Assumes nothing.
+-- `commit`: the ticket's count, what is lent read with the pad, and the pad stored.
 use Rattle.common_laws.proofs.Base.{false, not, _≡_, refl, sym, subst, _∙_, ℕ, suc, _+_, arith, eqb, getD, now, needs}
 use Rattle.reading.specs.Refusal.{Read, read}
 use Rattle.reading.specs.Verdict.{verdictRead}

@@ -1,4 +1,4 @@
--- `stand`: the analysis, and its numbers and counts laid into the standing table. Assumes nothing.
+-- `stand`: the analysis, and its numbers and counts laid into the standing table.
 use Rattle.common_laws.proofs.Base.{refl, arith, now, needs}
 use Rattle.demands.specs.Answer.{answerRead}
 use Rattle.demands.specs.Outcome.{Given, givenTexts}

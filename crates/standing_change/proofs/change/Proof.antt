@@ -1,4 +1,4 @@
--- `change`: the entry, what is lent as a standing analysis, and the change. Assumes nothing.
+-- `change`: the entry, what is lent as a standing analysis, and the change.
 use Rattle.common_laws.proofs.Base.{_≡_, refl, sym, subst, _∙_, ℕ, _≤_, arith, length, now, needs}
 use Rattle.sizes.specs.Sizes as Size
 use Rattle.reading.specs.Refusal.{read}

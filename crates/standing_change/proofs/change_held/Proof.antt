@@ -1,4 +1,4 @@
--- `change_held` reads the new library. Assumes nothing.
+-- `change_held` reads the new library.
 use Rattle.common_laws.proofs.Base.{refl, replicate, now, needs}
 use Rattle.sizes.specs.Sizes as Size
 use Rattle.library_text.proofs.Walks.{zeros-none}

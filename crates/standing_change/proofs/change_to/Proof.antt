@@ -1,4 +1,4 @@
--- `change_to` goes on where the library has only grown, and else reads the netlist and begins again. Assumes nothing.
+-- `change_to` goes on where the library has only grown, and else reads the netlist and begins again.
 use Rattle.common_laws.proofs.Base.{true, false, List, _≡_, refl, sym, subst, _∙_, ℕ, _≤_, length, getD, drop, now, needs}
 use Rattle.sizes.specs.Sizes as Size
 use Rattle.reading.specs.Refusal.{Read, read}

@@ -1,4 +1,4 @@
--- `clear_pads` clears a part of the table. Assumes nothing.
+-- `clear_pads` clears a part of the table.
 use Rattle.common_laws.proofs.Base.{List, _++_, ap, _∙_, ℕ, _+_, _-_, arith, take, now, needs}
 use Rattle.sizes.specs.Sizes as Size
 use Rattle.table.specs.Blocks.{cleared}

@@ -1,4 +1,4 @@
--- `hand_observed` leaves one number more with each turn. Assumes nothing.
+-- `hand_observed` leaves one number more with each turn.
 use Rattle.common_laws.proofs.Base.{List, _++_, _≡_, refl, _∙_, ap, sym, ℕ, _+_, _*_, _-_, _/_, _%_, _≤_, arith, length, take, drop, set, getD, length-set, take-all, now}
 use Rattle.sizes.specs.Sizes as Size
 use Rattle.netlist_table.proofs.Copied.{copy-next}

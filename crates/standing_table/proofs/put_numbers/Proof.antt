@@ -1,4 +1,4 @@
--- `put_numbers` lends a part of the table. Assumes nothing.
+-- `put_numbers` lends a part of the table.
 use Rattle.common_laws.proofs.Base.{List, _++_, ap, _∙_, ℕ, arith, take, drop, length-drop, now, needs}
 use Rattle.sizes.specs.Sizes as Size
 use Rattle.standing_table.proofs.Slices.{part-is, part-put}

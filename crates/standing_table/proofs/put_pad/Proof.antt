@@ -1,4 +1,4 @@
--- `put_pad` runs CO and SO again, and stores the pad, the counts and the numbers. Assumes nothing.
+-- `put_pad` runs CO and SO again, and stores the pad, the counts and the numbers.
 use Rattle.common_laws.proofs.Base.{_∙_, _≤_, arith, length, now, needs}
 use Rattle.sizes.specs.Sizes as Size
 use Rattle.standing_table.proofs.Slices.{ready-size}

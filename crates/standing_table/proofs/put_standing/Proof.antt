@@ -1,4 +1,4 @@
--- `put_standing` clears, hands over, and puts the counts. Assumes nothing.
+-- `put_standing` clears, hands over, and puts the counts.
 use Rattle.common_laws.proofs.Base.{List, ap, _∙_, ℕ, arith, set, now, needs}
 use Rattle.standing_table.proofs.StandingTable.{stored}
 use Rattle.standing_table.proofs.put_standing.Statement.{statement}

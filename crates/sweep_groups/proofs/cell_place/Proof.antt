@@ -1,4 +1,4 @@
--- `cell_place` is where the gate's cell starts. Assumes nothing.
+-- `cell_place` is where the gate's cell starts.
 use Rattle.common_laws.proofs.Base.{ap, _∙_, needs}
 use Rattle.sizes.specs.Places.{cellPlace}
 use Rattle.sweep_groups.proofs.cell_place.Statement.{statement}

@@ -1,4 +1,4 @@
--- `is_dominated` tests the columns, then the depth. Assumes nothing.
+-- `is_dominated` tests the columns, then the depth.
 use Rattle.common_laws.proofs.Base.{needs, eq-eqb, ne-eqb}
 use Rattle.sweep_groups.specs.Sums.{dominated}
 use Rattle.sweep_groups.proofs.is_dominated.Statement.{statement}

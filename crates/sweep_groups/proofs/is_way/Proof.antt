@@ -1,4 +1,4 @@
--- `is_way` looks for a contradiction where rows are read as those of one wire. Assumes nothing.
+-- `is_way` looks for a contradiction where rows are read as those of one wire.
 use Rattle.common_laws.proofs.Base.{Bool, true, false, not, none, some, _≡_, refl, ap, _∙_, ℕ, needs}
 use Rattle.reading.specs.Choice.{pick}
 use Rattle.sweep_groups.specs.Tables.{readRow, hasWay}

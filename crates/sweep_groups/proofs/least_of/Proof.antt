@@ -1,4 +1,4 @@
--- `least_of` reads the rows as was decided for the gate. Assumes nothing.
+-- `least_of` reads the rows as was decided for the gate.
 use borrow.Author.Needs.{needs}
 use Rattle.sweep_groups.specs.Tables.{readRow}
 use Rattle.sweep_groups.proofs.least_of.Statement.{statement}

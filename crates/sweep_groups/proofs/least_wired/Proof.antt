@@ -1,4 +1,4 @@
--- `least_wired`, from the last row to the first, keeps the least sum of the rows passed that are ways. Assumes nothing.
+-- `least_wired`, from the last row to the first, keeps the least sum of the rows passed that are ways.
 use Rattle.common_laws.proofs.Base.{true, refl, sym, _∙_, _+_, _*_, _-_, _≤_, arith, needs, not-true, not-false, getD, pow-mono}
 use Rattle.sizes.specs.Sizes as Size
 use Rattle.reading.specs.Choice.{pick}

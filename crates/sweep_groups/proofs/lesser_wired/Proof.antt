@@ -1,4 +1,4 @@
--- `lesser_wired` leaves out a row that is no way, and takes any other at the columns that are left of it. Assumes nothing.
+-- `lesser_wired` leaves out a row that is no way, and takes any other at the columns that are left of it.
 use Rattle.common_laws.proofs.Base.{refl, sym, _∙_, _*_, _≤_, arith, needs, pow-mono}
 use Rattle.sizes.specs.Sizes as Size
 use Rattle.reading.specs.Choice.{pick}

@@ -1,4 +1,4 @@
--- `read_sum` is the sum of a row, or never where the row is no way, in the kind that is asked for. Assumes nothing.
+-- `read_sum` is the sum of a row, or never where the row is no way, in the kind that is asked for.
 use Rattle.sweep_groups.specs.Tables.{readRow}
 use Rattle.sweep_groups.specs.Sums.{lesserRow}
 use borrow.Author.Needs.{needs}

@@ -1,4 +1,4 @@
--- `chain` lays the chains of one gate more with each turn. Assumes nothing.
+-- `chain` lays the chains of one gate more with each turn.
 use Rattle.common_laws.proofs.Base.{_≡_, _∙_, _+_, _-_, _≤_, arith}
 use Rattle.sizes.specs.Sizes as Size
 use Rattle.sweep_links.specs.Lines.{Chained, Kept}

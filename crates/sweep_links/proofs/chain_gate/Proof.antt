@@ -1,4 +1,4 @@
--- `chain_gate` puts one pin more in front with each turn. Assumes nothing.
+-- `chain_gate` puts one pin more in front with each turn.
 use Rattle.common_laws.proofs.Base.{List, _≡_, ap, _∙_, ℕ, _+_, _*_, _-_, _≤_, _<_, arith, length, getD}
 use Rattle.sizes.specs.Sizes as Size
 use Rattle.sweep_links.specs.Lines.{Highest, Highests, pinLine, Kept}

@@ -1,4 +1,4 @@
--- `is_tied` reads what was told of the gate. Assumes nothing.
+-- `is_tied` reads what was told of the gate.
 use Rattle.common_laws.proofs.Base.{refl, needs}
 use Rattle.sweep_links.proofs.Lines.{tied-so, tied-not}
 use Rattle.sweep_links.proofs.is_tied.Statement.{statement}

@@ -1,4 +1,4 @@
--- `line_of` reads a line of a gate. Assumes nothing.
+-- `line_of` reads a line of a gate.
 use native.Mathlib.Omega.{arith}
 use Rattle.sweep_links.proofs.line_of.Statement.{statement}
 use Rattle.sweep_links.proofs.line_of.Tie as tie

@@ -1,4 +1,4 @@
--- `link` makes the chains, the drivers and the tied gates, each in its part. Assumes nothing.
+-- `link` makes the chains, the drivers and the tied gates, each in its part.
 use mathlib.Core.Path.{_∙_}
 use Rattle.sweep_links.proofs.Lines.{chain-fits, drivers-fit, links-made}
 use Rattle.sweep_links.proofs.link.Statement.{statement}

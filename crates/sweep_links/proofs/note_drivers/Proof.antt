@@ -1,4 +1,4 @@
--- `note_drivers` notes one gate more with each turn. Assumes nothing.
+-- `note_drivers` notes one gate more with each turn.
 use Rattle.common_laws.proofs.Base.{_≡_, ap, _∙_, ℕ, _+_, _-_, _≤_, arith, length}
 use Rattle.sizes.specs.Sizes as Size
 use Rattle.netlist_table.specs.Gates.{gateLine}

@@ -1,4 +1,4 @@
--- `note_tied` has noted the gates passed. Assumes nothing.
+-- `note_tied` has noted the gates passed.
 use Rattle.common_laws.proofs.Base.{Bool, List, _≡_, ap, _∙_, ℕ, _+_, _-_, _≤_, _<_, arith, needs}
 use Rattle.sizes.specs.Sizes as Size
 use Rattle.reading.specs.Choice.{pick}

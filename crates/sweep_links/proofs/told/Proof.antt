@@ -1,4 +1,4 @@
--- `told` is 1 for true. Assumes nothing.
+-- `told` is 1 for true.
 use mathlib.Core.Path.{sym}
 use Rattle.reading.specs.Choice.{pick}
 use Rattle.sweep_links.proofs.told.Statement.{statement}

@@ -1,4 +1,4 @@
--- `go_on`: the numbers are kept, and each half begins where the one before it ended. Assumes nothing.
+-- `go_on`: the numbers are kept, and each half begins where the one before it ended.
 use mathlib.Core.Path.{refl}
 use Rattle.sweep_runs.proofs.FourRuns.{link-fits, half-fits, next-fits, both-ran}
 use Rattle.sweep_reruns.proofs.Runs.{on-size, on-costs, gone-on}

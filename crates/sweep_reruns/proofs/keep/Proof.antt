@@ -1,4 +1,4 @@
--- `keep` stores where the place is one of those to be kept. Assumes nothing.
+-- `keep` stores where the place is one of those to be kept.
 use borrow.Author.Needs.{needs}
 use Rattle.sweep_reruns.proofs.Kept.{keep-stored, keep-passed}
 use Rattle.sweep_reruns.proofs.keep.Statement.{statement}

@@ -1,4 +1,4 @@
--- `keep_numbers` keeps one place more with each turn. Assumes nothing.
+-- `keep_numbers` keeps one place more with each turn.
 use Rattle.common_laws.proofs.Base.{_≡_, _∙_, _-_, _≤_, arith, add-one, length, needs}
 use Rattle.sizes.specs.Sizes as Size
 use Rattle.sweep_reruns.specs.Kept.{Kept}

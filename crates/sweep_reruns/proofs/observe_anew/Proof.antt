@@ -1,4 +1,4 @@
--- `observe_anew`: the values are kept, and CO and SO run from their start. Assumes nothing.
+-- `observe_anew`: the values are kept, and CO and SO run from their start.
 use Rattle.common_laws.proofs.Base.{false, refl}
 use Rattle.sweep_runs.proofs.FourRuns.{room, link-fits, half-fits, start-size}
 use Rattle.sweep_reruns.proofs.Runs.{anew-size, anew-costs, observed-anew}

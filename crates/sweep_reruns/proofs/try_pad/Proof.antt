@@ -1,4 +1,4 @@
--- `try_pad`: all gates but the one that drives the pad's line are idle. Assumes nothing.
+-- `try_pad`: all gates but the one that drives the pad's line are idle.
 use Rattle.common_laws.proofs.Base.{refl, _≤_, arith, needs}
 use Rattle.sizes.specs.Sizes as Size
 use Rattle.sweep_runs.proofs.FourRuns.{room}

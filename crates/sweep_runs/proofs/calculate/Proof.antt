@@ -1,4 +1,4 @@
--- `calculate` lends the first of the numbers table, as many as there are numbers; what stands behind stays. Assumes nothing.
+-- `calculate` lends the first of the numbers table, as many as there are numbers; what stands behind stays.
 use Rattle.common_laws.proofs.Base.{_++_, _≡_, sym, ap, arith, length, take, drop, length-take-le, needs}
 use Rattle.sizes.specs.Sizes as Size
 use Rattle.calculation.specs.Calculation.{Analysed}

@@ -1,4 +1,4 @@
--- `four_runs`: the links, the start, the setting half and the observing half. Assumes nothing.
+-- `four_runs`: the links, the start, the setting half and the observing half.
 use Rattle.common_laws.proofs.Base.{refl, needs}
 use Rattle.sweep_runs.proofs.FourRuns.{room, link-fits, half-fits, next-fits, both-ran, start-size, start-costs, calculated}
 use Rattle.sweep_runs.proofs.four_runs.Statement.{statement}

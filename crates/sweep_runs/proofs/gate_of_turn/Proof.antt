@@ -1,4 +1,4 @@
--- `gate_of_turn` goes by the role. Assumes nothing.
+-- `gate_of_turn` goes by the role.
 use Rattle.common_laws.proofs.Base.{sym, needs}
 use Rattle.sweep_groups.proofs.Roles.{role-set, role-observed}
 use Rattle.sweep_runs.proofs.gate_of_turn.Statement.{statement}

@@ -1,4 +1,4 @@
--- `hand_over` leaves one number more with each turn. Assumes nothing.
+-- `hand_over` leaves one number more with each turn.
 use Rattle.common_laws.proofs.Base.{List, _++_, _≡_, refl, _∙_, ap, ℕ, _-_, _≤_, arith, length, take, drop, set, getD, length-set, take-all}
 use Rattle.sizes.specs.Sizes as Size
 use Rattle.netlist_table.proofs.Copied.{copy-next}

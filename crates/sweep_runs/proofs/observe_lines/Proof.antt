@@ -1,4 +1,4 @@
--- `observe_lines`: each run begins where the one before it ended, and ends. Assumes nothing.
+-- `observe_lines`: each run begins where the one before it ended, and ends.
 use borrow.Author.Needs.{needs}
 use Rattle.calculation.specs.Nodes.{combinational}
 use Rattle.sweep_runs.proofs.FourRuns.{observe-fits, observe-next, observe-ran}

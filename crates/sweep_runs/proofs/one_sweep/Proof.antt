@@ -1,5 +1,5 @@
 -- `one_sweep` goes from one awake turn to the next: the turns between are idle, so that with each turn all before it are done,
--- and the turns that are asleep stay idle. Assumes nothing.
+-- and the turns that are asleep stay idle.
 use Rattle.common_laws.proofs.Base.{_≡_, _∙_, ap, ℕ, _-_, _<_, arith, getD, needs}
 use Rattle.plans.specs.Idle.{inTurn}
 use Rattle.sweep_turns.specs.Order.{gateOfTurn, turnVisits}

@@ -1,6 +1,6 @@
 -- `run` comes to settled numbers: before each sweep, all sweeps before it changed something, and the
 -- turns that are asleep are idle. The count stays below its type's
--- bound, and what is left to that bound falls. Assumes nothing.
+-- bound, and what is left to that bound falls.
 use Rattle.common_laws.proofs.Base.{_≡_, sym, _∙_, _-_, _^_, arith, length}
 use Rattle.sizes.specs.Sizes as Size
 use Rattle.sweep_turns.proofs.VisitsLaws.{swept-length}

@@ -1,4 +1,4 @@
--- `run_all`: with all gates awake nothing is asleep. Assumes nothing.
+-- `run_all`: with all gates awake nothing is asleep.
 use borrow.Author.Needs.{needs}
 use Rattle.sweep_runs.proofs.Asleep.{all-rest}
 use Rattle.sweep_runs.proofs.run_all.Statement.{statement}

@@ -1,4 +1,4 @@
--- `set_lines`: each run begins where the one before it ended, and ends. Assumes nothing.
+-- `set_lines`: each run begins where the one before it ended, and ends.
 use borrow.Author.Needs.{needs}
 use Rattle.calculation.specs.Nodes.{combinational}
 use Rattle.sweep_runs.proofs.FourRuns.{set-fits, set-next, set-ran}

@@ -1,4 +1,4 @@
--- `first` is a price where the mark is 1, else never. Assumes nothing.
+-- `first` is a price where the mark is 1, else never.
 use borrow.Author.Tests.{eq-eqb, ne-eqb}
 use Rattle.reading.specs.Choice.{pick}
 use Rattle.sweep_start.specs.Start.{startNumber}

@@ -1,4 +1,4 @@
--- `lay_never` fills the numbers from the first on. Assumes nothing.
+-- `lay_never` fills the numbers from the first on.
 use Rattle.common_laws.proofs.Base.{List, _++_, append-nil, _≡_, refl, ap, _∙_, ℕ, _≤_, _-_, arith, length, drop, replicate, length-set, drop-of-length-le}
 use borrow.Author.Fill.{fill-more}
 use Rattle.sizes.specs.Sizes as Size

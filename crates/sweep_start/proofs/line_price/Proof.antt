@@ -1,4 +1,4 @@
--- `line_price` asks for a line's range where there are ranges. Assumes nothing.
+-- `line_price` asks for a line's range where there are ranges.
 use Rattle.common_laws.proofs.Base.{Bool, true, false, not, List, _≡_, sym, ap, _∙_, ℕ, _+_, eqb, getD, not-true, not-false, needs}
 use Rattle.sizes.specs.Places.{rangePlace, rangedPlace}
 use Rattle.reading.specs.Choice.{pick}

@@ -1,4 +1,4 @@
--- `price` takes one end of a range apart. Assumes nothing.
+-- `price` takes one end of a range apart.
 use Rattle.common_laws.proofs.Base.{needs, eq-eqb, ne-eqb}
 use Rattle.reading.specs.Choice.{pick}
 use Rattle.sweep_start.specs.Start.{priceWord}

@@ -1,5 +1,5 @@
 -- `start` lays the numbers of one line more with each turn, over numbers that are all never: those of the lines past the last
--- that is marked stay so. Assumes nothing.
+-- that is marked stay so.
 use Rattle.common_laws.proofs.Base.{List, _≡_, sym, _∙_, ℕ, _+_, _*_, _-_, _≤_, _<_, arith, needs, length, replicate, length-replicate}
 use Rattle.sizes.specs.Sizes as Size
 use Rattle.cost.specs.Cost.{never}

@@ -1,4 +1,4 @@
--- `start_line` stores the six numbers of a line, one behind the other. Assumes nothing.
+-- `start_line` stores the six numbers of a line, one behind the other.
 use Rattle.common_laws.proofs.Base.{arith, length-set, needs}
 use Rattle.sweep_start.proofs.StartLines.{line-laid}
 use Rattle.sweep_start.proofs.start_line.Statement.{statement}

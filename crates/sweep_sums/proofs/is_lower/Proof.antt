@@ -1,4 +1,4 @@
--- `is_lower` compares in the kind of both. Assumes nothing.
+-- `is_lower` compares in the kind of both.
 use Rattle.common_laws.proofs.Base.{_≡_, ℕ, arith, needs}
 use Rattle.sweep_sums.specs.Sums.{sumNumber, sumKind}
 use Rattle.sweep_sums.proofs.is_lower.Statement.{statement}

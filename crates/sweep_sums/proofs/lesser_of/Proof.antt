@@ -1,4 +1,4 @@
--- `lesser_of` is the lesser, in the sum's own kind. Assumes nothing.
+-- `lesser_of` is the lesser, in the sum's own kind.
 use Rattle.common_laws.proofs.Base.{_≡_, refl, ℕ, needs}
 use Rattle.cost.specs.Cost.{lesser}
 use Rattle.sweep_sums.specs.declared.Sum.{Sum}

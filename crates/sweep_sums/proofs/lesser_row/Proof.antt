@@ -1,4 +1,4 @@
--- `lesser_row` adds up the row in the kind of the best so far, and keeps the lesser. Assumes nothing.
+-- `lesser_row` adds up the row in the kind of the best so far, and keeps the lesser.
 use mathlib.Core.Path.{refl}
 use Rattle.sweep_sums.specs.Sums.{sumKind, sumNumber}
 use Rattle.sweep_sums.proofs.Sums.{row-lesser}

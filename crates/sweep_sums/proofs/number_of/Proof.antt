@@ -1,4 +1,4 @@
--- `number_of` is the sum's number. Assumes nothing.
+-- `number_of` is the sum's number.
 use borrow.Author.Needs.{needs}
 use Rattle.sweep_sums.specs.Sums.{sumNumber}
 use Rattle.sweep_sums.proofs.number_of.Statement.{statement}

@@ -1,4 +1,4 @@
--- `spatial_of` is the cost that a combinational sum holds. Assumes nothing.
+-- `spatial_of` is the cost that a combinational sum holds.
 use Rattle.common_laws.proofs.Base.{_≡_, ℕ, arith, needs}
 use Rattle.sweep_sums.specs.Sums.{sumNumber, sumKind}
 use Rattle.sweep_sums.proofs.spatial_of.Statement.{statement}

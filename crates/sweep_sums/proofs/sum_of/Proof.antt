@@ -1,4 +1,4 @@
--- `sum_of` is the number, in the kind that is asked for. Assumes nothing.
+-- `sum_of` is the number, in the kind that is asked for.
 use borrow.Author.Needs.{needs}
 use Rattle.sweep_sums.specs.Sums.{sumKind, sumNumber}
 use Rattle.sweep_sums.proofs.sum_of.Statement.{statement}

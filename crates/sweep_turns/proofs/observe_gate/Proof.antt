@@ -1,4 +1,4 @@
--- `observe_gate` visits the pins in order: with each turn one visit more is done. Assumes nothing.
+-- `observe_gate` visits the pins in order: with each turn one visit more is done.
 use Rattle.common_laws.proofs.Base.{false, List, [], _∷_, _≡_, refl, _∙_, ap, subst, ℕ, _+_, _-_, _≤_, _<_, arith, length, getD, needs}
 use Rattle.sizes.specs.Sizes as Size
 use Rattle.reading.specs.Choice.{pick}

@@ -1,4 +1,4 @@
--- `own_observed` compares the two lines. Assumes nothing.
+-- `own_observed` compares the two lines.
 use Rattle.common_laws.proofs.Base.{true≢false, sym, _∙_, needs, not-true, eqb-false}
 use Rattle.sweep_turns.proofs.own_observed.Statement.{statement}
 use Rattle.sweep_turns.proofs.own_observed.Tie as tie

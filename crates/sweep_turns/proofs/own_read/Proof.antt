@@ -1,4 +1,4 @@
--- `own_read` looks at the pins one after the other. Assumes nothing.
+-- `own_read` looks at the pins one after the other.
 use Rattle.common_laws.proofs.Base.{true≢false, _≡_, sym, _∙_, _-_, _≤_, arith, not-true}
 use Rattle.sweep_turns.specs.Wakes.{OwnUnread}
 use Rattle.sweep_turns.proofs.Wakes.{unread-none, unread-more}

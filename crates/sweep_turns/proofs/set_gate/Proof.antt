@@ -1,5 +1,5 @@
 -- `set_gate` visits the output's values in order: with each turn one visit more is done, and whoever is woken behind them is
--- woken for all. Assumes nothing.
+-- woken for all.
 use Rattle.common_laws.proofs.Base.{List, [], _∷_, _≡_, refl, _∙_, ap, ℕ, _-_, _≤_, _<_, arith, length, getD, needs}
 use Rattle.sizes.specs.Sizes as Size
 use Rattle.reading.specs.Choice.{pick}

@@ -1,4 +1,4 @@
--- `visit_gate` reads the gate's cell and pins, and goes by the role. Assumes nothing.
+-- `visit_gate` reads the gate's cell and pins, and goes by the role.
 use Rattle.common_laws.proofs.Base.{_≡_, arith, needs}
 use Rattle.sweep_groups.specs.Tables.{gatePins}
 use Rattle.sweep_groups.specs.Fits.{GateFits}

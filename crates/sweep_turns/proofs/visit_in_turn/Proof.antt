@@ -1,4 +1,4 @@
--- `visit_in_turn` visits the group of its turn. Assumes nothing.
+-- `visit_in_turn` visits the group of its turn.
 use Rattle.common_laws.proofs.Base.{_≡_, ap, ap₂, ℕ, _+_, _*_, _<_, arith, needs}
 use Rattle.sizes.specs.Sizes as Size
 use Rattle.sweep_groups.specs.Tables.{groupVisit, roleColumns}

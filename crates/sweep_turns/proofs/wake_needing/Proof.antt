@@ -1,4 +1,4 @@
--- `wake_needing` wakes by the role those that read the line, or the one that drives it. Assumes nothing.
+-- `wake_needing` wakes by the role those that read the line, or the one that drives it.
 use borrow.Author.Needs.{needs}
 use Rattle.sweep_turns.proofs.Wakes.{none-woken, readers-woken, driver-woken}
 use Rattle.sweep_turns.proofs.wake_needing.Statement.{statement}

@@ -1,4 +1,4 @@
--- `asked_below` looks through the columns that stand below the column. Assumes nothing.
+-- `asked_below` looks through the columns that stand below the column.
 use Rattle.common_laws.proofs.Base.{ℕ, _*_, _%_, _^_, _≤_, _<_, mod-lt, arith, needs, pow-pos, pow-mono}
 use Rattle.sweep_wires.specs.Wires.{askedBelow}
 use Rattle.sweep_wires.proofs.asked_below.Statement.{statement}

@@ -1,4 +1,4 @@
--- `asks` tests the column's line and its value. Assumes nothing.
+-- `asks` tests the column's line and its value.
 use Rattle.common_laws.proofs.Base.{needs, eq-eqb, ne-eqb}
 use Rattle.sweep_wires.specs.Wires.{asksFor}
 use Rattle.sweep_wires.proofs.asks.Statement.{statement}

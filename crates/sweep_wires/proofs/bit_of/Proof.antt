@@ -1,4 +1,4 @@
--- `bit_of` shifts within the word. Assumes nothing.
+-- `bit_of` shifts within the word.
 use Rattle.common_laws.proofs.Base.{_∙_, arith, needs, shl-exact}
 use Rattle.sweep_wires.proofs.bit_of.Statement.{statement}
 use Rattle.sweep_wires.proofs.bit_of.Tie as tie

@@ -1,4 +1,4 @@
--- `both_values` has passed no pin both of whose values the row names. Assumes nothing.
+-- `both_values` has passed no pin both of whose values the row names.
 use Rattle.common_laws.proofs.Base.{false, _≡_, refl, sym, _∙_, _-_, _≤_, arith}
 use Rattle.sweep_wires.specs.Wires.{anyBelow}
 use Rattle.sweep_wires.proofs.Any.{any-first, any-next, any-found, any-end, pinBoth, pins-both}

@@ -1,4 +1,4 @@
--- `cell_both` has passed no group with such a row. Assumes nothing.
+-- `cell_both` has passed no group with such a row.
 use Rattle.common_laws.proofs.Base.{false, _≡_, refl, sym, _∙_, ℕ, _+_, _*_, _-_, _≤_, arith}
 use Rattle.sizes.specs.Sizes as Size
 use Rattle.sweep_wires.specs.Wires.{anyBelow, groupBoth, cellBoth}

@@ -1,4 +1,4 @@
--- `group_both` has passed no row that names both values of one pin. Assumes nothing.
+-- `group_both` has passed no row that names both values of one pin.
 use Rattle.common_laws.proofs.Base.{Bool, false, List, _≡_, refl, sym, ap, _∙_, ℕ, _+_, _*_, _-_, _≤_, _<_, arith, needs, getD}
 use Rattle.sizes.specs.Sizes as Size
 use Rattle.calculation.specs.Ways.{bothValues}

@@ -1,4 +1,4 @@
--- `kept` is the column's bit where no lower column asks for the same. Assumes nothing.
+-- `kept` is the column's bit where no lower column asks for the same.
 use Rattle.common_laws.proofs.Base.{_≡_, sym, _∙_, arith, needs}
 use Rattle.reading.specs.Choice.{pick}
 use Rattle.sweep_wires.proofs.kept.Statement.{statement}

@@ -1,4 +1,4 @@
--- `names` tests the column's bit. Assumes nothing.
+-- `names` tests the column's bit.
 use Rattle.common_laws.proofs.Base.{refl, needs}
 use Rattle.library_table.specs.Cells.{bit}
 use Rattle.sweep_wires.proofs.names.Statement.{statement}

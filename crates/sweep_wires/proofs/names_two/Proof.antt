@@ -1,4 +1,4 @@
--- `names_two` tests one bit after the other. Assumes nothing.
+-- `names_two` tests one bit after the other.
 use Rattle.common_laws.proofs.Base.{_≡_, sym, _∙_, needs}
 use Rattle.library_table.specs.Cells.{bit}
 use Rattle.sweep_wires.proofs.names_two.Statement.{statement}

@@ -1,4 +1,4 @@
--- `once` adds up the bits that are kept: with what the rest will add, it is the whole. Assumes nothing.
+-- `once` adds up the bits that are kept: with what the rest will add, it is the whole.
 use Rattle.common_laws.proofs.Base.{not, _≡_, refl, sym, _∙_, ℕ, _+_, _-_, _%_, _<_, _^_, arith, bitAnd, and-le-r, trailingZeros}
 use Rattle.sweep_sums.specs.Gone.{columnsGone}
 use Rattle.sweep_wires.specs.Wires.{SettingRow, columnValue, askedBelow, bitsOf, onceColumns}

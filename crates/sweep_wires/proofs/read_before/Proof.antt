@@ -1,4 +1,4 @@
--- `read_before` has passed no pin that reads the line. Assumes nothing.
+-- `read_before` has passed no pin that reads the line.
 use Rattle.common_laws.proofs.Base.{false, _≡_, refl, sym, _∙_, _+_, _-_, _≤_, arith, eq-eqb, ne-eqb, eqb, getD}
 use Rattle.sweep_wires.specs.Wires.{anyBelow, readBefore}
 use Rattle.sweep_wires.proofs.Any.{any-first, any-next, any-found, any-end}

@@ -1,4 +1,4 @@
--- `shares_line` has passed no pin whose line one before it reads. Assumes nothing.
+-- `shares_line` has passed no pin whose line one before it reads.
 use Rattle.common_laws.proofs.Base.{false, _≡_, refl, sym, _∙_, _-_, _≤_, arith}
 use Rattle.sweep_wires.specs.Wires.{anyBelow, readBefore, sharesLine}
 use Rattle.sweep_wires.proofs.Any.{any-first, any-next, any-found, any-end}

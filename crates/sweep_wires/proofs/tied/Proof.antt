@@ -1,4 +1,4 @@
--- `tied` looks at the rows only where pins share a line. Assumes nothing.
+-- `tied` looks at the rows only where pins share a line.
 use Rattle.common_laws.proofs.Base.{not, _≡_, sym, ap, _∙_, needs}
 use Rattle.sweep_wires.specs.Wires.{tiedAt}
 use Rattle.sweep_wires.proofs.tied.Statement.{statement}

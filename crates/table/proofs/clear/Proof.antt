@@ -1,4 +1,4 @@
--- `clear` sets the first numbers to 0: those passed are. Assumes nothing.
+-- `clear` sets the first numbers to 0: those passed are.
 use Rattle.common_laws.proofs.Base.{_++_, _≡_, ap, _∙_, refl, _≤_, _-_, min, arith, needs, length, drop, replicate, length-set}
 use borrow.Author.Fill.{fill-more}
 use Rattle.table.specs.Blocks.{cleared}

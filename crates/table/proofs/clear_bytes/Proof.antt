@@ -1,4 +1,4 @@
--- `clear_bytes` sets every byte to 0: those passed are. Assumes nothing.
+-- `clear_bytes` sets every byte to 0: those passed are.
 use Rattle.common_laws.proofs.Base.{_++_, append-nil, _≡_, ap, _∙_, refl, _≤_, _-_, arith, needs, length, drop, replicate, length-set, drop-length}
 use borrow.Author.Fill.{fill-more}
 use Rattle.table.proofs.clear_bytes.Statement.{statement}

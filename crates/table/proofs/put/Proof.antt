@@ -1,4 +1,4 @@
--- `put` stores a number, or nothing past the end. Assumes nothing.
+-- `put` stores a number, or nothing past the end.
 use Rattle.common_laws.proofs.Base.{now, sym, set-out, needs}
 use Rattle.table.proofs.put.Statement.{statement}
 use Rattle.table.proofs.put.Tie as tie

@@ -1,4 +1,4 @@
--- `used` leaves one number with each turn that is 0. Assumes nothing.
+-- `used` leaves one number with each turn that is 0.
 use Rattle.common_laws.proofs.Base.{_≡_, sym, ap, _∙_, suc, _-_, _≤_, arith, length, needs}
 use Rattle.table.specs.Blocks.{used}
 use Rattle.table.proofs.UsedPart.{used-none, last-zero, last-used, used-within}

@@ -1,4 +1,4 @@
--- `used_by_eights` leaves eight numbers with each turn that are 0. Assumes nothing.
+-- `used_by_eights` leaves eight numbers with each turn that are 0.
 use Rattle.common_laws.proofs.Base.{_≡_, refl, sym, _∙_, _≤_, arith, not-false}
 use Rattle.table.specs.Blocks.{used}
 use Rattle.table.proofs.UsedPart.{used-eight}

@@ -1,4 +1,4 @@
--- `word` reads a number, or 0 past the end. Assumes nothing.
+-- `word` reads a number, or 0 past the end.
 use Rattle.common_laws.proofs.Base.{now, sym, List·getD-eq-default, needs}
 use Rattle.table.proofs.word.Statement.{statement}
 use Rattle.table.proofs.word.Tie as tie

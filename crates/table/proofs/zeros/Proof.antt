@@ -1,4 +1,4 @@
--- `zeros` looks at eight numbers: those passed are told. Assumes nothing.
+-- `zeros` looks at eight numbers: those passed are told.
 use Rattle.common_laws.proofs.Base.{_≡_, refl, _-_, _≤_, add-one, arith}
 use Rattle.table.specs.Blocks.{zeros}
 use Rattle.table.proofs.UsedPart.{zeros-more}

@@ -1,5 +1,4 @@
 -- `text::after` meets its contract: each arm is a case of `nextAfter`.
--- Assumes nothing.
 use Rattle.common_laws.proofs.Base.{needs, sym}
 use Rattle.text.proofs.Laws.{nextAfter-within, nextAfter-past}
 use Rattle.text.proofs.after.Statement.{statement}

@@ -1,5 +1,4 @@
 -- `text::class_of` meets its contract: the tests that lead to an arm settle those of `classOf`.
--- Assumes nothing.
 use Rattle.common_laws.proofs.Base.{sym, arith}
 use Rattle.reading.specs.Choice.{pick}
 use Rattle.text.specs.Class.{between, classOf}

@@ -1,4 +1,4 @@
--- `eights` passes over eight bytes with each turn in which no line ends. Assumes nothing.
+-- `eights` passes over eight bytes with each turn in which no line ends.
 use Rattle.common_laws.proofs.Base.{_≡_, sym, _∙_, ℕ, _+_, _-_, _≤_, arith, needs, length, drop}
 use Rattle.text.specs.Lines.{span}
 use Rattle.text.proofs.Steps.{span-past, none-ends}

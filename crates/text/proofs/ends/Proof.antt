@@ -1,4 +1,4 @@
--- `ends` goes by the class of the byte. Assumes nothing.
+-- `ends` goes by the class of the byte.
 use borrow.Author.Needs.{needs}
 use Rattle.text.specs.Class.{ends}
 use Rattle.text.proofs.ends.Statement.{statement}

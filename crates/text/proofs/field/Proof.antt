@@ -1,4 +1,4 @@
--- `text::field` is a part up to its end. Assumes nothing.
+-- `text::field` is a part up to its end.
 use borrow.Author.Needs.{needs}
 use Rattle.text.specs.Class.{endOf}
 use Rattle.text.proofs.field.Statement.{statement}

@@ -1,5 +1,4 @@
 -- `text::first` meets its contract. The loop's invariant: what remains of the part from `i` on ends where the part ends.
--- Assumes nothing.
 use Rattle.common_laws.proofs.Base.{_≡_, sym, _∙_, suc, _+_, _-_, _≤_, _<_, arith, needs, eqb-true, eqb-false, eqb, length, getD, drop, length-take, take-length}
 use Rattle.text.specs.Class.{endOf}
 use Rattle.text.specs.Lines.{span}

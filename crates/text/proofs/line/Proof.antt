@@ -1,4 +1,4 @@
--- `text::line` is a part up to its end. Assumes nothing.
+-- `text::line` is a part up to its end.
 use borrow.Author.Needs.{needs}
 use Rattle.text.specs.Class.{endOf}
 use Rattle.text.proofs.line.Statement.{statement}

@@ -1,4 +1,4 @@
--- `line_ends` looks at eight bytes: those passed are told. Assumes nothing.
+-- `line_ends` looks at eight bytes: those passed are told.
 use Rattle.common_laws.proofs.Base.{true, _≡_, refl, _∙_, _-_, _≤_, arith, needs}
 use Rattle.text.specs.Class.{endOf}
 use Rattle.text.specs.Lines.{someEnds}

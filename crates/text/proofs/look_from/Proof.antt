@@ -1,4 +1,4 @@
--- `look_from` passes over eights where a line is asked for. Assumes nothing.
+-- `look_from` passes over eights where a line is asked for.
 use borrow.Author.Needs.{needs}
 use Rattle.text.specs.Class.{endOf}
 use Rattle.text.proofs.look_from.Statement.{statement}

@@ -1,4 +1,4 @@
--- `text::part` meets its contract. Assumes nothing.
+-- `text::part` meets its contract.
 use Rattle.common_laws.proofs.Base.{sym, _∙_, _-_, _≤_, arith, needs, length, take-nil, drop-length}
 use Rattle.text.specs.Class.{endOf}
 use Rattle.text.proofs.Steps.{part-past, part-rest}

@@ -1,5 +1,4 @@
 -- `text::same` meets its contract. The loop's invariant: the bytes passed are the same, so that the rest decides.
--- Assumes nothing.
 use Rattle.common_laws.proofs.Base.{_≡_, refl, sym, _∙_, _-_, _≤_, _<_, arith, length, drop}
 use Rattle.text.specs.Lines.{sameBytes}
 use Rattle.text.proofs.Laws.{sameBytes-other}

@@ -1,4 +1,4 @@
--- `goes_on` says yes only where all three hold. Assumes nothing.
+-- `goes_on` says yes only where all three hold.
 use Rattle.common_laws.proofs.Base.{true≢false, sym, arith}
 use Rattle.trial_back.proofs.goes_on.Statement.{statement}
 use Rattle.trial_back.proofs.goes_on.Tie as tie

@@ -1,4 +1,4 @@
--- `put_back` puts the pad's line back, and walks on from it. Assumes nothing.
+-- `put_back` puts the pad's line back, and walks on from it.
 use Rattle.common_laws.proofs.Base.{_≡_, refl, sym, _∙_, arith, needs, now}
 use Rattle.trial_back.proofs.Back.{put-begins, walk-begins}
 use Rattle.trial_back.proofs.put_back.Statement.{statement}

@@ -1,4 +1,4 @@
--- `put_driver` puts back the lines of the gate's pins, where there is a gate. Assumes nothing.
+-- `put_driver` puts back the lines of the gate's pins, where there is a gate.
 use Rattle.common_laws.proofs.Base.{_≡_, _+_, _-_, arith, needs, now}
 use Rattle.trial_back.proofs.Back.{driver-none, driver-pins}
 use Rattle.trial_back.proofs.put_driver.Statement.{statement}

@@ -1,4 +1,4 @@
--- `put_line` puts back what had changed, and then puts the line on the stack. Assumes nothing.
+-- `put_line` puts back what had changed, and then puts the line on the stack.
 use Rattle.common_laws.proofs.Base.{_≡_, sym, _∙_, arith, needs, now}
 use Rattle.trial_back.proofs.Back.{put-none, put-one}
 use Rattle.trial_back.proofs.put_line.Statement.{statement}

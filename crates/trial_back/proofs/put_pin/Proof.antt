@@ -1,4 +1,4 @@
--- `put_pin` puts back the line of a pin, where there is one. Assumes nothing.
+-- `put_pin` puts back the line of a pin, where there is one.
 use Rattle.common_laws.proofs.Base.{inl, inr, _≡_, refl, arith, needs}
 use Rattle.trial_back.proofs.put_pin.Statement.{statement}
 use Rattle.trial_back.proofs.put_pin.Tie as tie

@@ -1,4 +1,4 @@
--- `put_pins` puts back one pin's line more with each turn. Assumes nothing.
+-- `put_pins` puts back one pin's line more with each turn.
 use Rattle.common_laws.proofs.Base.{_≡_, _∙_, _-_, _≤_, arith, needs, now}
 use Rattle.sizes.specs.Sizes as Size
 use Rattle.trial_back.specs.Back.{PinsBack}

@@ -1,4 +1,4 @@
--- `walk_back` walks from line to line until the stack is empty. Assumes nothing.
+-- `walk_back` walks from line to line until the stack is empty.
 use Rattle.common_laws.proofs.Base.{_≡_, _∙_, _-_, _≤_, arith, needs, eqb-true, now}
 use Rattle.sizes.specs.Sizes as Size
 use Rattle.trial_back.specs.Back.{Walk}

@@ -1,4 +1,4 @@
--- `is_generated` meets its contract. Assumes nothing.
+-- `is_generated` meets its contract.
 use Rattle.common_laws.proofs.Base.{true, _≡_, refl, sym, _∙_, _^_, arith, ltb, take, length-take, needs, lt-ltb, le-ltb, le-leb, lt-leb}
 use Rattle.truth_rows.specs.Masks.{Bits}
 use Rattle.truth_cells.specs.Words.{generatedAt, pinsAt, tableAt, truthBytes}

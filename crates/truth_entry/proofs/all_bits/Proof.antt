@@ -1,4 +1,4 @@
--- `all_bits` goes over the bytes: those left decide. Assumes nothing.
+-- `all_bits` goes over the bytes: those left decide.
 use Rattle.common_laws.proofs.Base.{Bool, true, false, _&&_, _||_, not, _≡_, refl, sym, _∙_, ℕ, _-_, _≤_, _<_, arith, eqb, length, drop, getD, drop-of-length-le}
 use Rattle.truth_tables.specs.Tables.{allOf}
 use Rattle.truth_rows.specs.Masks.{isBit}

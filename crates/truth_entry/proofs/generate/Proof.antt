@@ -1,4 +1,4 @@
--- `generate` meets its contract. Assumes nothing.
+-- `generate` meets its contract.
 use Rattle.common_laws.proofs.Base.{some, _≡_, refl, sym, ap, _∙_, arith, length, needs}
 use Rattle.reading.specs.Numbers as No
 use Rattle.text.specs.Numeral.{numeralRead}

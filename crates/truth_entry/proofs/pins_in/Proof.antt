@@ -1,4 +1,4 @@
--- `pins_in` meets its contract. Assumes nothing.
+-- `pins_in` meets its contract.
 use Rattle.common_laws.proofs.Base.{Bool, _&&_, _≡_, sym, ap, _∙_, needs, not-true, not-false}
 use Rattle.reading.specs.Choice.{pick}
 use Rattle.text.specs.Numeral.{nameForm, numeralRead}

@@ -1,4 +1,4 @@
--- `put_entry` cuts the line into its fields, each once. Assumes nothing.
+-- `put_entry` cuts the line into its fields, each once.
 use Rattle.common_laws.proofs.Base.{Bool, _&&_, _≡_, refl, ap, _∙_, _+_, _<_, arith, eqb, length, drop, needs, lt-ltb}
 use Rattle.sizes.specs.Sizes as Size
 use Rattle.reading.specs.Choice.{pick}

@@ -1,4 +1,4 @@
--- `put_printed` leaves the entry where it stands, or puts the refusal there. Assumes nothing.
+-- `put_printed` leaves the entry where it stands, or puts the refusal there.
 use Rattle.common_laws.proofs.Base.{_≡_, arith, length, needs}
 use Rattle.writer.proofs.Buffer.{writes-prints}
 use Rattle.truth_entry.proofs.Bounded.{room-enough}

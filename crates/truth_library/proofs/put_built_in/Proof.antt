@@ -1,4 +1,4 @@
--- `put_built_in` puts the text's bytes, and closes the buffer. Assumes nothing.
+-- `put_built_in` puts the text's bytes, and closes the buffer.
 use borrow.Author.Needs.{needs}
 use Rattle.text.specs.Bytes.{bytes, text}
 use Rattle.truth_library.proofs.BuiltIn.{promised}

@@ -1,4 +1,4 @@
--- `of_pin` meets its contract. Assumes nothing.
+-- `of_pin` meets its contract.
 use Rattle.common_laws.proofs.Base.{refl, _+_, _-_, _*_, _≤_, _<_, pow-le-pow-right, one-le-pow, arith, needs}
 use Rattle.truth_rows.specs.Asked.{askedNumber}
 use Rattle.truth_rows.proofs.Conditions.{observing-group}

@@ -1,4 +1,4 @@
--- `close` asks whether the cursor stands past the buffer's end. Assumes nothing.
+-- `close` asks whether the cursor stands past the buffer's end.
 use borrow.Author.Needs.{needs}
 use Rattle.writer.proofs.Buffer.{closes-within, closes-past}
 use Rattle.writer.proofs.close.Statement.{statement}

@@ -1,4 +1,4 @@
--- `code` tells a length by itself, a refusal by its one number. Assumes nothing.
+-- `code` tells a length by itself, a refusal by its one number.
 use Rattle.common_laws.proofs.Base.{refl, ap, needs}
 use Rattle.writer.specs.Buffer.{writtenRead, codeOf}
 use Rattle.writer.proofs.code.Statement.{statement}

@@ -1,4 +1,4 @@
--- `put_refusal` stores the word, the number and the line, one behind the other. Assumes nothing.
+-- `put_refusal` stores the word, the number and the line, one behind the other.
 use Rattle.text.specs.Bytes.{bytes}
 use Rattle.writer.specs.Refused.{refusalBytes}
 use Rattle.writer.proofs.Steps.{put-then}

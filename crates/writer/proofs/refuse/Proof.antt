@@ -1,4 +1,4 @@
--- `refuse` clears the buffer. Assumes nothing.
+-- `refuse` clears the buffer.
 use Rattle.common_laws.proofs.Base.{refl, needs}
 use Rattle.writer.specs.Buffer.{writtenRead}
 use Rattle.writer.proofs.refuse.Statement.{statement}

@@ -1,4 +1,4 @@
--- `show` leaves a text where it stands, and puts a refusal there. Assumes nothing.
+-- `show` leaves a text where it stands, and puts a refusal there.
 use Rattle.common_laws.proofs.Base.{refl, needs}
 use Rattle.writer.specs.Buffer.{writtenRead, ShownBy}
 use Rattle.writer.proofs.show.Statement.{statement}

@@ -1,4 +1,4 @@
--- `analyse` makes the links, and the numbers at the low end of the ranges. Assumes nothing.
+-- `analyse` makes the links, and the numbers at the low end of the ranges.
 use Rattle.common_laws.proofs.Base.{arith, now}
 use Rattle.sweep_runs.proofs.FourRuns.{link-fits}
 use Rattle.advice_calls.proofs.PadCosts.{analysis-stands}

@@ -1,4 +1,4 @@
--- `bar` bars the line that an entry names, where it names one. Assumes nothing.
+-- `bar` bars the line that an entry names, where it names one.
 use Rattle.common_laws.proofs.Base.{now, needs}
 use Rattle.advice_calls.proofs.LinesLaws.{bars-here, bars-none}
 use Rattle.advice_calls.proofs.lines.bar.Statement.{statement}

@@ -1,4 +1,4 @@
--- `bar_all` bars what one entry more names, from the last to the first. Assumes nothing.
+-- `bar_all` bars what one entry more names, from the last to the first.
 use Rattle.common_laws.proofs.Base.{_≤_, arith, length, drop, now, needs}
 use Rattle.advice_calls.proofs.LinesLaws.{barred-begins, barred-on, barred-ends}
 use Rattle.advice_calls.specs.Parts.{Barred}

@@ -1,4 +1,4 @@
--- `better` keeps the lower line where both leave the same. Assumes nothing.
+-- `better` keeps the lower line where both leave the same.
 use Rattle.common_laws.proofs.Base.{refl, arith, needs, le-leb, lt-leb}
 use Rattle.reading.specs.Choice.{pick}
 use Rattle.calculation.specs.Advice.{before}

@@ -1,4 +1,4 @@
--- `choose` has the best of the lines above one, with each turn of one line more. Assumes nothing.
+-- `choose` has the best of the lines above one, with each turn of one line more.
 use Rattle.common_laws.proofs.Base.{List, _≡_, ℕ, _≤_, arith, needs}
 use Rattle.sizes.specs.Sizes as Size
 use Rattle.library_table.specs.Cells.{Cell}

@@ -1,4 +1,4 @@
--- `consider` tries a line that may be padded. Assumes nothing.
+-- `consider` tries a line that may be padded.
 use Rattle.sweep_runs.proofs.FourRuns.{room}
 use Rattle.advice_calls.proofs.LinesLaws.{line-most}
 use Rattle.advice_calls.proofs.Candidate.{may-said, may-free, considered, passed}

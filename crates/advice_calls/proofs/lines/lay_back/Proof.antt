@@ -1,4 +1,4 @@
--- `lay_back` walks back; where that ends early it lays all numbers. Assumes nothing.
+-- `lay_back` walks back; where that ends early it lays all numbers.
 use Rattle.common_laws.proofs.Base.{arith, now}
 use Rattle.advice_calls.proofs.PadCosts.{laid-whole}
 use Rattle.advice_calls.proofs.lines.lay_back.Statement.{statement}

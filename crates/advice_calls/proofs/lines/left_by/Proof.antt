@@ -1,4 +1,4 @@
--- `left_by` adds the costs of the mentioned lines, from the highest down. Assumes nothing.
+-- `left_by` adds the costs of the mentioned lines, from the highest down.
 use Rattle.common_laws.proofs.Base.{map, _≡_, _≤_, arith, now, needs}
 use Rattle.sizes.specs.Sizes as Size
 use Rattle.netlist_table.specs.Lines.{mentionAt}

@@ -1,4 +1,4 @@
--- `may_pad` reads two marks, and whether the list names the line. Assumes nothing.
+-- `may_pad` reads two marks, and whether the list names the line.
 use Rattle.common_laws.proofs.Base.{now, needs}
 use Rattle.advice_calls.proofs.LinesLaws.{may-told}
 use Rattle.advice_calls.proofs.lines.may_pad.Statement.{statement}

@@ -1,4 +1,4 @@
--- `put_rank` stores the four numbers of a line, one behind the other. Assumes nothing.
+-- `put_rank` stores the four numbers of a line, one behind the other.
 use Rattle.common_laws.proofs.Base.{arith, now, length-set, needs}
 use Rattle.advice_calls.proofs.Ranks.{rank-stored}
 use Rattle.advice_calls.proofs.lines.put_rank.Statement.{statement}

@@ -1,4 +1,4 @@
--- `rank_line` lays the rank of a line that may be padded, never of any other. Assumes nothing.
+-- `rank_line` lays the rank of a line that may be padded, never of any other.
 use Rattle.common_laws.proofs.Base.{now, needs}
 use Rattle.sweep_runs.proofs.FourRuns.{room}
 use Rattle.advice_calls.proofs.LinesLaws.{line-least, line-most}

@@ -1,4 +1,4 @@
--- `rank_lines` has the ranks of the lines above one, with each turn of one line more. Assumes nothing.
+-- `rank_lines` has the ranks of the lines above one, with each turn of one line more.
 use Rattle.common_laws.proofs.Base.{List, _≡_, refl, _∙_, ℕ, _≤_, arith, length, now, needs}
 use Rattle.sizes.specs.Sizes as Size
 use Rattle.library_table.specs.Cells.{Cell}

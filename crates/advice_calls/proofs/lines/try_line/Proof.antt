@@ -1,4 +1,4 @@
--- `try_line` tries the pad, adds up what it leaves, and has the numbers put back. Assumes nothing.
+-- `try_line` tries the pad, adds up what it leaves, and has the numbers put back.
 use Rattle.advice_calls.proofs.PadCosts.{try-fits, tried-long, left-leaves}
 use Rattle.advice_calls.proofs.Changes.{changed-there, back-fits}
 use borrow.Author.Needs.{needs}

@@ -1,4 +1,4 @@
--- `with_cost` tells a figure, over and never apart. Assumes nothing.
+-- `with_cost` tells a figure, over and never apart.
 use Rattle.advice_calls.proofs.PadCosts.{figure-more, over-more, never-more}
 use borrow.Author.Needs.{needs}
 use Rattle.advice_calls.proofs.lines.with_cost.Statement.{statement}

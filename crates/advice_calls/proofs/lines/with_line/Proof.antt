@@ -1,4 +1,4 @@
--- `with_line` adds the cost of a line that is mentioned. Assumes nothing.
+-- `with_line` adds the cost of a line that is mentioned.
 use Rattle.common_laws.proofs.Base.{now, needs}
 use Rattle.advice_calls.proofs.PadCosts.{line-added, line-passed}
 use Rattle.advice_calls.proofs.lines.with_line.Statement.{statement}

@@ -1,4 +1,4 @@
--- `conclude` calculates, and writes the report from the tables, or both. Assumes nothing.
+-- `conclude` calculates, and writes the report from the tables, or both.
 use Rattle.common_laws.proofs.Base.{List, refl, now, length, needs}
 use Rattle.reading.specs.Numbers as No
 use Rattle.library_table.specs.Cells.{Cell}

@@ -1,4 +1,4 @@
--- `finish` tells a refusal, or makes the numbers. Assumes nothing.
+-- `finish` tells a refusal, or makes the numbers.
 use Rattle.common_laws.proofs.Base.{now, needs}
 use Rattle.demands.specs.Answer.{lentOf}
 use Rattle.demands.specs.Outcome.{Lent}

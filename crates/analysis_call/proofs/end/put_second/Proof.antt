@@ -1,4 +1,4 @@
--- `put_second` puts the second report behind the first. Assumes nothing.
+-- `put_second` puts the second report behind the first.
 use Rattle.common_laws.proofs.Base.{true, _≡_, sym, ap, _∙_, not-true, not-false, needs}
 use Rattle.writer.proofs.Steps.{put-none, put-then}
 use Rattle.analysis_call.proofs.Told.{second-none, second-some, held-report}

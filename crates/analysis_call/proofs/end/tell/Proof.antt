@@ -1,4 +1,4 @@
--- `tell` tells a refusal, or makes the numbers. Assumes nothing.
+-- `tell` tells a refusal, or makes the numbers.
 use Rattle.common_laws.proofs.Base.{now, needs}
 use Rattle.analysis_call.proofs.EndLaws.{told-entry, told-later, told-made}
 use Rattle.analysis_call.proofs.end.tell.Statement.{statement}

@@ -1,4 +1,4 @@
--- `pins_bad` looks for a pin out of range before the first 0: none of those passed is one. Assumes nothing.
+-- `pins_bad` looks for a pin out of range before the first 0: none of those passed is one.
 use Rattle.common_laws.proofs.Base.{_≡_, refl, sym, ap, _∙_, _-_, arith, needs, length, drop}
 use Rattle.sizes.specs.Sizes as Size
 use Rattle.netlist_table.specs.Netlist.{anyLineBad}

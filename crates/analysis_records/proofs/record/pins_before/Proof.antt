@@ -1,4 +1,4 @@
--- `pins_before` counts the pins before the first 0: none of those passed is 0. Assumes nothing.
+-- `pins_before` counts the pins before the first 0: none of those passed is 0.
 use Rattle.common_laws.proofs.Base.{_≡_, ap, _+_, _-_, _≤_, arith, length, drop}
 use Rattle.sizes.specs.Sizes as Size
 use Rattle.analysis_records.specs.Records.{pinsBefore}

@@ -1,4 +1,4 @@
--- `step` checks a record where nothing is refused so far. Assumes nothing.
+-- `step` checks a record where nothing is refused so far.
 use Rattle.common_laws.proofs.Base.{sym, _∙_, eq-eqb, ne-eqb, now, needs}
 use Rattle.reading.specs.Choice.{pick}
 use Rattle.analysis_texts.proofs.Reached.{entry-shut, later-shut}

@@ -1,4 +1,4 @@
--- `take_apart` says a record's statement: a gate by its pins before the first 0, else an input or an output. Assumes nothing.
+-- `take_apart` says a record's statement: a gate by its pins before the first 0, else an input or an output.
 use Rattle.common_laws.proofs.Base.{Bool, _&&_, refl, ap, eqb, ltb, needs}
 use Rattle.analysis_records.proofs.RecordLaws.{gate-says, mark-says}
 use Rattle.analysis_records.proofs.record.take_apart.Statement.{statement}

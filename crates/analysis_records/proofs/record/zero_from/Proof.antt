@@ -1,4 +1,4 @@
--- `zero_from` looks for a pin that is not 0: none of those passed is one. Assumes nothing.
+-- `zero_from` looks for a pin that is not 0: none of those passed is one.
 use Rattle.common_laws.proofs.Base.{_≡_, refl, sym, _∙_, _-_, arith, length, drop}
 use Rattle.sizes.specs.Sizes as Size
 use Rattle.analysis_records.specs.Records.{allZero}

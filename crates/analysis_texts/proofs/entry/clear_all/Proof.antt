@@ -1,4 +1,4 @@
--- `clear_all` sets all that was lent to zero. Assumes nothing.
+-- `clear_all` sets all that was lent to zero.
 use Rattle.common_laws.proofs.Base.{_∙_, now, needs}
 use Rattle.table.proofs.Places.{cleared-all}
 use Rattle.demands.specs.Outcome.{zeroed}

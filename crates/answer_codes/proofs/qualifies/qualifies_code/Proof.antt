@@ -1,4 +1,4 @@
--- `qualifies_code` tells by one number what the tables of the two texts say. Assumes nothing.
+-- `qualifies_code` tells by one number what the tables of the two texts say.
 use Rattle.common_laws.proofs.Base.{refl, now, needs}
 use Rattle.answer_codes.proofs.QualifiesLaws.{entry-line, later-line, qualifies-entry, qualifies-later, qualifies-accepted}
 use Rattle.answer_codes.proofs.qualifies.qualifies_code.Statement.{statement}

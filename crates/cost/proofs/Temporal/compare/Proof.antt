@@ -1,4 +1,4 @@
--- `Temporal::compare` says how the cost stands to the other, with the lesser of the two. Assumes nothing.
+-- `Temporal::compare` says how the cost stands to the other, with the lesser of the two.
 use Rattle.common_laws.proofs.Base.{needs, sym}
 use Rattle.cost.specs.Order.{temporalOrder}
 use Rattle.cost.proofs.Laws.{compared-as}

@@ -1,5 +1,4 @@
 -- `bytes_at` meets its contract. The loop's invariant: the bytes passed stand there, so that the rest decides.
--- Assumes nothing.
 use Rattle.common_laws.proofs.Base.{_≡_, sym, ap, _∙_, ℕ, _+_, _-_, _≤_, _<_, add-zero, arith, length, drop, needs}
 use Rattle.sizes.specs.Places.{cellPlace}
 use Rattle.library_table.specs.Layout.{bytesAt}

@@ -1,4 +1,4 @@
--- `cell_place` meets its contract. Assumes nothing.
+-- `cell_place` meets its contract.
 use Rattle.common_laws.proofs.Base.{refl, needs}
 use Rattle.library_table.proofs.cells.cell_place.Statement.{statement}
 use Rattle.library_table.proofs.cells.cell_place.Tie as tie

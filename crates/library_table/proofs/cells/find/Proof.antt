@@ -1,5 +1,4 @@
 -- `find` meets its contract. The loop's invariant: no cell passed has the name, so that the rest decides.
--- Assumes nothing.
 use Rattle.common_laws.proofs.Base.{_≡_, sym, _∙_, _-_, _≤_, arith, needs}
 use Rattle.library_table.specs.Layout.{foundFrom, foundAt}
 use Rattle.library_table.proofs.Names.{found-start, found-here, found-on, found-end}

@@ -1,5 +1,5 @@
 -- `fit` walks over the pins of the cells that the table counts. The loop's invariant: no cell passed has too many, so that the
--- rest decides. Assumes nothing.
+-- rest decides.
 use Rattle.common_laws.proofs.Base.{_≡_, sym, _∙_, _-_, _≤_, arith, needs}
 use Rattle.library_table.specs.Layout.{narrowFrom, cellsFit}
 use Rattle.library_table.proofs.Names.{fit-many, fit-start, narrow-more, narrow-not, narrow-end}

@@ -1,4 +1,4 @@
--- `name_at` meets its contract. Assumes nothing.
+-- `name_at` meets its contract.
 use Rattle.common_laws.proofs.Base.{_≡_, sym, _∙_, needs, eq-eqb, ne-eqb, length, getD}
 use Rattle.sizes.specs.Places.{cellPlace}
 use Rattle.library_table.specs.Layout.{nameAt}

@@ -1,4 +1,4 @@
--- `pins_of` meets its contract. Assumes nothing.
+-- `pins_of` meets its contract.
 use Rattle.common_laws.proofs.Base.{arith, needs}
 use Rattle.library_table.proofs.cells.pins_of.Statement.{statement}
 use Rattle.library_table.proofs.cells.pins_of.Tie as tie

@@ -1,4 +1,4 @@
--- `told` hands back the table, or its empty front. Assumes nothing.
+-- `told` hands back the table, or its empty front.
 use Rattle.common_laws.proofs.Base.{sym, _∙_, needs}
 use Rattle.library_table.proofs.Names.{tells-fit, tells-none}
 use Rattle.library_table.proofs.cells.told.Statement.{statement}

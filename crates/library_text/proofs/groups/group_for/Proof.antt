@@ -1,4 +1,4 @@
--- `group_for` meets its contract. Assumes nothing.
+-- `group_for` meets its contract.
 use Rattle.common_laws.proofs.Base.{eq-eqb, ne-eqb, needs}
 use Rattle.reading.specs.Choice.{pick}
 use Rattle.library_text.specs.Groups.{groupFor}

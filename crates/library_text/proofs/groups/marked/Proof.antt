@@ -1,4 +1,4 @@
--- `marked` meets its contract. Assumes nothing.
+-- `marked` meets its contract.
 use mathlib.Core.Path.{refl}
 use Rattle.library_text.specs.Groups.{marked}
 use Rattle.library_text.proofs.groups.marked.Statement.{statement}

@@ -1,4 +1,4 @@
--- `number_of` meets its contract: each return is a case of the number, by the tests of the definition. Assumes nothing.
+-- `number_of` meets its contract: each return is a case of the number, by the tests of the definition.
 use Rattle.common_laws.proofs.Base.{Bool, true, false, not, _&&_, _||_, _≡_, leb, ltb, eqb}
 use Rattle.sizes.specs.Sizes as Size
 use Rattle.reading.specs.Choice.{pick}

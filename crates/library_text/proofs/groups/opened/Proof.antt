@@ -1,4 +1,4 @@
--- `opened` meets its contract. Assumes nothing.
+-- `opened` meets its contract.
 use Rattle.common_laws.proofs.Base.{refl, needs}
 use Rattle.library_text.specs.Groups.{opened}
 use Rattle.library_text.proofs.groups.opened.Statement.{statement}

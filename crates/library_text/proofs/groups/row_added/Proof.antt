@@ -1,4 +1,4 @@
--- `row_added` meets its contract. Assumes nothing.
+-- `row_added` meets its contract.
 use Rattle.library_text.specs.Groups.{rowAdded}
 use borrow.Author.Needs.{needs}
 use Rattle.library_text.proofs.groups.row_added.Statement.{statement}

@@ -1,4 +1,4 @@
--- `row_digits` meets its contract. Assumes nothing.
+-- `row_digits` meets its contract.
 use Rattle.library_table.specs.Library.{rowDigits}
 use Rattle.library_text.specs.Groups.{numberHeading}
 use Rattle.library_text.proofs.GroupLaws.{other-deep}

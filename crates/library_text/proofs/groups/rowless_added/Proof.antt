@@ -1,4 +1,4 @@
--- `rowless_added` meets its contract. Assumes nothing.
+-- `rowless_added` meets its contract.
 use Rattle.library_text.specs.Groups.{opened, rowlessAdded}
 use borrow.Author.Needs.{needs}
 use Rattle.library_text.proofs.groups.rowless_added.Statement.{statement}

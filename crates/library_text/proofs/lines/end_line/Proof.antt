@@ -1,4 +1,4 @@
--- `end_line` meets its contract. Assumes nothing.
+-- `end_line` meets its contract.
 use Rattle.common_laws.proofs.Base.{_&&_, List, _≡_, sym, _∙_, ℕ, not-true, not-false, arith, needs}
 use Rattle.text.specs.Bytes.{bytes}
 use Rattle.text.specs.Lines.{fields}

@@ -1,4 +1,4 @@
--- `header_number` meets its contract: each return is a case of the number. Assumes nothing.
+-- `header_number` meets its contract: each return is a case of the number.
 use Rattle.common_laws.proofs.Base.{false, _≡_, sym, ap, _∙_, ℕ, ltb, getD, lt-ltb, le-ltb, le-leb, lt-leb, needs}
 use Rattle.reading.specs.Choice.{pick}
 use Rattle.library_table.specs.Library.{pinsBad}

@@ -1,4 +1,4 @@
--- `header_pins` meets its contract. Assumes nothing.
+-- `header_pins` meets its contract.
 use Rattle.common_laws.proofs.Base.{Bool, _&&_, _≡_, sym, ap, _∙_, ltb, not-true, not-false, needs}
 use Rattle.reading.specs.Choice.{pick}
 use Rattle.text.specs.Numeral.{nameForm, numeralRead}

@@ -1,4 +1,4 @@
--- `heading_in` meets its contract. Assumes nothing.
+-- `heading_in` meets its contract.
 use Rattle.common_laws.proofs.Base.{sym, _∙_, needs}
 use Rattle.reading.specs.Choice.{pick}
 use Rattle.text.specs.Bytes.{bytes}

@@ -1,4 +1,4 @@
--- `name_line` meets its contract: three fields, each cut once. Assumes nothing.
+-- `name_line` meets its contract: three fields, each cut once.
 use Rattle.common_laws.proofs.Base.{Bool, List, [], some, _≡_, sym, ap, _∙_, ℕ, getD, drop, needs}
 use Rattle.text.specs.Lines.{fields, fieldsFrom}
 use Rattle.text.specs.Numeral.{numeralRead}

@@ -1,4 +1,4 @@
--- `read_line` meets its contract. Assumes nothing.
+-- `read_line` meets its contract.
 use Rattle.common_laws.proofs.Base.{arith, needs}
 use Rattle.library_text.proofs.lines.read_line.Statement.{statement}
 use Rattle.library_text.proofs.lines.read_line.Tie as tie

@@ -1,5 +1,4 @@
 -- `read_lines` meets its contract. The loop's invariant: the reading so far, from which the rest of the text decides.
--- Assumes nothing.
 use Rattle.common_laws.proofs.Base.{List, _++_, _≡_, refl, sym, ap, _∙_, ℕ, _+_, _-_, _≤_, _<_, length, drop, arith, needs}
 use Rattle.sizes.specs.Sizes as Size
 use Rattle.text.specs.Lines.{fields, part}

@@ -1,4 +1,4 @@
--- `word_at` meets its contract. Assumes nothing.
+-- `word_at` meets its contract.
 use Rattle.library_text.specs.Walk.{wordAt}
 use Rattle.library_text.proofs.Entries.{at-SO}
 use Rattle.library_text.proofs.lines.word_at.Statement.{statement}

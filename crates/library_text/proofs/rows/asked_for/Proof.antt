@@ -1,4 +1,4 @@
--- `asked_for` meets its contract. Assumes nothing.
+-- `asked_for` meets its contract.
 use Rattle.common_laws.proofs.Base.{sym, _∙_, needs}
 use Rattle.reading.specs.Choice.{pick}
 use Rattle.library_text.specs.Passes.{askedOf}

@@ -1,4 +1,4 @@
--- `first_group` meets its contract. Assumes nothing.
+-- `first_group` meets its contract.
 use Rattle.library_table.specs.Layout.{firstGroup}
 use borrow.Author.Needs.{needs}
 use Rattle.library_text.proofs.rows.first_group.Statement.{statement}

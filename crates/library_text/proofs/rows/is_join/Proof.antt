@@ -1,4 +1,4 @@
--- `is_join` meets its contract. Assumes nothing.
+-- `is_join` meets its contract.
 use Rattle.text.specs.Bytes.{bytes}
 use Rattle.library_table.specs.Library.{isJoin}
 use borrow.Author.Needs.{needs}

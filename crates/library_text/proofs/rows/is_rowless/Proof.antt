@@ -1,4 +1,4 @@
--- `is_rowless` meets its contract. Assumes nothing.
+-- `is_rowless` meets its contract.
 use Rattle.text.specs.Bytes.{bytes}
 use Rattle.library_table.specs.Library.{isZ}
 use borrow.Author.Needs.{needs}

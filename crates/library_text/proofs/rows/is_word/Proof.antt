@@ -1,4 +1,4 @@
--- `is_word` meets its contract. Assumes nothing.
+-- `is_word` meets its contract.
 use Rattle.text.specs.Bytes.{bytes}
 use Rattle.library_table.specs.Library.{wordBytes}
 use borrow.Author.Needs.{needs}

@@ -1,4 +1,4 @@
--- `pass_field` meets its contract: an M, a Z, a row, or what is none of them. Assumes nothing.
+-- `pass_field` meets its contract: an M, a Z, a row, or what is none of them.
 use Rattle.common_laws.proofs.Base.{false, _≡_, refl, sym, _∙_, _≤_, arith, needs}
 use Rattle.sizes.specs.Sizes as Size
 use Rattle.reading.specs.Choice.{pick}

@@ -1,6 +1,5 @@
 -- `pass_fields` meets its contract. The loop's invariant: from what is passed and stored, the fields still to come lead to
 -- what is promised.
--- Assumes nothing.
 use Rattle.common_laws.proofs.Base.{_≡_, refl, sym, _∙_, _+_, _-_, length, arith, needs}
 use Rattle.text.specs.Lines.{fieldsFrom}
 use Rattle.library_text.specs.Groups.{Small}

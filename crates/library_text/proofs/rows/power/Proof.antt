@@ -1,4 +1,4 @@
--- `power` meets its contract. Assumes nothing.
+-- `power` meets its contract.
 use Rattle.common_laws.proofs.Base.{_≡_, refl, _-_, _^_, _≤_, _<_, pow-suc, pow-le-pow-right, add-one, arith}
 use Rattle.library_text.proofs.rows.power.Statement.{statement}
 use Rattle.library_text.proofs.rows.power.Tie as tie

@@ -1,4 +1,4 @@
--- `read_rows` meets its contract: the word, then the walk. Assumes nothing.
+-- `read_rows` meets its contract: the word, then the walk.
 use Rattle.common_laws.proofs.Base.{[], _≡_, sym, _∙_, getD, not-true, not-false, arith, needs}
 use Rattle.reading.specs.Choice.{pick}
 use Rattle.text.specs.Lines.{fields, sameBytes}

@@ -1,4 +1,4 @@
--- `sets_output` meets its contract. Assumes nothing.
+-- `sets_output` meets its contract.
 use Rattle.library_text.specs.Passes.{setting}
 use borrow.Author.Needs.{needs}
 use Rattle.library_text.proofs.rows.sets_output.Statement.{statement}

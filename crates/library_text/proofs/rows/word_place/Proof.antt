@@ -1,4 +1,4 @@
--- `word_place` meets its contract. Assumes nothing.
+-- `word_place` meets its contract.
 use Rattle.common_laws.proofs.Base.{arith, needs}
 use Rattle.library_table.proofs.Places.{first-most}
 use Rattle.library_text.proofs.rows.word_place.Statement.{statement}

@@ -1,4 +1,4 @@
--- `bounds_bad` tests both prices, and their order. Assumes nothing.
+-- `bounds_bad` tests both prices, and their order.
 use Rattle.common_laws.proofs.Base.{Bool, _||_, ap₂, ltb, needs}
 use Rattle.netlist_table.specs.Netlist.{boundsBad}
 use Rattle.netlist_admission.proofs.causes.bounds_bad.Statement.{statement}

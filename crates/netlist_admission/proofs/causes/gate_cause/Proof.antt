@@ -1,4 +1,4 @@
--- `gate_cause` weighs a gate's own numbers. Assumes nothing.
+-- `gate_cause` weighs a gate's own numbers.
 use Rattle.common_laws.proofs.Base.{Bool, not, _||_, sym, ap, _∙_, ℕ, leb, eqb, needs}
 use Rattle.library_table.specs.Cells.{noCell}
 use Rattle.netlist_table.proofs.Causes.{pinsAt-cell}

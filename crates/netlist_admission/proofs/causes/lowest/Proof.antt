@@ -1,4 +1,4 @@
--- `lowest` weighs the causes in the numbers' order. Assumes nothing.
+-- `lowest` weighs the causes in the numbers' order.
 use Rattle.reading.specs.Choice.{pick}
 use Rattle.netlist_table.specs.Lowest.{lowest}
 use Rattle.netlist_admission.proofs.causes.lowest.Statement.{statement}

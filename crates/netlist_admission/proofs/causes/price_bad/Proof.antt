@@ -1,4 +1,4 @@
--- `price_bad` tests a price against 1 and 999. Assumes nothing.
+-- `price_bad` tests a price against 1 and 999.
 use mathlib.Core.Path.{refl}
 use Rattle.netlist_table.specs.Netlist.{priceBad}
 use Rattle.netlist_admission.proofs.causes.price_bad.Statement.{statement}

@@ -1,4 +1,4 @@
--- `admit_gate` checks a gate and admits it. Assumes nothing.
+-- `admit_gate` checks a gate and admits it.
 use Rattle.common_laws.proofs.Base.{List, _≡_, sym, _∙_, getD, needs}
 use Rattle.sizes.specs.Places.{driverPlace}
 use Rattle.library_table.specs.Cells.{Cell}

@@ -1,4 +1,4 @@
--- `admit_mark` checks a mark and admits it. Assumes nothing.
+-- `admit_mark` checks a mark and admits it.
 use Rattle.common_laws.proofs.Base.{false, List, _≡_, sym, ap, _∙_, ℕ, set, needs}
 use Rattle.sizes.specs.Places.{mentionPlace}
 use Rattle.netlist_table.specs.Netlist.{lineBad}

@@ -1,4 +1,4 @@
--- `admit_range` checks a range and admits it. Assumes nothing.
+-- `admit_range` checks a range and admits it.
 use Rattle.common_laws.proofs.Base.{Bool, not, _||_, List, [], _∷_, _≡_, sym, _∙_, ℕ, _≤_, arith, eqb, getD, needs}
 use Rattle.sizes.specs.Places.{driverPlace, rangePlace}
 use Rattle.reading.specs.Numbers as No

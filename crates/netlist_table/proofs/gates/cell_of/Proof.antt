@@ -1,4 +1,4 @@
--- `cell_of` reads the first number of the gate. Assumes nothing.
+-- `cell_of` reads the first number of the gate.
 use borrow.Author.Needs.{needs}
 use Rattle.netlist_table.proofs.gates.cell_of.Statement.{statement}
 use Rattle.netlist_table.proofs.gates.cell_of.Tie as tie

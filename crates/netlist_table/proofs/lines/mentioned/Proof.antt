@@ -1,4 +1,4 @@
--- `mentioned` reads a mark. Assumes nothing.
+-- `mentioned` reads a mark.
 use Rattle.common_laws.proofs.Base.{not, ap, ℕ, eqb, needs}
 use Rattle.netlist_table.proofs.lines.mentioned.Statement.{statement}
 use Rattle.netlist_table.proofs.lines.mentioned.Tie as tie

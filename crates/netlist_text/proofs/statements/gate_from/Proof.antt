@@ -1,4 +1,4 @@
--- `gate_from` reads a gate, field by field. Assumes nothing.
+-- `gate_from` reads a gate, field by field.
 use Rattle.common_laws.proofs.Base.{true, List, _≡_, refl, sym, ap, _∙_, ℕ, not-true, not-false, needs}
 use Rattle.text.specs.Lines.{part, nextAfter}
 use Rattle.text.specs.Numeral.{nameForm}

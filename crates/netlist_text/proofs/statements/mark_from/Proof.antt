@@ -1,4 +1,4 @@
--- `mark_from` reads the one number of a mark. Assumes nothing.
+-- `mark_from` reads the one number of a mark.
 use Rattle.common_laws.proofs.Base.{_≡_, ap, _∙_, needs}
 use Rattle.text.specs.Lines.{part, nextAfter}
 use Rattle.netlist_table.specs.Netlist.{markOf}

@@ -1,4 +1,4 @@
--- `pins_from` gathers the pins of the fields: those passed are. Assumes nothing.
+-- `pins_from` gathers the pins of the fields: those passed are.
 use Rattle.common_laws.proofs.Base.{Bool, true, _||_, List, _≡_, refl, sym, ap, _∙_, ℕ, _+_, _-_, _≤_, arith, length, needs}
 use Rattle.text.specs.Lines.{part, nextAfter}
 use Rattle.text.proofs.Laws.{nextAfter-within}

@@ -1,4 +1,4 @@
--- `range_from` reads three numbers, gathered as pins are. Assumes nothing.
+-- `range_from` reads three numbers, gathered as pins are.
 use Rattle.common_laws.proofs.Base.{refl, needs}
 use Rattle.netlist_text.proofs.Forms.{gathered-range}
 use Rattle.netlist_text.proofs.statements.range_from.Statement.{statement}

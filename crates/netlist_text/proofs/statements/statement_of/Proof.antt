@@ -1,4 +1,4 @@
--- `statement_of` reads the statement of a line by its first field. Assumes nothing.
+-- `statement_of` reads the statement of a line by its first field.
 use Rattle.common_laws.proofs.Base.{Bool, false, _&&_, List, _≡_, refl, sym, ap, _∙_, ℕ, needs}
 use Rattle.reading.specs.Choice.{pick}
 use Rattle.text.specs.Bytes.{bytes}

@@ -1,4 +1,4 @@
--- `asked_number` reads the number where there is one. Assumes nothing.
+-- `asked_number` reads the number where there is one.
 use Rattle.common_laws.proofs.Base.{refl, sym, _∙_, arith, needs}
 use Rattle.reading.specs.Choice.{pick}
 use Rattle.plan_calls.specs.Concluded.{askedNumber}

@@ -1,4 +1,4 @@
--- `calculate_plan`: the numbers, and the plan. Assumes nothing.
+-- `calculate_plan`: the numbers, and the plan.
 use Rattle.common_laws.proofs.Base.{now, needs}
 use Rattle.plan_calls.proofs.EndLaws.{analysis-held}
 use Rattle.plan_calls.proofs.end.calculate_plan.Statement.{statement}

@@ -1,4 +1,4 @@
--- `conclude_plan` refuses by 18, or writes and closes, perhaps by 19. Assumes nothing.
+-- `conclude_plan` refuses by 18, or writes and closes, perhaps by 19.
 use Rattle.common_laws.proofs.Base.{_∙_, _≤_, arith, needs}
 use Rattle.cost.specs.Cost.{most}
 use Rattle.calculation.specs.Calculation.{analysed}

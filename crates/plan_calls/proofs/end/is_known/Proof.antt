@@ -1,4 +1,4 @@
--- `is_known` tests the four bounds. Assumes nothing.
+-- `is_known` tests the four bounds.
 use borrow.Author.Needs.{needs}
 use Rattle.plan_calls.specs.Concluded.{known}
 use Rattle.plan_calls.proofs.end.is_known.Statement.{statement}

@@ -1,4 +1,4 @@
--- `as_written` goes by the heading. Assumes nothing.
+-- `as_written` goes by the heading.
 use Rattle.common_laws.proofs.Base.{refl, arith, needs, eq-eqb, ne-eqb}
 use Rattle.reading.specs.Choice.{pick}
 use Rattle.plan_marks.specs.Rows.{asWritten}

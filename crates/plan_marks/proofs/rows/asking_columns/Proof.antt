@@ -1,4 +1,4 @@
--- `asking_columns` goes by how the gate's rows are read. Assumes nothing.
+-- `asking_columns` goes by how the gate's rows are read.
 use Rattle.common_laws.proofs.Base.{true, false, refl, needs}
 use Rattle.reading.specs.Choice.{pick}
 use Rattle.plan_marks.specs.Rows.{askingColumns}

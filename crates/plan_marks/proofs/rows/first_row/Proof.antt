@@ -1,4 +1,4 @@
--- `first_row` goes from the first row on, and stops at the first that comes to the least sum. Assumes nothing.
+-- `first_row` goes from the first row on, and stops at the first that comes to the least sum.
 use Rattle.common_laws.proofs.Base.{⊎-elim, sym, _∙_, _+_, _*_, _-_, _<_, arith, needs, not-true, not-false, getD}
 use Rattle.sizes.specs.Sizes as Size
 use Rattle.sweep_groups.specs.Tables.{readRow}

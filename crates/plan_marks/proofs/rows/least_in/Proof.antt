@@ -1,4 +1,4 @@
--- `least_in` reads the rows as was decided for the gate. Assumes nothing.
+-- `least_in` reads the rows as was decided for the gate.
 use Rattle.sweep_groups.specs.Tables.{readRow}
 use Rattle.plan_marks.proofs.rows.least_in.Statement.{statement}
 use Rattle.plan_marks.proofs.rows.least_in.Tie as tie

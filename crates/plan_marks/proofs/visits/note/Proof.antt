@@ -1,4 +1,4 @@
--- `note` stores four numbers, one after the other. Assumes nothing.
+-- `note` stores four numbers, one after the other.
 use Rattle.common_laws.proofs.Base.{_≡_, refl, ℕ, suc, _+_, _*_, arith, needs}
 use Rattle.plan_marks.proofs.visits.note.Statement.{statement}
 use Rattle.plan_marks.proofs.visits.note.Tie as tie

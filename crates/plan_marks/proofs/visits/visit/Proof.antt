@@ -1,4 +1,4 @@
--- `visit` gathers the costs of the gate's columns, and lowers the number where the least row sum is below it. Assumes nothing.
+-- `visit` gathers the costs of the gate's columns, and lowers the number where the least row sum is below it.
 use Rattle.common_laws.proofs.Base.{Bool, List, _≡_, refl, sym, ap, ap₂, _∙_, ℕ, _+_, _*_, _^_, _≤_, _<_, arith, length, getD, needs, not-true, not-false}
 use Rattle.sizes.specs.Sizes as Size
 use Rattle.sizes.specs.Places.{groupPlace}

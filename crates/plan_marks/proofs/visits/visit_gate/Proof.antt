@@ -1,4 +1,4 @@
--- `visit_gate` makes both visits, and after a lowered number the gates that read the line are awake. Assumes nothing.
+-- `visit_gate` makes both visits, and after a lowered number the gates that read the line are awake.
 use Rattle.common_laws.proofs.Base.{sym, _∙_, arith, getD, needs, not-true, not-false}
 use Rattle.netlist_table.proofs.HeldGates.{line-at}
 use Rattle.sweep_groups.specs.Fits.{GateFits}

@@ -1,4 +1,4 @@
--- `put_usage` puts the line's bytes. Assumes nothing.
+-- `put_usage` puts the line's bytes.
 use borrow.Author.Needs.{needs}
 use Rattle.text.specs.Bytes.{bytes}
 use Rattle.scoap_plan.specs.Arguments.{usage}

@@ -1,4 +1,4 @@
--- `read_arguments` counts the words and reads each. Assumes nothing.
+-- `read_arguments` counts the words and reads each.
 use borrow.Author.Needs.{needs}
 use Rattle.scoap_plan.proofs.Laws.{words-bad, words-good}
 use Rattle.scoap_plan.proofs.arguments.read_arguments.Statement.{statement}

@@ -1,4 +1,4 @@
--- `three_decimals` is `threeDecimals`, numeral by numeral. Assumes nothing.
+-- `three_decimals` is `threeDecimals`, numeral by numeral.
 use Rattle.common_laws.proofs.Base.{refl, needs}
 use Rattle.text.specs.Numeral.{numeralRead}
 use Rattle.scoap_plan.specs.Arguments.{threeDecimals}

@@ -1,4 +1,4 @@
--- `begin_again` calculates from the start, and lays what that comes to. Assumes nothing.
+-- `begin_again` calculates from the start, and lays what that comes to.
 use Rattle.common_laws.proofs.Base.{_≡_, subst, ℕ, _≤_, arith, length, length-replicate, now, needs}
 use Rattle.sizes.specs.Sizes as Size
 use Rattle.calculation.specs.Calculation.{Analysed}

@@ -1,4 +1,4 @@
--- `go_on_from` runs from the numbers that stand, and lays what the runs come to. Assumes nothing.
+-- `go_on_from` runs from the numbers that stand, and lays what the runs come to.
 use Rattle.common_laws.proofs.Base.{_≡_, subst, _≤_, length, now, needs}
 use Rattle.sizes.specs.Sizes as Size
 use Rattle.calculation.specs.Calculation.{Analysed}

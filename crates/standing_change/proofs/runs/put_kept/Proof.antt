@@ -1,4 +1,4 @@
--- `put_kept` lays the analysis behind as many pads as the table counts. Assumes nothing.
+-- `put_kept` lays the analysis behind as many pads as the table counts.
 use Rattle.common_laws.proofs.Base.{_∙_, arith, now, needs}
 use Rattle.calculation.specs.Stored.{whole}
 use Rattle.standing_change.proofs.RunsLaws.{kept-stored}

@@ -1,4 +1,4 @@
--- `read_again`: the netlist, and the pads. Assumes nothing.
+-- `read_again`: the netlist, and the pads.
 use Rattle.common_laws.proofs.Base.{sym, subst, now, needs}
 use Rattle.reading.specs.Verdict.{verdictRead}
 use Rattle.netlist_text.specs.Reader.{NoStatements}

@@ -1,4 +1,4 @@
--- `judge` tells 23 before 24. Assumes nothing.
+-- `judge` tells 23 before 24.
 use Rattle.common_laws.proofs.Base.{not, needs}
 use Rattle.reading.specs.Verdict.{verdictRead}
 use Rattle.standing_table.proofs.TextsLaws.{taken-first, stale-next, none-refused}

@@ -1,4 +1,4 @@
--- `mark_pads` counts the pads, and marks them. Assumes nothing.
+-- `mark_pads` counts the pads, and marks them.
 use Rattle.common_laws.proofs.Base.{Bool, List, _≡_, _∙_, subst, ℕ, _≤_, arith, getD, take, drop, now, needs}
 use Rattle.sizes.specs.Sizes as Size
 use Rattle.reading.specs.Verdict.{verdictRead}

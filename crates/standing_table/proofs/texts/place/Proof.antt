@@ -1,4 +1,4 @@
--- `place` refuses a line that takes no pad, and marks another. Assumes nothing.
+-- `place` refuses a line that takes no pad, and marks another.
 use Rattle.common_laws.proofs.Base.{some, sym, _∙_, not-true, not-false, arith, now, needs}
 use Rattle.library_table.proofs.Names.{holds-told}
 use Rattle.netlist_table.specs.Netlist.{mark, output}

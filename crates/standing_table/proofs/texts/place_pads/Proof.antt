@@ -1,4 +1,4 @@
--- `place_pads` marks one pad after the other. Assumes nothing.
+-- `place_pads` marks one pad after the other.
 use Rattle.common_laws.proofs.Base.{Bool, true, List, _≡_, refl, sym, subst, _∙_, ℕ, _-_, _≤_, add-one, arith, length, getD, take, drop, length-drop, getD-drop, now, needs}
 use Rattle.common_laws.proofs.Base.{not-true, not-false}
 use Rattle.sizes.specs.Sizes as Size

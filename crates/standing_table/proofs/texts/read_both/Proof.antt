@@ -1,4 +1,4 @@
--- `read_both` tells how far the reading came as a verdict. Assumes nothing.
+-- `read_both` tells how far the reading came as a verdict.
 use Rattle.common_laws.proofs.Base.{false, now, needs}
 use Rattle.demands.specs.Outcome.{Given, givenTexts}
 use Rattle.demands.proofs.Given.{texts-checked}

@@ -1,4 +1,4 @@
--- `read_held`: both texts, and the pads. Assumes nothing.
+-- `read_held`: both texts, and the pads.
 use Rattle.common_laws.proofs.Base.{subst, now, needs}
 use Rattle.reading.specs.Verdict.{verdictRead}
 use Rattle.demands.specs.Outcome.{Given, givenTexts}

@@ -1,4 +1,4 @@
--- `read_pad`: what stands, and one pad more. Assumes nothing.
+-- `read_pad`: what stands, and one pad more.
 use Rattle.common_laws.proofs.Base.{subst, now, needs}
 use Rattle.reading.specs.Verdict.{verdictRead}
 use Rattle.demands.specs.Outcome.{Given, givenTexts}

@@ -1,4 +1,4 @@
--- `column_costs` gathers the columns of the role, unless they are gathered already. Assumes nothing.
+-- `column_costs` gathers the columns of the role, unless they are gathered already.
 use Rattle.common_laws.proofs.Base.{_<_, arith, needs, not-true}
 use Rattle.sizes.specs.Sizes as Size
 use Rattle.sweep_groups.proofs.Gathered.{gather-observed}

@@ -1,4 +1,4 @@
--- `line_costs` gathers the two columns of one line more with each turn. Assumes nothing.
+-- `line_costs` gathers the two columns of one line more with each turn.
 use Rattle.common_laws.proofs.Base.{_≡_, _+_, _*_, _-_, _≤_, _<_, arith}
 use Rattle.sizes.specs.Sizes as Size
 use Rattle.sweep_groups.specs.Fits.{Gathered}

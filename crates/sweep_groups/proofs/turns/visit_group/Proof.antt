@@ -1,4 +1,4 @@
--- `visit_group` goes by the role. Assumes nothing.
+-- `visit_group` goes by the role.
 use Rattle.common_laws.proofs.Base.{sym, needs}
 use Rattle.sweep_groups.proofs.Roles.{role-set, role-observed}
 use Rattle.sweep_groups.proofs.turns.visit_group.Statement.{statement}

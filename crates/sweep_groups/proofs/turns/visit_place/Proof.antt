@@ -1,4 +1,4 @@
--- `visit_place` goes by the role: the place of the gate's own line at a value, or of a pin's line observed. Assumes nothing.
+-- `visit_place` goes by the role: the place of the gate's own line at a value, or of a pin's line observed.
 use Rattle.common_laws.proofs.Base.{sym, _∙_, _+_, _<_, arith, needs}
 use Rattle.sizes.specs.Sizes as Size
 use Rattle.sweep_groups.proofs.Roles.{role-set, role-observed}

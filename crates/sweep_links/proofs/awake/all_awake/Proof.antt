@@ -1,4 +1,4 @@
--- `all_awake` sets every bit. Assumes nothing.
+-- `all_awake` sets every bit.
 use Rattle.common_laws.proofs.Base.{refl, ℕ, _/_, _%_, arith, getD-replicate}
 use Rattle.sizes.specs.Sizes as Size
 use Rattle.sweep_links.specs.Turns.{bitAt}

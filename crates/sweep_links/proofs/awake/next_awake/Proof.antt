@@ -1,4 +1,4 @@
--- `next_awake` goes by the rest of each word: no turn passed is awake. Assumes nothing.
+-- `next_awake` goes by the rest of each word: no turn passed is awake.
 use Rattle.common_laws.proofs.Base.{_≡_, refl, ℕ, _/_, _%_, _-_, _^_, _≤_, _<_, arith}
 use lib.Count.{trailing-le}
 use Rattle.sizes.specs.Sizes as Size

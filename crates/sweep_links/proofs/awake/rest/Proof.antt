@@ -1,4 +1,4 @@
--- `rest` clears the turn's bit. Assumes nothing.
+-- `rest` clears the turn's bit.
 use Rattle.common_laws.proofs.Base.{_%_, arith, needs}
 use Rattle.sizes.specs.Sizes as Size
 use Rattle.sweep_links.proofs.Bits.{one-shifted}

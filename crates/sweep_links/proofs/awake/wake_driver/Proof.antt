@@ -1,4 +1,4 @@
--- `wake_driver` wakes the gate that is noted for the line. Assumes nothing.
+-- `wake_driver` wakes the gate that is noted for the line.
 use Rattle.common_laws.proofs.Base.{_≡_, refl, ap, _∙_, _-_, arith, needs}
 use Rattle.sweep_links.specs.Turns.{bitAt}
 use Rattle.sweep_links.proofs.Turns.{wakes-only}

@@ -1,4 +1,4 @@
--- `wake_readers` walks along the chain of the line. Assumes nothing.
+-- `wake_readers` walks along the chain of the line.
 use Rattle.common_laws.proofs.Base.{List, _≡_, _∙_, ℕ, _*_, _≤_, arith, needs}
 use Rattle.sizes.specs.Sizes as Size
 use Rattle.sweep_links.specs.Lines.{Chained}

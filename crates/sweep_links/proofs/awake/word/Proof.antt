@@ -1,4 +1,4 @@
--- `word` reads a word. Assumes nothing.
+-- `word` reads a word.
 use Rattle.common_laws.proofs.Base.{arith, needs}
 use Rattle.sweep_links.proofs.awake.word.Statement.{statement}
 use Rattle.sweep_links.proofs.awake.word.Tie as tie

@@ -1,4 +1,4 @@
--- `spatial::is_lower` asks how the cost stands to the other. Assumes nothing.
+-- `spatial::is_lower` asks how the cost stands to the other.
 use borrow.Author.Needs.{needs}
 use Rattle.cost.specs.Order.{spatialOrder}
 use Rattle.sweep_sums.proofs.Sums.{lower-told}

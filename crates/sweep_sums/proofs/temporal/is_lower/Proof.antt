@@ -1,4 +1,4 @@
--- `temporal::is_lower` asks how the cost stands to the other. Assumes nothing.
+-- `temporal::is_lower` asks how the cost stands to the other.
 use borrow.Author.Needs.{needs}
 use Rattle.cost.specs.Order.{temporalOrder}
 use Rattle.sweep_sums.proofs.Sums.{lower-told}

@@ -1,4 +1,4 @@
--- `lowest_already` says so only of a number that is observed, and at most the cost. Assumes nothing.
+-- `lowest_already` says so only of a number that is observed, and at most the cost.
 use Rattle.common_laws.proofs.Base.{Bool, true, true≢false, not, _≡_, sym, ap, _∙_, ℕ, _≤_, arith, needs, not-true, ltb-false, ltb}
 use Rattle.cost.specs.Cost.{never, counted}
 use Rattle.sweep_sums.specs.declared.Sum.{Sum}

@@ -1,4 +1,4 @@
--- `store` leaves the sum's number at its place, and its answer compares it with the one that stood there. Assumes nothing.
+-- `store` leaves the sum's number at its place, and its answer compares it with the one that stood there.
 use Rattle.common_laws.proofs.Base.{_≡_, refl, sym, _∙_, ap, arith, getD, set, length-set, set-getD, eq-eqb, ne-eqb, needs}
 use Rattle.plans.specs.Sweep.{at}
 use Rattle.plans.proofs.Laws.{at-getD}

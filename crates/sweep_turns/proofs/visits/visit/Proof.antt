@@ -1,4 +1,4 @@
--- `visit` stores the lesser of the number and the least row sum. Assumes nothing.
+-- `visit` stores the lesser of the number and the least row sum.
 use Rattle.common_laws.proofs.Base.{refl, sym, _∙_, _<_, arith, length, needs}
 use Rattle.sweep_groups.specs.Tables.{readRow, groupVisit}
 use Rattle.sweep_groups.proofs.Gathered.{group-same, read-narrow}

@@ -1,5 +1,4 @@
 -- `fields::decimal` meets its contract.
--- Assumes nothing.
 use borrow.Author.Needs.{needs}
 use Rattle.text.specs.Numeral.{decimal}
 use Rattle.text.proofs.fields.decimal.Statement.{statement}

@@ -1,5 +1,4 @@
 -- `fields::digit_below` meets its contract: a byte of class `Digit`, below the end of the base's digits.
--- Assumes nothing.
 use Rattle.common_laws.proofs.Base.{Bool, true, false, _&&_, [], _∷_, inl, inr, _≡_, refl, sym, ap, ℕ, _+_, _≤_, arith, ltb, needs, lt-leb}
 use denote.Enum.Declared.{tagOf}
 use types.Run.{OneOf}

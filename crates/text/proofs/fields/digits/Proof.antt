@@ -1,6 +1,5 @@
 -- `fields::digits` meets its contract. The loop's invariant: the bytes passed are digits, so that the rest decides; going on
 -- from the sum gives the value; and the sum is below the base's power for the digits passed.
--- Assumes nothing.
 use Rattle.common_laws.proofs.Base.{true, _≡_, refl, sym, _∙_, ℕ, _+_, _*_, _-_, _^_, _≤_, _<_, pow-zero, add-one, arith, length, getD, drop, needs, not-true, not-false}
 use Rattle.reading.specs.Choice.{pick}
 use Rattle.text.specs.Numeral.{digitBelow, allDigits, value, numeralRead}

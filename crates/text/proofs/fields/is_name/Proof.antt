@@ -1,5 +1,5 @@
 -- `fields::is_name` meets its contract. The loop's invariant: the length is good and so are the bytes passed, so that the rest
--- decides. Assumes nothing.
+-- decides.
 use Rattle.common_laws.proofs.Base.{_≡_, sym, _∙_, _-_, _≤_, _<_, arith, length, drop, needs, not-true, not-false}
 use Rattle.sizes.specs.Sizes as Size
 use Rattle.text.specs.Numeral.{allName, nameForm}

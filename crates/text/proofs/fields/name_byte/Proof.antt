@@ -1,5 +1,4 @@
 -- `fields::name_byte` meets its contract: the class of the byte decides.
--- Assumes nothing.
 use Rattle.common_laws.proofs.Base.{false, [], _∷_, inl, inr, _≡_, refl, sym, ap, _∙_, ℕ, _≤_, arith, needs, lt-leb}
 use denote.Enum.Declared.{tagOf}
 use types.Run.{OneOf}

@@ -1,5 +1,4 @@
 -- `fields::octal` meets its contract: the power of 8 for at most ten digits fits.
--- Assumes nothing.
 use Rattle.common_laws.proofs.Base.{_≡_, ap, _∙_, ℕ, _≤_, min, pow-le-pow-right, arith, needs}
 use Rattle.text.specs.Numeral.{numeral}
 use Rattle.text.proofs.fields.octal.Statement.{statement}

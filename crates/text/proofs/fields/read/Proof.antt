@@ -1,6 +1,5 @@
 -- `fields::read` meets its contract: each return is a case of `wellFormed`, and a well-formed field has so few digits that its
 -- value fits.
--- Assumes nothing.
 use Rattle.common_laws.proofs.Base.{true, ⊎-elim, _≡_, sym, _∙_, _≤_, _<_, pow-le-pow-right, arith, length, getD, needs, ne-eqb}
 use Rattle.text.specs.Numeral.{noLeadingZero, numeral, numeralRead}
 use Rattle.text.proofs.FieldLaws.{numeral-bad}

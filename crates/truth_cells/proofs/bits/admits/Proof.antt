@@ -1,4 +1,4 @@
--- `admits` meets its contract. Assumes nothing.
+-- `admits` meets its contract.
 use Rattle.common_laws.proofs.Base.{refl, eq-eqb, ne-eqb}
 use Rattle.reading.specs.Choice.{pick}
 use Rattle.truth_cells.specs.Words.{admits}

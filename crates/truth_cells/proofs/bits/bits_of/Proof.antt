@@ -1,4 +1,4 @@
--- `bits_of` has one value more of the truth table with each turn. Assumes nothing.
+-- `bits_of` has one value more of the truth table with each turn.
 use Rattle.common_laws.proofs.Base.{List, map, _≡_, refl, _∙_, ℕ, _-_, _^_, _≤_, _<_, pow-le-pow-right, arith, length, take, length-set, needs}
 use Rattle.truth_rows.specs.Masks.{upFrom}
 use Rattle.truth_cells.specs.Words.{metAt, truthBits, bitByte, truthBytes}

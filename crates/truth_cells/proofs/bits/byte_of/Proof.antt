@@ -1,4 +1,4 @@
--- `byte_of` meets its contract. Assumes nothing.
+-- `byte_of` meets its contract.
 use mathlib.Core.Path.{refl}
 use Rattle.truth_tables.specs.Tables.{digit}
 use Rattle.truth_cells.specs.Words.{bitByte}

@@ -1,4 +1,4 @@
--- `is_met` goes over the pins from the first on, to one that has not the value named. Assumes nothing.
+-- `is_met` goes over the pins from the first on, to one that has not the value named.
 use Rattle.common_laws.proofs.Base.{_≡_, refl, sym, _∙_, ℕ, _-_, _^_, _≤_, _<_, one-le-pow, arith, pow-pos, needs, not-true, not-false}
 use Rattle.truth_cells.specs.Words.{metBy}
 use Rattle.truth_cells.proofs.Steps.{met-more}

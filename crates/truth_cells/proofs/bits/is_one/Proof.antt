@@ -1,4 +1,4 @@
--- `is_one` goes over the rows of the group, to one that the setting meets. Assumes nothing.
+-- `is_one` goes over the rows of the group, to one that the setting meets.
 use Rattle.common_laws.proofs.Base.{_≡_, refl, sym, _∙_, _-_, _≤_, arith, needs}
 use Rattle.sizes.specs.Sizes as Size
 use Rattle.truth_cells.specs.Words.{rowsAt, metFrom, metAt}

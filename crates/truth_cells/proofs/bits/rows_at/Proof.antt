@@ -1,4 +1,4 @@
--- `rows_at` meets its contract. Assumes nothing.
+-- `rows_at` meets its contract.
 use borrow.Author.Needs.{needs}
 use Rattle.truth_cells.specs.Words.{rowsAt}
 use Rattle.truth_cells.proofs.bits.rows_at.Statement.{statement}

@@ -1,4 +1,4 @@
--- `has_groups` meets its contract. Assumes nothing.
+-- `has_groups` meets its contract.
 use Rattle.common_laws.proofs.Base.{refl, needs}
 use Rattle.truth_cells.specs.Words.{groupsOf}
 use Rattle.truth_cells.proofs.groups.has_groups.Statement.{statement}

@@ -1,4 +1,4 @@
--- `has_pins` goes over the pins, to one whose group is another. Assumes nothing.
+-- `has_pins` goes over the pins, to one whose group is another.
 use Rattle.common_laws.proofs.Base.{map, _≡_, refl, sym, _∙_, _+_, _-_, _≤_, add-zero, arith, not-true, not-false}
 use Rattle.truth_tables.specs.Entries.{groupsFrom, observingGroups}
 use Rattle.truth_rows.specs.Masks.{isOne}

@@ -1,4 +1,4 @@
--- `has_rows` goes over the rows from the highest down, and over those of the group from the first on. Assumes nothing.
+-- `has_rows` goes over the rows from the highest down, and over those of the group from the first on.
 use Rattle.common_laws.proofs.Base.{map, _≡_, refl, sym, _∙_, _+_, _≤_, _<_, pow-le-pow-right, arith, needs, not-true, not-false}
 use Rattle.truth_tables.specs.Tables.{keep}
 use Rattle.truth_rows.specs.Asked.{askedNumber}

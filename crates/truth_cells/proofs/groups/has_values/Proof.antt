@@ -1,4 +1,4 @@
--- `has_values` meets its contract. Assumes nothing.
+-- `has_values` meets its contract.
 use Rattle.common_laws.proofs.Base.{true, _≡_, refl, sym, needs}
 use Rattle.truth_tables.specs.Entries.{settingGroups}
 use Rattle.truth_rows.specs.Masks.{isBit, isOne}

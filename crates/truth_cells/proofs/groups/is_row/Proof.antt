@@ -1,4 +1,4 @@
--- `is_row` meets its contract. Assumes nothing.
+-- `is_row` meets its contract.
 use Rattle.common_laws.proofs.Base.{refl, needs}
 use Rattle.truth_cells.specs.Words.{rowIs}
 use Rattle.truth_cells.proofs.groups.is_row.Statement.{statement}

@@ -1,4 +1,4 @@
--- `put_cell` prints the six lines. Assumes nothing.
+-- `put_cell` prints the six lines.
 use borrow.Author.Needs.{needs}
 use Rattle.text.specs.Bytes.{bytes}
 use Rattle.writer.proofs.Steps.{put-then}

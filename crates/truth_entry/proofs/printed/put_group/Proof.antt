@@ -1,4 +1,4 @@
--- `put_group` meets its contract. Assumes nothing.
+-- `put_group` meets its contract.
 use borrow.Author.Needs.{needs}
 use Rattle.writer.proofs.Steps.{put-then}
 use Rattle.truth_entry.proofs.printed.put_group.Statement.{statement}

@@ -1,4 +1,4 @@
--- `put_name` meets its contract. Assumes nothing.
+-- `put_name` meets its contract.
 use borrow.Author.Needs.{needs}
 use Rattle.text.specs.Bytes.{bytes}
 use Rattle.writer.proofs.Steps.{put-then}

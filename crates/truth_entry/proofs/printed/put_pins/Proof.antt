@@ -1,4 +1,4 @@
--- `put_pins` prints pin by pin. Assumes nothing.
+-- `put_pins` prints pin by pin.
 use Rattle.common_laws.proofs.Base.{map, _≡_, refl, _∙_, _-_, _≤_, arith, length, needs}
 use Rattle.writer.proofs.Steps.{put-then}
 use Rattle.truth_tables.specs.Entries.{lineBytes}

@@ -1,4 +1,4 @@
--- `put_values` meets its contract. Assumes nothing.
+-- `put_values` meets its contract.
 use Rattle.common_laws.proofs.Base.{refl, needs}
 use Rattle.writer.proofs.Steps.{put-then}
 use Rattle.truth_tables.specs.Entries.{settingGroups}

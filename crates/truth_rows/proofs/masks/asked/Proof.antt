@@ -1,4 +1,4 @@
--- `asked` meets its contract. Assumes nothing.
+-- `asked` meets its contract.
 use Rattle.common_laws.proofs.Base.{not, refl, ap, mod-le, arith, needs, eq-eqb, ne-eqb}
 use Rattle.reading.specs.Choice.{pick}
 use Rattle.truth_rows.specs.Masks.{askAt}

@@ -1,4 +1,4 @@
--- `byte_at` meets its contract. Assumes nothing.
+-- `byte_at` meets its contract.
 use Rattle.common_laws.proofs.Base.{sym, arith, List·getD-eq-default, needs}
 use Rattle.truth_rows.proofs.masks.byte_at.Statement.{statement}
 use Rattle.truth_rows.proofs.masks.byte_at.Tie as tie

@@ -1,4 +1,4 @@
--- `columns` goes over the pins from the last on. Assumes nothing.
+-- `columns` goes over the pins from the last on.
 use Rattle.common_laws.proofs.Base.{_≡_, refl, sym, ap, _∙_, ℕ, _-_, _*_, _/_, _%_, _^_, _≤_, _<_, mul-le-mul, pow-suc, pow-le-pow-right, add-one, arith, needs}
 use Rattle.truth_tables.specs.Entries.{termColumns}
 use Rattle.truth_rows.specs.Masks.{termOf}

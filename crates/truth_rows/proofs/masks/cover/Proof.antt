@@ -1,4 +1,4 @@
--- `cover` goes over the pins from the last on. Assumes nothing.
+-- `cover` goes over the pins from the last on.
 use Rattle.common_laws.proofs.Base.{_≡_, refl, sym, ap, _∙_, ℕ, _-_, _*_, _/_, _%_, _^_, _≤_, _<_, mul-le-mul, add-one, arith, eqb, needs}
 use Rattle.reading.specs.Choice.{pick}
 use Rattle.truth_tables.specs.Tables.{digit, settings, meets}

@@ -1,4 +1,4 @@
--- `digit` meets its contract. Assumes nothing.
+-- `digit` meets its contract.
 use Rattle.common_laws.proofs.Base.{refl, eq-eqb, ne-eqb}
 use Rattle.reading.specs.Choice.{pick}
 use Rattle.truth_rows.proofs.masks.digit.Statement.{statement}

@@ -1,4 +1,4 @@
--- `implied` meets its contract. Assumes nothing.
+-- `implied` meets its contract.
 use borrow.Author.Needs.{needs}
 use Rattle.truth_rows.specs.Masks.{implied}
 use Rattle.truth_rows.proofs.masks.implied.Statement.{statement}

@@ -1,4 +1,4 @@
--- `is_prime` goes over the pins from the last on, to one that can be dropped. Assumes nothing.
+-- `is_prime` goes over the pins from the last on, to one that can be dropped.
 use Rattle.common_laws.proofs.Base.{true, and-false, _≡_, refl, sym, _-_, _/_, _^_, _≤_, add-one, arith, needs, not-true, not-false}
 use Rattle.truth_rows.specs.Masks.{coverMask, termBut, implied, fixed, primeRow}
 use Rattle.truth_rows.proofs.Pins.{third, fixed-not}

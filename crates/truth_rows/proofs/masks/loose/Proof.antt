@@ -1,4 +1,4 @@
--- `loose` meets its contract. Assumes nothing.
+-- `loose` meets its contract.
 use Rattle.common_laws.proofs.Base.{refl, _∙_, needs, eq-eqb, ne-eqb}
 use Rattle.truth_rows.specs.Masks.{implied, loose}
 use Rattle.truth_rows.proofs.masks.loose.Statement.{statement}

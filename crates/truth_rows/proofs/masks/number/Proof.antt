@@ -1,4 +1,4 @@
--- `number` meets its contract. Assumes nothing.
+-- `number` meets its contract.
 use Rattle.common_laws.proofs.Base.{refl, ap, _+_, _*_, _/_, _%_, _^_, _≤_, _<_, pow-le-pow-right, mod-le, arith, needs}
 use Rattle.truth_rows.specs.Masks.{spread, numberOf}
 use Rattle.truth_rows.proofs.Pins.{scaled-most, columns-below}

@@ -1,4 +1,4 @@
--- `power` meets its contract. Assumes nothing.
+-- `power` meets its contract.
 use Rattle.common_laws.proofs.Base.{_≡_, refl, sym, ℕ, _-_, _*_, _^_, _≤_, _<_, pow-zero, pow-suc, pow-le-pow-right, mul-le-mul, add-one, arith}
 use native.Mathlib.Nat.{pow-le-pow-left}
 use Rattle.truth_rows.proofs.masks.power.Statement.{statement}

@@ -1,4 +1,4 @@
--- `wanted` goes over the settings from the last on. Assumes nothing.
+-- `wanted` goes over the settings from the last on.
 use Rattle.common_laws.proofs.Base.{true, false, map, _≡_, refl, sym, ℕ, _-_, _≤_, sub-self, arith, needs}
 use Rattle.truth_tables.specs.Tables.{digit}
 use Rattle.truth_rows.specs.Masks.{maskOf, askAt, upFrom}

@@ -1,4 +1,4 @@
--- `widened` puts a pin's digit before a mask. Assumes nothing.
+-- `widened` puts a pin's digit before a mask.
 use Rattle.common_laws.proofs.Base.{_≡_, refl, sym, ℕ, suc, _+_, _*_, _-_, _≤_, _<_, mul-le-mul, arith}
 use Rattle.truth_rows.specs.Masks.{widened}
 use Rattle.truth_rows.proofs.masks.widened.Statement.{statement}

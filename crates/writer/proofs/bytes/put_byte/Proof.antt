@@ -1,4 +1,4 @@
--- `put_byte` stores a byte, or none past the end. Assumes nothing.
+-- `put_byte` stores a byte, or none past the end.
 use Rattle.common_laws.proofs.Base.{sym, arith, set-out, needs}
 use Rattle.writer.proofs.bytes.put_byte.Statement.{statement}
 use Rattle.writer.proofs.bytes.put_byte.Tie as tie

@@ -1,4 +1,4 @@
--- `put_bytes` stores bytes one by one: those passed stand in the buffer. Assumes nothing.
+-- `put_bytes` stores bytes one by one: those passed stand in the buffer.
 use Rattle.common_laws.proofs.Base.{_≡_, _∙_, refl, _≤_, _<_, _-_, add-one, arith, needs, length, take, take-suc, take-length}
 use Rattle.writer.specs.Put.{Put}
 use Rattle.writer.proofs.Steps.{put-none, put-then}

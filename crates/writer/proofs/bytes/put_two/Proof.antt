@@ -1,4 +1,4 @@
--- `put_two` stores a number's tens and its ones. Assumes nothing.
+-- `put_two` stores a number's tens and its ones.
 use Rattle.common_laws.proofs.Base.{refl, arith, add-one, length-set, needs}
 use Rattle.writer.proofs.bytes.put_two.Statement.{statement}
 use Rattle.writer.proofs.bytes.put_two.Tie as tie

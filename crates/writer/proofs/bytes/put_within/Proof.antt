@@ -1,4 +1,4 @@
--- `put_within` stores two digits a turn, from the last on; the measure is what is left of the number. Assumes nothing.
+-- `put_within` stores two digits a turn, from the last on; the measure is what is left of the number.
 use Rattle.common_laws.proofs.Base.{_≡_, refl, ap, _∙_, _≤_, mod-eq-of-lt, arith, length, needs}
 use Rattle.writer.proofs.Decimal.{decimal-one, decimal-single, decimal-two}
 use Rattle.writer.proofs.Passed.{Passed, two-more, passed-none, passed-more, passed-all}

@@ -1,4 +1,4 @@
--- `width` finds the power of ten that a number is below. Assumes nothing.
+-- `width` finds the power of ten that a number is below.
 use native.Mathlib.Omega.{arith}
 use Rattle.writer.proofs.Decimal.{decimal-width, decimal-single}
 use Rattle.writer.proofs.bytes.width.Statement.{statement}

@@ -1,4 +1,4 @@
--- `put_row` meets its contract. Assumes nothing.
+-- `put_row` meets its contract.
 use Rattle.common_laws.proofs.Base.{_≡_, ℕ, _+_, _*_, arith, needs}
 use Rattle.library_text.specs.Groups.{rowPut}
 use Rattle.library_text.proofs.groups.store.put_row.Statement.{statement}

@@ -1,4 +1,4 @@
--- `put_rowless` meets its contract. Assumes nothing.
+-- `put_rowless` meets its contract.
 use Rattle.library_text.specs.Groups.{rowlessPut}
 use borrow.Author.Needs.{needs}
 use Rattle.library_text.proofs.groups.store.put_rowless.Statement.{statement}

@@ -1,5 +1,4 @@
 -- `put_bytes` meets its contract. The loop's invariant: with the bytes still to come put in, the table is what is promised.
--- Assumes nothing.
 use Rattle.common_laws.proofs.Base.{_≡_, refl, sym, _∙_, _+_, _-_, _≤_, _<_, length, drop, length-set, sets, arith, needs}
 use Rattle.library_text.proofs.LineStores.{sets-start, sets-turn, sets-ended}
 use Rattle.library_text.proofs.lines.store.put_bytes.Statement.{statement}

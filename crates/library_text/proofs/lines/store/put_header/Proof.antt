@@ -1,4 +1,4 @@
--- `put_header` meets its contract. Assumes nothing.
+-- `put_header` meets its contract.
 use Rattle.common_laws.proofs.Base.{List, ap, _∙_, ℕ, _+_, length, set, sets, arith, needs}
 use Rattle.sizes.specs.Sizes as Size
 use Rattle.library_text.specs.Headers.{headerPut}

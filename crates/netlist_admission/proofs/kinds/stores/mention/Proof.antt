@@ -1,4 +1,4 @@
--- `mention` stores a line's mark. Assumes nothing.
+-- `mention` stores a line's mark.
 use borrow.Author.Needs.{needs}
 use Rattle.netlist_admission.proofs.kinds.stores.mention.Statement.{statement}
 use Rattle.netlist_admission.proofs.kinds.stores.mention.Tie as tie

@@ -1,4 +1,4 @@
--- `mention_pins` marks the lines of the pins: those passed are. Assumes nothing.
+-- `mention_pins` marks the lines of the pins: those passed are.
 use Rattle.common_laws.proofs.Base.{_≡_, refl, ap, _∙_, _≤_, _-_, min, arith, length, take, length-set, needs}
 use Rattle.sizes.specs.Sizes as Size
 use Rattle.netlist_table.specs.Admission.{mentionAll}

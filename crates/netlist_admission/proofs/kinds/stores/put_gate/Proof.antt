@@ -1,4 +1,4 @@
--- `put_gate` stores a gate's numbers. Assumes nothing.
+-- `put_gate` stores a gate's numbers.
 use Rattle.common_laws.proofs.Base.{List, _≡_, ℕ, suc, _+_, arith, set, take, sets, needs}
 use Rattle.sizes.specs.Places.{gatePlace}
 use Rattle.sizes.specs.Sizes as Size

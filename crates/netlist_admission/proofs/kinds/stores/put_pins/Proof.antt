@@ -1,4 +1,4 @@
--- `put_pins` stores the lines of a gate's pins: those passed. Assumes nothing.
+-- `put_pins` stores the lines of a gate's pins: those passed.
 use Rattle.common_laws.proofs.Base.{_≡_, refl, ap, _∙_, _+_, _-_, _^_, _≤_, _<_, arith, length, take, length-set, sets, needs}
 use Rattle.sizes.specs.Places.{gatePlace}
 use Rattle.sizes.specs.Sizes as Size

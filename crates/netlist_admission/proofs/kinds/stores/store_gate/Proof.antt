@@ -1,4 +1,4 @@
--- `store_gate` stores a gate behind those before it. Assumes nothing.
+-- `store_gate` stores a gate behind those before it.
 use Rattle.common_laws.proofs.Base.{List, _≡_, ℕ, min, set, take, needs}
 use Rattle.sizes.specs.Places.{driverPlace, mentionPlace}
 use Rattle.sizes.specs.Sizes as Size

@@ -1,4 +1,4 @@
--- `store_range` stores a range's number, and marks its line and the table. Assumes nothing.
+-- `store_range` stores a range's number, and marks its line and the table.
 use Rattle.common_laws.proofs.Base.{List, _≡_, ℕ, _+_, _*_, set, needs}
 use Rattle.sizes.specs.Places.{mentionPlace, rangePlace, rangedPlace}
 use Rattle.sizes.specs.Sizes as Size

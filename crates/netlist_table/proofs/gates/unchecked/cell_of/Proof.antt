@@ -1,4 +1,4 @@
--- `cell_of` reads the first number of the gate. Assumes nothing.
+-- `cell_of` reads the first number of the gate.
 use Rattle.common_laws.proofs.Base.{ap, ℕ, getD, needs}
 use Rattle.netlist_table.proofs.gates.unchecked.cell_of.Statement.{statement}
 use Rattle.netlist_table.proofs.gates.unchecked.cell_of.Tie as tie

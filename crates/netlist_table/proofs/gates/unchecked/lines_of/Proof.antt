@@ -1,4 +1,4 @@
--- `lines_of` copies one line more of the gate with each turn. Assumes nothing.
+-- `lines_of` copies one line more of the gate with each turn.
 use Rattle.common_laws.proofs.Base.{List, _++_, append-nil, _≡_, refl, sym, _∙_, ap, ℕ, _+_, _-_, _≤_, _<_, arith, length, getD, set, take, drop, replicate, length-drop, getD-drop}
 use Rattle.sizes.specs.Sizes as Size
 use Rattle.sizes.specs.Places.{gatePlace}

@@ -1,4 +1,4 @@
--- `pass_row` meets its contract. Assumes nothing.
+-- `pass_row` meets its contract.
 use Rattle.common_laws.proofs.Base.{not, _≡_, refl, sym, _∙_, needs, not-true, not-false}
 use Rattle.reading.specs.Choice.{pick}
 use Rattle.writer.proofs.Steps.{put-none}

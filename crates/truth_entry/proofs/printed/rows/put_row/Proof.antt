@@ -1,4 +1,4 @@
--- `put_row` meets its contract. Assumes nothing.
+-- `put_row` meets its contract.
 use borrow.Author.Needs.{needs}
 use Rattle.reading.specs.Choice.{pick}
 use Rattle.text.specs.Bytes.{bytes}

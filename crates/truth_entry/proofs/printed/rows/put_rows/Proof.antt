@@ -1,4 +1,4 @@
--- `put_rows` goes over the rows from the highest down. Assumes nothing.
+-- `put_rows` goes over the rows from the highest down.
 use Rattle.common_laws.proofs.Base.{_≡_, refl, _∙_, arith, length, needs}
 use Rattle.text.specs.Bytes.{bytes}
 use Rattle.truth_entry.proofs.GroupRows.{Progress, progress-none, progress-more, progress-all, progress-empty}
