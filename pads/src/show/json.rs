@@ -98,7 +98,7 @@ fn put_all<T>(out: &mut String, depth: usize, brackets: [char; 2], parts: &[T], 
     let open = depth <= OPEN_DEPTH && !parts.is_empty();
     let line_end = |out: &mut String, depth: usize| {
         out.push('\n');
-        out.extend(std::iter::repeat(' ').take(2 * depth));
+        out.push_str(&" ".repeat(2 * depth));
     };
     out.push(brackets[0]);
     for (at, part) in parts.iter().enumerate() {

@@ -197,7 +197,7 @@ fn solved(source: &Source) -> BTreeMap<String, [u64; 3]> {
     use scoap_pads::read::hub::Source as Read;
     use scoap_pads::rows::{by_definition, cells::Kind};
     let mut messages = Messages::new();
-    let design = load::read(source, &mut messages).ok().expect("a netlist");
+    let design = load::read(source, &mut messages).expect("a netlist");
     let never = NEVER;
     let mut numbers = vec![[never; 3]; design.nets.len()];
     design.inputs.iter().for_each(|&net| numbers[net] = [1, 1, never]);
