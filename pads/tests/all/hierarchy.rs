@@ -69,13 +69,17 @@ G16,G9;\ndff DFF_0(CK,G5,G10);\ndff DFF_1(CK,G6,G11);\ndff DFF_2(CK,G7,G13);\nno
 and AND2_0(G8,G14,G6);\nor OR2_0(G15,G12,G8);\nor OR2_1(G16,G3,G8);\nnand NAND2_0(G9,G16,G15);\nnor NOR2_0(G10,G14,G11);\n\
 nor NOR2_1(G11,G5,G9);\nnor NOR2_2(G12,G1,G7);\nnor NOR2_3(G13,G2,G12);\nendmodule\n";
 
-/// ISCAS' s27: its flip-flop as a plain register, and as a cell of a library whose module has the order of its pins.
+/// ISCAS' s27 through every format; in Verilog its flip-flop as a plain register, and as a cell of a library whose module has the order of its pins.
 #[test]
 fn s27_with_its_flip_flops() {
     let room = Room::new("s27");
     let mut bench = "INPUT(CK)\nOUTPUT(G17)\n".to_string();
+    let mut blif = ".model s27\n.inputs CK G0 G1 G2 G3\n.outputs G17\n".to_string();
+    let mut known: Vec<&str> = vec!["CK", "G17"];
+    let mut cells = Vec::new();
     for input in ["G0", "G1", "G2", "G3"] {
         bench += &format!("INPUT({input})\n");
+        known.push(input);
     }
     for line in S27.lines().skip(4).filter(|line| line.contains("_")) {
         let (word, rest) = line.split_once(' ').unwrap();
@@ -84,9 +88,48 @@ fn s27_with_its_flip_flops() {
             "dff" => format!("{} = DFF({})\n", nets[1], nets[2]),
             _ => format!("{} = {word}({})\n", nets[0], nets[1..].join(", ")),
         };
+        let rows = match word {
+            "not" => "0 1",
+            "and" => "11 1",
+            "or" => "1- 1\n-1 1",
+            "nand" => "0- 1\n-0 1",
+            _ => "00 1",
+        };
+        blif += &match word {
+            "dff" => format!(".latch {} {} re CK 3\n", nets[2], nets[1]),
+            _ => format!(".names {} {}\n{rows}\n", nets[1..].join(" "), nets[0]),
+        };
+        let pins: &[&str] = if word == "dff" { &["C", "Q", "D"] } else { &["Y", "A", "B"] };
+        let mut joined = Vec::new();
+        for (pin, &net) in pins.iter().zip(&nets) {
+            if !known.contains(&net) {
+                known.push(net);
+            }
+            joined.push(format!("\"{pin}\": [{}]", 2 + known.iter().position(|&other| other == net).unwrap()));
+        }
+        let title = if word == "dff" { "$_DFF_P_".to_string() } else { format!("$_{}_", word.to_uppercase()) };
+        cells.push(format!(
+            "\"c{}\": {{\"type\": \"{title}\", \"connections\": {{{}}}}}",
+            cells.len(),
+            joined.join(", ")
+        ));
     }
+    let bits = |net: &str| 2 + known.iter().position(|&other| other == net).unwrap();
+    let ports = known[..6].iter().map(|net| {
+        let way = if *net == "G17" { "output" } else { "input" };
+        format!("\"{net}\": {{\"direction\": \"{way}\", \"bits\": [{}]}}", bits(net))
+    });
+    let names = known.iter().map(|net| format!("\"{net}\": {{\"bits\": [{}]}}", bits(net)));
+    let json = format!(
+        "{{\"modules\": {{\"s27\": {{\"ports\": {{{}}}, \"cells\": {{{}}}, \"netnames\": {{{}}}}}}}}}",
+        ports.collect::<Vec<_>>().join(", "),
+        cells.join(", "),
+        names.collect::<Vec<_>>().join(", ")
+    );
     let wanted = numbers(&Source { clock: Some("CK".to_string()), ..room.file("s.bench", &bench) });
     assert_eq!(wanted.len(), 18);
+    assert_eq!(numbers(&room.file("s.blif", &format!("{blif}.end\n"))), wanted);
+    assert_eq!(numbers(&room.file("s.json", &json)), wanted);
     let behaviour = "module dff(CK,Q,D);\ninput CK,D; output Q; reg Q;\nalways @(posedge CK) Q <= D;\nendmodule\n";
     assert_eq!(numbers(&room.file("a.v", &format!("{S27}{behaviour}"))), wanted);
     let transistors = "module dff(CK,Q,D);\ninput CK,D; output Q;\ntrireg M;\nnmos N7 (M,D,CK);\nendmodule\n";
