@@ -111,6 +111,8 @@ pub struct Model {
     pub block: bool,
     /// Types of cells that stay closed: what they take counts as seen.
     pub closed: Vec<String>,
+    /// Lines that are outputs only since a box takes them.
+    pub taken: Vec<usize>,
 }
 
 impl Model {
@@ -136,6 +138,7 @@ impl Model {
             inputs_too: false,
             block: false,
             closed: Vec::new(),
+            taken: Vec::new(),
         };
         model.read_netlist();
         let mut given: Vec<Option<Name>> = vec![None; MOST_LINES + 1];
@@ -310,9 +313,20 @@ impl Model {
         net.into_bytes()
     }
 
-    /// The numbers at the upper ends of all ranges, with the pads placed so far.
-    pub fn high(&self) -> Result<Numbers, Refusal> {
-        archive::report_high(&self.lib, &self.marked(self.placed.iter().copied()))
+    /// What protected lines are held against: the numbers with the pads placed so far, at the upper ends of all ranges, and
+    /// where what boxes take is not seen.
+    pub fn guarded(&self) -> Result<Numbers, Refusal> {
+        let marked = self.marked(self.placed.iter().copied());
+        let taken: Vec<String> = self.taken.iter().map(|line| format!("output,{line}")).collect();
+        let mut net = String::with_capacity(marked.len());
+        for statement in
+            String::from_utf8_lossy(&marked).lines().filter(|statement| !taken.iter().any(|own| own == statement))
+        {
+            net += statement;
+            net.push('\n');
+        }
+        let report = if self.ranges { archive::report_high } else { archive::report };
+        report(&self.lib, net.as_bytes())
     }
 
     /// The numbers with pads on these lines as the only outputs.

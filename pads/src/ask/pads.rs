@@ -145,25 +145,26 @@ fn refused(refusal: Refusal) -> String {
 
 /// The protected lines that pads on these lines touch together: their SO falls, or their CO. With ranges a CO counts as
 /// touched where at HIGH, without the pads, it is above that at LOW with the pads as the only outputs: comparing at one
-/// end, or at both, is not enough, since two ways may be priced apart.
+/// end, or at both, is not enough, since two ways may be priced apart. With boxes what they take counts as not seen, so that
+/// a line that only a box takes is touched by every pad that shows it.
 pub struct Touching<'p> {
     privacy: &'p Privacy,
-    /// The numbers at HIGH without the pads, where the netlist has ranges.
-    high: Option<Numbers>,
+    /// The numbers without the pads at HIGH, and with boxes not seen, where the netlist has either.
+    guard: Option<Numbers>,
 }
 
 impl<'p> Touching<'p> {
     pub fn new(model: &Model, privacy: &'p Privacy) -> Result<Self, String> {
-        let wanted = model.ranges && !privacy.protected.is_empty();
-        Ok(Touching { privacy, high: wanted.then(|| model.high()).transpose().map_err(refused)? })
+        let wanted = (model.ranges || !model.taken.is_empty()) && !privacy.protected.is_empty();
+        Ok(Touching { privacy, guard: wanted.then(|| model.guarded()).transpose().map_err(refused)? })
     }
 
     pub fn by(&self, model: &Model, pads: &[usize], after: &Numbers) -> Result<Vec<usize>, String> {
-        let alone = self.high.as_ref().map(|_| model.alone(pads)).transpose().map_err(refused)?;
-        let ends = self.high.as_ref().zip(alone.as_ref());
+        let alone = self.guard.as_ref().map(|_| model.alone(pads)).transpose().map_err(refused)?;
+        let ends = self.guard.as_ref().zip(alone.as_ref());
         let is_touched = |line: &usize| {
             let (was, is) = (model.numbers.of(*line), after.of(*line));
-            is_easier(was, is) || ends.is_some_and(|(high, alone)| alone.of(*line)[4] < high.of(*line)[4])
+            is_easier(was, is) || ends.is_some_and(|(guard, alone)| is_easier(guard.of(*line), alone.of(*line)))
         };
         Ok(self.privacy.protected.iter().copied().filter(is_touched).collect())
     }

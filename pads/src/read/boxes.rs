@@ -41,6 +41,7 @@ pub fn open(design: &mut Design, lines: &Lines, messages: &mut Messages) {
         }
     }
     let mut told: BTreeMap<&str, [usize; 3]> = BTreeMap::new();
+    let own = design.outputs.len();
     for (at, of) in boxes.iter().enumerate() {
         let counts = told.entry(&of.title).or_default();
         counts[0] += 1;
@@ -72,6 +73,7 @@ pub fn open(design: &mut Design, lines: &Lines, messages: &mut Messages) {
             design.outputs.push((format!("{who}.{pin}"), Source::Net(net)));
         }
     }
+    design.taken = own..design.outputs.len();
     for (title, [cells, gives, takes]) in told {
         design.closed.push(title.to_string());
         messages.note(format!(

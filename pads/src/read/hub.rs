@@ -5,6 +5,7 @@ use crate::read::boxes::{self, Boxed};
 use crate::rows::cells::{Cell, Kind};
 use crate::show::cost::grouped;
 use crate::show::messages::Messages;
+use std::ops::Range;
 use std::rc::Rc;
 
 /// What a pin or an output reads.
@@ -105,6 +106,8 @@ pub struct Design {
     pub box_pins: usize,
     /// Their types, once they have been put among inputs and outputs.
     pub closed: Vec<String>,
+    /// Which of the outputs are what boxes take.
+    pub taken: Range<usize>,
 }
 
 /// Gates and nets that a reader takes at all; far above what the analyser does.

@@ -59,6 +59,7 @@ pub fn load(source: &Source, messages: &mut Messages) -> Result<Loaded, Stop> {
         Ok(mut model) => {
             model.block = design.block;
             model.closed = design.closed.iter().map(|title| shown_name(title)).collect();
+            model.taken = texts.taken.clone();
             tell(&model, messages);
             Ok(Loaded { model, texts: Some(texts) })
         }

@@ -28,6 +28,8 @@ pub struct Texts {
     pub names: Vec<Name>,
     pub cells: Vec<Used>,
     pub fewer: Fewer,
+    /// Lines that are outputs only since a box takes them.
+    pub taken: Vec<usize>,
 }
 
 /// Functions that are written by others because entries ran out.
@@ -571,10 +573,13 @@ impl Writer<'_> {
         }
         let mut marked = BTreeSet::new();
         let mut outputs = String::new();
-        for (name, source) in &self.design.outputs {
+        let mut taken = BTreeSet::new();
+        let mut own = BTreeSet::new();
+        for (at, (name, source)) in self.design.outputs.iter().enumerate() {
             let line = numbers.read(self.design, *source, &ties, &mut opens);
             let row = &mut numbers.names[line - 1];
             row.output = true;
+            if self.design.taken.contains(&at) { &mut taken } else { &mut own }.insert(line);
             if row.net != *name && !row.aliases.contains(name) {
                 row.aliases.push(name.clone());
             }
@@ -613,7 +618,8 @@ impl Writer<'_> {
                 gates: self.entries.gates[at],
             })
             .collect();
-        Ok(Texts { lib, net, names: numbers.names, cells, fewer: self.fewer })
+        let taken = taken.difference(&own).copied().collect();
+        Ok(Texts { lib, net, names: numbers.names, cells, fewer: self.fewer, taken })
     }
 
     /// The tie gates that pins and outputs need: their entries and lines, by value.

@@ -451,8 +451,8 @@ fn privacy_of(args: &Args, model: &Model, messages: &mut Messages) -> Result<Pri
     }
     if !protected.is_empty() && !model.closed.is_empty() {
         messages.warn(
-            "what a box takes counts as seen already, so that --protect does not find the pads that show it: forbid by hand \
-             (--forbid) the nets around a box that takes a protected value",
+            "--protect counts what a box takes as not seen; what a box gives may carry a protected value, and nothing here \
+             knows it: protect or forbid those nets too",
         );
     }
     Ok(Privacy::new(model, forbidden, protected, depth))

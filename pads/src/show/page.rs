@@ -103,7 +103,7 @@ pub fn page(path: &str, model: &Model, placed: &[usize], privacy: &Privacy, said
         text(&String::from_utf8_lossy(&model.net))
     );
     let data = format!(
-        "{{\"title\":{},\"summary\":{},\"nevers\":{},\"warnings\":{},\"pads\":{},\"forbidden\":{},\"protected\":{},\"depth\":{},\"lines\":{}}}",
+        "{{\"title\":{},\"summary\":{},\"nevers\":{},\"warnings\":{},\"pads\":{},\"forbidden\":{},\"protected\":{},\"depth\":{},\"taken\":{},\"lines\":{}}}",
         text(&model.title),
         text(&load::summary(path, &model)),
         list(never::text(&model).lines().map(text)),
@@ -112,6 +112,7 @@ pub fn page(path: &str, model: &Model, placed: &[usize], privacy: &Privacy, said
         numbers(&privacy.forbidden),
         numbers(&privacy.protected),
         privacy.depth(),
+        numbers(&model.taken),
         list(lines)
     );
     let mut page = TEMPLATE.to_string();

@@ -3,7 +3,10 @@
 use crate::common::load;
 use crate::formats::{by_name, Room};
 use scoap_pads::ask::model::Model;
+use scoap_pads::ask::pads::{self, Privacy, USUAL_DEPTH};
 use scoap_pads::read::load::Source;
+use scoap_pads::read::names;
+use scoap_pads::show::cost::Cost;
 
 pub const ICG: &str = r#"library (icg) {
   cell (ICG) {
@@ -124,6 +127,24 @@ fn a_box_gives_inputs_and_takes_outputs() {
     assert!(loaded.is_none() && said.contains("q[0] is an input twice"), "{said}");
     let (_, said) = load(&Source { boxes: vec!["ROM".to_string()], ..room.file("hand.blif", hand) });
     assert!(said.contains("--box ROM is not used: no cell has this type"), "{said}");
+}
+
+#[test]
+fn what_a_box_takes_is_not_seen_by_privacy() {
+    let room = Room::new("boxed-privacy");
+    let text = ".model chip\n.inputs a b en k clk\n.outputs y\n.subckt $_AND_ A=a B=b Y=secret\n.subckt SRAM D=secret CK=clk Q=q\n\
+                .subckt $_AND_ A=secret B=en Y=g\n.subckt $_XOR_ A=g B=k Y=h\n.subckt $_AND_ A=h B=q Y=y\n.end\n";
+    let (model, _) = read(&Source { boxes: vec!["SRAM".to_string()], ..room.file("leak.blif", text) });
+    let line = |net: &str| names::find(&model.names, net).unwrap()[0];
+    // The box takes it, so that no pad lowers its CO; both pads show it for less than the way to the chip's output.
+    assert_eq!(model.numbers.of(line("secret"))[4], Cost::Figure(0));
+    let privacy = Privacy::new(&model, Vec::new(), vec![line("secret")], USUAL_DEPTH);
+    let effects = pads::effects(&model, &[line("g"), line("h")], &privacy).unwrap();
+    assert_eq!(effects.len(), 2);
+    for effect in &effects {
+        assert_eq!(effect.touched, [line("secret")], "{}", model.net_name(effect.line));
+        assert!(!privacy.allows(effect));
+    }
 }
 
 #[test]

@@ -17,6 +17,7 @@ async function wake() {
   const made = {scoap, lib: utf.encode(texts.lib), net: utf.encode(texts.net), pads: [], effects: new Map(), kept: new Map(), turn: 0, asked: 0, of: 0};
   made.none = scoap.stand(made.lib, made.net).standing;
   made.ranged = /^range,/m.test(texts.net);
+  made.guarded = made.ranged || data.taken.length > 0;
   // What this page was made with must come out here too.
   const standing = placed(made, data.pads);
   for (const l of data.lines) {
@@ -75,9 +76,11 @@ function stand() {
     l.f = l.en = 0;
   }
   live.ranked = data.lines.filter(l => l.r).map(l => l.l);
-  if (live.ranged) {
-    // CO at HIGH without a further pad, out of the second of the two reports.
-    live.high = new Map(live.scoap.report(live.lib, marked(live.pads)).split("\nhigh\n")[1].split("\n").map(row => row.split(",")).map(f => [Number(f[0]), /^\d+$/.test(f[5]) ? Number(f[5]) : f[5]]));
+  if (live.guarded) {
+    // CO and SO without a further pad, at HIGH, out of the second of the two reports, and with what boxes take not seen.
+    const net = data.taken.reduce((net, line) => net.replace(`\noutput,${line}\n`, "\n"), marked(live.pads));
+    const cost = f => /^\d+$/.test(f) ? Number(f) : f;
+    live.guard = new Map(live.scoap.report(live.lib, net).split("\nhigh\n")[live.ranged ? 1 : 0].split("\n").map(row => row.split(",")).map(f => [Number(f[0]), [cost(f[5]), cost(f[6])]]));
     live.bare ||= live.scoap.stand(live.lib, live.bareNet ||= texts.net.replace(/^output,.*\n/gm, "")).standing;
   }
   live.measure = measured(line => live.standing[place(line, 4)]);
@@ -111,11 +114,14 @@ function effect(line) {
     if (co < was) { if (was < sizes.OVER) x.gain += was - co; else x.freed++; }
     if (co < was || seen[2 * l - 1] < standing[place(l, 5)]) { x.count++; x.bits[l >> 3] |= 1 << (l & 7); }
   }
-  if (live.ranged) {
-    // Whatever the prices within the ranges: CO at HIGH without the pad, against that at LOW with the pad as the only output.
+  if (live.guarded) {
+    // Whatever the prices within the ranges, and whatever boxes take: against the numbers with the pad as the only output.
     const alone = live.scoap.ask(live.lib, live.bareNet, live.bare, line).seen;
     x.ends = new Uint8Array(x.bits.length);
-    for (const l of data.lines) if (rank(Scoap.cost(alone[2 * l.l - 2])) < rank(live.high.get(l.l))) x.ends[l.l >> 3] |= 1 << (l.l & 7);
+    for (const l of data.lines) {
+      const [co, so] = live.guard.get(l.l);
+      if (rank(Scoap.cost(alone[2 * l.l - 2])) < rank(co) || rank(Scoap.cost(alone[2 * l.l - 1])) < rank(so)) x.ends[l.l >> 3] |= 1 << (l.l & 7);
+    }
   }
   return x;
 }
