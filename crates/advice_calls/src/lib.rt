@@ -10,6 +10,8 @@
 // Open to others: `advise` and `rank`, over two texts and a list, with an answer that the caller lends; the types `Advised`
 // and `Ranked`. They have tables of their own, and no condition on their input; specs/Calls.antt says what they answer
 // and leave, specs/Promise.antt what that means. The published sizes of the answers are 1 and `sizes::RANKS`.
+#![tactic(auto)]
+
 mod lines;
 
 ghost use Rattle.std.specs.Prelude.{◌≡◌};
@@ -28,14 +30,14 @@ use reading::{Refusal, TABLE_SHORT, Verdict};
 use table::put;
 
 // What `advise` answers: the advice, or a refusal. `advised_read` gives its cases.
-#[derive(Drop)]
+#[derive(Clone, Copy)]
 pub enum Advised {
     Found(Advice),
     Refused(Refusal),
 }
 
 // What `rank` answers: how many lines are allowed, or a refusal. `ranked_read` gives its cases.
-#[derive(Drop)]
+#[derive(Clone, Copy)]
 pub enum Ranked {
     Lines(usize),
     Refused(Refusal),

@@ -78,7 +78,7 @@ fn may_pad(netlist: &[u32], barred: &[bool; sizes::LINE_PLACES], l: u32) -> bool
 
 // Of the CO of some lines: the largest, how many are never and how many over, the largest that is a figure, and the sum
 // of those.
-#[derive(Drop)]
+#[derive(Clone, Copy)]
 struct Left {
     largest: u32,
     nevers: u32,

@@ -8,6 +8,8 @@
 // (specs/Own.antt).
 //
 // Modules: `end`, the numbers and the report of what was read; `printed`, what a program prints of its texts.
+#![tactic(auto)]
+
 pub mod end;
 pub mod printed;
 

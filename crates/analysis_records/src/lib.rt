@@ -2,6 +2,8 @@
 //
 // Open to others: the type `Record` of module `record`, and `analyse_records`, which has the answer and the promises
 // of `analysis_call::analyse` over a list of records. It has no condition on its input.
+#![tactic(auto)]
+
 pub mod record;
 
 ghost use Rattle.std.specs.Prelude.{◌≡◌, length};

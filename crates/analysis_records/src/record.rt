@@ -17,7 +17,7 @@ use reading::Refusal;
 
 // "kind (0 input, 1 output, 2 gate), cell index (from 0 in library order), line, eight pins, 0 after
 // the last." "In record lists, kind 3 is open." (K5)
-#[derive(Drop)]
+#[derive(Clone, Copy)]
 pub struct Record {
     pub kind: u32,
     pub cell: u32,

@@ -6,6 +6,8 @@
 // behind which a caller reads its netlist itself.
 //
 // Module `entry`: the checks at entry, and what a later refusal clears.
+#![tactic(auto)]
+
 pub mod entry;
 
 ghost use Rattle.std.specs.Prelude.{◌≡◌, length};
@@ -24,7 +26,7 @@ use table::clear;
 
 // How far a call has come: nothing is refused so far; refused at entry, with all that was lent as it
 // was; or refused later.
-#[derive(Drop)]
+#[derive(Clone, Copy)]
 pub enum Progress {
     Unrefused,
     AtEntry(Refusal),
@@ -32,7 +34,7 @@ pub enum Progress {
 }
 
 // Whose the library and the netlist table are: a call's own, zero as it makes them, or lent, with anything in them.
-#[derive(Drop)]
+#[derive(Clone, Copy)]
 pub enum Tables {
     Own,
     Lent,

@@ -8,6 +8,8 @@
 // each call promises.
 //
 // Module `qualifies`: whether the theorems of K8 apply, by one number.
+#![tactic(auto)]
+
 pub mod qualifies;
 
 ghost use Rattle.std.specs.Prelude.{◌≡◌};

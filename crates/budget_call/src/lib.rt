@@ -4,6 +4,8 @@
 // Open to others: `best_within`, over two texts and a buffer of numbers that the caller lends, with a budget;
 // `Steps`, what it answers. It has no condition on its input; specs/Promise.antt says what it promises. The
 // published size of the buffer is `sizes::BEST`.
+#![tactic(auto)]
+
 ghost use Rattle.std.specs.Prelude.{List, ◌≡◌, ◌≤◌, ◌<◌, length};
 ghost use Rattle.sizes.specs.Sizes as Size;
 ghost use Rattle.library_table.specs.Cells.{Cell};
@@ -22,7 +24,7 @@ use reading::{Refusal, TABLE_SHORT};
 use table::{clear, put};
 
 // How many steps were made, or a refusal. `steps_read` gives its cases.
-#[derive(Drop)]
+#[derive(Clone, Copy)]
 pub enum Steps {
     Made(usize),
     Refused(Refusal),

@@ -2,6 +2,8 @@
 // a leaf takes a step for each level of the tree. There is a leaf for each value of each line.
 //
 // For the crates above, each with what it asks (specs/Queue.antt): `empty`, `put`, `front` and `cost_at`.
+#![tactic(auto)]
+
 ghost use Rattle.std.specs.Prelude.{◌≡◌, ◌≤◌, ◌<◌, min};
 ghost use Rattle.sizes.specs.Sizes as Size;
 ghost use Rattle.cost.specs.Cost.{never};
@@ -12,7 +14,7 @@ use cost::NEVER;
 const LEAVES: u64 = sizes::LEAVES as u64;
 
 // The cheapest leaf and its cost, `NEVER` where no leaf has any.
-#[derive(Drop)]
+#[derive(Clone, Copy)]
 pub struct Foremost {
     pub leaf: usize,
     pub cost: u32,

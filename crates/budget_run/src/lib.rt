@@ -6,6 +6,8 @@
 //
 // The values are the leaves of a queue (crate `budget_queue`), each with what it is on offer for. A step takes the
 // front, and then asks the gates anew that read its line: crate `sweep_links` has them.
+#![tactic(auto)]
+
 ghost use Rattle.std.specs.Prelude.{List, ◌≡◌, ◌≤◌, ◌<◌, get_or};
 ghost use Rattle.sizes.specs.Sizes as Size;
 ghost use Rattle.sizes.specs.Places.{leaf_of, leaf_place};
@@ -265,7 +267,7 @@ fn offer_prices(prices: &[u32; sizes::NUMBERS], queue: &mut [u64; sizes::QUEUE])
 }
 
 // What a run came to: its steps, and the cost of the last, 0 before any.
-#[derive(Drop)]
+#[derive(Clone, Copy)]
 pub struct Spent {
     pub steps: usize,
     pub last: u32,

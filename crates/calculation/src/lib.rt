@@ -6,9 +6,10 @@
 // proofs/Laws.antt.
 //
 // Open to others: the types `Counts` and `Advice`.
+#![tactic(auto)]
 
 // How many sweeps each of the four runs took.
-#[derive(Drop)]
+#[derive(Clone, Copy)]
 pub struct Counts {
     pub cc: u32,
     pub sc: u32,
@@ -18,7 +19,7 @@ pub struct Counts {
 
 // What the pad adviser says: that no line may be padded, or a line, and the largest CO that a pad on it
 // leaves. specs/Advice.antt has what it says of which netlist.
-#[derive(Drop)]
+#[derive(Clone, Copy)]
 pub enum Advice {
     NoneAllowed,
     Pad(u32, u32),

@@ -3,6 +3,8 @@
 // statements that they hold.
 //
 // Open to others: `qualifies`. It has no condition.
+#![tactic(auto)]
+
 ghost use Rattle.std.specs.Prelude.{◌≡◌};
 ghost use Rattle.truth_cells.specs.Words.{generated_at};
 ghost use Rattle.netlist_table.specs.Gates.{gates_held};

@@ -3,6 +3,8 @@
 // the answers say of the statements that were read.
 //
 // Open to others: `without_loops`, `read_once`. What the table says of gates and lines is read by crate `netlist_table`.
+#![tactic(auto)]
+
 ghost use Rattle.std.specs.Prelude.{[], ◌∷◌, ◌≡◌, ◌≤◌, ◌<◌, eqb, set};
 ghost use Rattle.sizes.specs.Sizes as Size;
 ghost use Rattle.reading.specs.Choice.{pick};

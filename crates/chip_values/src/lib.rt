@@ -5,3 +5,4 @@
 // Loops (which line feeds which), Values (what a netlist does), Built (cells that have a truth table), Never
 // (what is shown), Example (what is not); proofs.Laws; and what is drawn from the absence of loops, and from
 // each line having one gate, proofs.Descending and proofs.Giving.
+#![tactic(auto)]

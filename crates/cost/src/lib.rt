@@ -6,6 +6,8 @@
 // (SC, SO), each with the methods `plus`, `lesser` and `compare`, by value. The two are types of
 // their own, so that a combinational cost is never added to a sequential one. What a method means
 // is in specs/Cost.antt, the laws are in proofs/Laws.antt.
+#![tactic(auto)]
+
 ghost use Rattle.std.specs.Prelude.{◌≡◌};
 ghost use Rattle.cost.specs.Cost.{◌⊕◌, counted, lesser};
 ghost use Rattle.cost.specs.Order.{order, spatial_order, temporal_order, compared};
@@ -17,15 +19,15 @@ pub const OVER: u32 = 1_000_000_000;
 pub const NEVER: u32 = 1_000_000_001;
 
 // The spatial cost of source 000: of setting or observing a line in combinational terms.
-#[derive(Drop)]
+#[derive(Clone, Copy)]
 pub struct Spatial(pub u32);
 
 // The temporal cost of source 000: of setting or observing a line in sequential terms.
-#[derive(Drop)]
+#[derive(Clone, Copy)]
 pub struct Temporal(pub u32);
 
 // How one cost stands to another.
-#[derive(Drop)]
+#[derive(Clone, Copy)]
 pub enum Order {
     Lower,
     Same,
@@ -33,14 +35,14 @@ pub enum Order {
 }
 
 // How a cost stands to another, with the lesser of the two as a new cost.
-#[derive(Drop)]
+#[derive(Clone, Copy)]
 pub enum SpatialOrder {
     Lower(Spatial),
     Same(Spatial),
     Higher(Spatial),
 }
 
-#[derive(Drop)]
+#[derive(Clone, Copy)]
 pub enum TemporalOrder {
     Lower(Temporal),
     Same(Temporal),

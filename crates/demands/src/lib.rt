@@ -4,18 +4,20 @@
 // crate `analysis_texts` reads, `sweep_runs` calculates, `analysis_call::end` tells.
 //
 // Open to others: the types `Answer` and `Summary`.
+#![tactic(auto)]
+
 use calculation::Counts;
 use reading::Refusal;
 
 // An accepted analysis: the report's length and the four sweep counts.
-#[derive(Drop)]
+#[derive(Clone, Copy)]
 pub struct Summary {
     pub length: usize,
     pub counts: Counts,
 }
 
 // `answer_read` gives its cases.
-#[derive(Drop)]
+#[derive(Clone, Copy)]
 pub enum Answer {
     Accepted(Summary),
     Refused(Refusal),

@@ -4,6 +4,8 @@
 // For those programs alone: `load`, `front`, `put_unreadable` and `print`. A file that cannot be opened or read to its end is
 // unreadable, a directory among them. A file longer than a text may be fills the buffer, and is seen to be longer.
 // specs/Output.antt says what a program prints of files that were loaded.
+#![tactic(auto)]
+
 ghost use Rattle.std.specs.Prelude.{◌≡◌, ◌≤◌, length, take};
 ghost use Rattle.writer.specs.Put.{Put};
 ghost use Rattle.files.specs.Loads.{Within, Seen, next_of};
@@ -14,14 +16,14 @@ use libc::STDOUT_FILENO;
 // One byte more than a text may have.
 pub const FILE_BYTES: usize = sizes::TEXT_BYTES + 1;
 
-#[derive(Drop)]
+#[derive(Clone, Copy)]
 pub enum Loaded {
     Bytes(usize),
     Unreadable,
 }
 
 // How far a buffer is filled: to a place, with more to come, or as far as it can be.
-#[derive(Drop)]
+#[derive(Clone, Copy)]
 enum Filling {
     More(usize),
     Done(Loaded),

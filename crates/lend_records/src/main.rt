@@ -3,6 +3,8 @@
 // and accepted ones; lists of 2,000 records and more, of which it prints what is left in lent memory;
 // that records and a text that say the same come to the same is proved, in crate `analysis_records`,
 // proofs/Same.antt.
+#![tactic(auto)]
+
 ghost use Rattle.std.specs.Prelude.{◌+◌, ◌*◌, ◌≤◌, take};
 ghost use Rattle.sizes.specs.Sizes as Size;
 ghost use Rattle.demands.specs.Answer.{answer_read, lent_of};

@@ -3,6 +3,8 @@
 //
 // For the crates above: `grown_at`, of two tables that hold accepted cells. specs/Held.antt says what the
 // other functions read out of a table.
+#![tactic(auto)]
+
 ghost use Rattle.std.specs.Prelude.{List, ◌≡◌, ◌^◌, ◌<◌, eqb, length, get_or};
 ghost use Rattle.sizes.specs.Places.{group_place};
 ghost use Rattle.sizes.specs.Sizes as Size;

@@ -25,7 +25,7 @@ const PLAIN: u32 = 0;
 // What a row line is asked for: where its groups start in the table, how many they are, whether a group without rows excepts
 // the rows of the other from being idle, the heading by which rows are read, and what the columns of a row come to: at least
 // `least` where the row is not idle, and below `limit`.
-#[derive(Drop)]
+#[derive(Clone, Copy)]
 pub struct Asked {
     pub place: usize,
     pub groups: u32,
@@ -38,7 +38,7 @@ pub struct Asked {
 // The fields passed so far: what stands before the next one; the groups, the rows of the last of them and its place in the
 // table; whether a field is out of place; whether a group has no row; the rows of the longest group, and the highest and the
 // lowest columns of a row.
-#[derive(Drop)]
+#[derive(Clone, Copy)]
 pub struct Passed {
     pub before: u32,
     pub groups: u32,

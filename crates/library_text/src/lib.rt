@@ -4,6 +4,8 @@
 //
 // Modules: `groups`, the groups of a row line, and the number that refuses it; `rows`, a row line; `lines`, the lines of a text
 // one after another.
+#![tactic(auto)]
+
 mod groups;
 pub mod lines;
 mod rows;

@@ -46,7 +46,7 @@ const END_LINE: u32 = 5;
 
 // Where the reader stands: the place in an entry, the cells read, the pins and the heading of the cell being read, and the
 // number that refuses the line just read, or 0.
-#[derive(Drop)]
+#[derive(Clone, Copy)]
 struct State {
     place: u32,
     cells: u32,

@@ -6,6 +6,8 @@
 // `some_undeclared`, which ask the table. netlist_table/specs/Admission.antt says what they come to.
 //
 // Module `causes`: why a statement is refused by its own numbers.
+#![tactic(auto)]
+
 mod causes;
 mod kinds;
 

@@ -3,6 +3,8 @@
 // refusal of the old rules.
 //
 // Open to others: `put_copy`. It has no condition on its input; specs/Copied.antt says what it promises.
+#![tactic(auto)]
+
 ghost use Rattle.std.specs.Prelude.{◌≡◌, [], ◌++◌, ◌≤◌};
 ghost use Rattle.sizes.specs.Sizes as Size;
 ghost use Rattle.reading.specs.Choice.{pick};

@@ -3,6 +3,8 @@
 //
 // Open to others: `line_bad` and `some_range`. Modules `gates` and `lines`: what a table says of its gates and lines, for all
 // that read it.
+#![tactic(auto)]
+
 ghost use Rattle.std.specs.Prelude.{◌≡◌};
 ghost use Rattle.netlist_table.specs.Netlist.{line_bad};
 ghost use Rattle.netlist_table.specs.Admission.{some_ranged};
@@ -26,7 +28,7 @@ pub const RANGE: u32 = 4;
 
 // Which rules are in force: the old ones, by which nothing declares a line open and no input has a range, or the new ones (K5,
 // K10).
-#[derive(Drop)]
+#[derive(Clone, Copy)]
 pub enum Rules {
     Old,
     New,
@@ -35,7 +37,7 @@ pub enum Rules {
 // One statement over plain numbers, not checked yet: whether it has good form, its kind, its cell's place
 // in the library, its line, the lines of as many pins as a gate has at most, 0 after the last, how many
 // pins it has, and whether a pin's line is out of range.
-#[derive(Drop)]
+#[derive(Clone, Copy)]
 pub struct RawStatement {
     pub form: bool,
     pub kind: u32,

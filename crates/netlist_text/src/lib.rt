@@ -5,6 +5,8 @@
 // `read_all`, behind an entry that the caller has checked, into a table that holds no statement.
 //
 // Module `statements`: the statement that a line says.
+#![tactic(auto)]
+
 mod statements;
 
 ghost use Rattle.std.specs.Prelude.{◌≡◌, List, ◌≤◌, length};

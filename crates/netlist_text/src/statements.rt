@@ -26,7 +26,7 @@ pub fn declaring(rules: Rules) -> bool
 }
 
 // The pins of a statement, as `RawStatement` has them.
-#[derive(Drop)]
+#[derive(Clone, Copy)]
 struct Pins {
     form: bool,
     pins: [u32; sizes::PINS],

@@ -5,3 +5,4 @@
 // At home here are the statements that tie crates which do not know each other: specs/PlanCost.antt (a plan written out
 // beside a standing analysis), specs/PlanRead.antt (a plan's text read back), specs/Topmost.antt (which line and which
 // number a text is refused by).
+#![tactic(auto)]

@@ -5,6 +5,8 @@
 // specs/Promise.antt and specs/Printed.antt say what they promise. For the crates above: `write_plan_into`.
 //
 // Module `end`: the numbers and the plan of what was read.
+#![tactic(auto)]
+
 pub mod end;
 
 ghost use Rattle.sizes.specs.Sizes as Size;

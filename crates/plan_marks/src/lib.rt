@@ -9,6 +9,8 @@
 // is asleep lower nothing, so that numbers, marks and times are those of the whole sweep.
 //
 // Modules: `rows`, the row by which a visit lowers its number; `visits`, one gate's visits, with their marks.
+#![tactic(auto)]
+
 pub mod rows;
 pub mod visits;
 

@@ -5,6 +5,8 @@
 // specs/PlanText.antt has the text of a plan, specs/Plan.antt which plan it is, that it is one in document
 // 01's own sense and that it costs the number reported; specs/Writers.antt what the two writers put from
 // the tables.
+#![tactic(auto)]
+
 ghost use Rattle.std.specs.Prelude.{◌≡◌, ◌+◌, ◌-◌, ◌/◌, ◌%◌, ◌^◌, ◌<◌};
 ghost use Rattle.std.specs.Int.Count.{count_trailing_zeros};
 ghost use Rattle.writer.specs.Put.{Put};

@@ -6,3 +6,4 @@
 // order: System (ways, plans and their cost), Sweep (visits, sweeps and runs), Exact (what a number is
 // held against), Stages (runs one after the other), Idle (visits that a sweep may leave out), Trace
 // (which way a number was last lowered by), Statements; and proofs.Laws.
+#![tactic(auto)]

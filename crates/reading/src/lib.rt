@@ -3,17 +3,18 @@
 // refusal numbers, which have their one home here and in specs/Numbers.antt.
 //
 // Open to others: the types `Refusal` and `Verdict`, and the numbers.
+#![tactic(auto)]
 
 // Why a text or a list of records is refused: document 01's number, and the line, or the place of a
 // record, from 1; 0 where neither is meant.
-#[derive(Drop)]
+#[derive(Clone, Copy)]
 pub struct Refusal {
     pub number: u32,
     pub line: usize,
 }
 
 // A reader's answer. `verdict_read` gives its cases.
-#[derive(Drop)]
+#[derive(Clone, Copy)]
 pub enum Verdict {
     Accepted,
     Refused(Refusal),

@@ -4,6 +4,8 @@
 // proofs/Laws.antt. Whether a report is longer than its buffer is asked at its end (`writer::close`).
 //
 // Open to others: `put_report` and `put_high`, for every input.
+#![tactic(auto)]
+
 ghost use Rattle.std.specs.Prelude.{◌≡◌, [], ◌∷◌, ◌++◌, ◌+◌, ◌<◌};
 ghost use Rattle.sizes.specs.Sizes as Size;
 ghost use Rattle.reading.specs.Choice.{pick};

@@ -1,6 +1,8 @@
 // The program scoap: reads lib.txt and net.txt of the current folder and prints the report, or `refused,number,line`, or
 // `unreadable` where a file cannot be read. What it prints of files that were loaded is proved: `put_output` puts it ready,
 // and `print_output` takes nothing else.
+#![tactic(auto)]
+
 ghost use Rattle.std.specs.Prelude.{◌≡◌};
 ghost use Rattle.sizes.specs.Sizes as Size;
 ghost use Rattle.demands.specs.Printed.{printed};

@@ -5,6 +5,8 @@
 // `scoap_ask`, `scoap_commit`, `scoap_change`, `scoap_best`, `scoap_advise` and `scoap_rank`. They have no condition
 // on their input. What each promises, and what the number of all of them tells, is said by crate `answer_codes`, which also
 // makes the number of an answer; that of `scoap_qualifies` is made by module `answer_codes::qualifies`.
+#![tactic(auto)]
+
 ghost use Rattle.answer_codes.specs.Advice.{AdviceCoded, RankCoded};
 ghost use Rattle.answer_codes.specs.Best.{BestCoded};
 ghost use Rattle.answer_codes.specs.BuiltIn.{BuiltInCoded};

@@ -1,6 +1,8 @@
 // The program scoap_cell: reads table.txt of the current folder, a line `NAME,n,BITS`, and prints the library entry of that
 // truth table, or `refused,number,line`, or `unreadable` where the file cannot be read. What it prints of a file that was
 // loaded is proved: `put_output` puts it ready, and `print_output` takes nothing else.
+#![tactic(auto)]
+
 ghost use Rattle.std.specs.Prelude.{◌≡◌};
 ghost use Rattle.files.specs.Output.{of_file, PrintsFile};
 ghost use Rattle.truth_entry.specs.Bounded.{entry_room};

@@ -1,6 +1,8 @@
 // The program scoap_open: reads lib.txt and net.txt of the current folder and prints the copy of the netlist with its open
 // lines, or `refused,number,line` by the old rules, or `unreadable` where a file cannot be read. What it prints of files that
 // were loaded is proved: `put_output` puts it ready, and `print_output` takes nothing else.
+#![tactic(auto)]
+
 ghost use Rattle.std.specs.Prelude.{◌≡◌};
 ghost use Rattle.files.specs.Output.{of_files, PrintsFiles};
 ghost use Rattle.netlist_open.specs.Copied.{copy_bytes, copy_printed};

@@ -12,7 +12,7 @@ use text::fields::Numeral;
 const WORDS: usize = 4;
 
 // Which plan is asked for, by line, value and kind; or that the usage is to be printed.
-#[derive(Drop)]
+#[derive(Clone, Copy)]
 pub enum Arguments {
     Plan(u32, u32, u32),
     Usage,

@@ -4,6 +4,8 @@
 // ready, and `print_output` takes nothing else.
 //
 // Module `arguments`: what the program is asked for.
+#![tactic(auto)]
+
 mod arguments;
 
 ghost use Rattle.std.specs.Prelude.{◌≡◌};

@@ -1,6 +1,7 @@
 // The sizes of document 01, and all that is computed from them: how much a text, a library and a
 // netlist may hold, and where each thing stands in the lent tables (docs/TABLES.md). Each number has
 // its one home here, and in specs/Sizes.antt and specs/Places.antt.
+#![tactic(auto)]
 
 // "Both texts .. above 65,535 bytes": the most bytes of a text.
 pub const TEXT_BYTES: usize = 65535;

@@ -6,6 +6,8 @@
 // they answer and leave, specs/Promise.antt what that means of a standing analysis. The published sizes are
 // `sizes::STANDING` and `sizes::OBSERVED`.
 // What they are made of: module `standing_table::texts` reads what is lent, crate `standing_table` runs and stores.
+#![tactic(auto)]
+
 ghost use Rattle.std.specs.Prelude.{◌≡◌, ◌+◌, ◌-◌, ◌<◌, length, replicate};
 ghost use Rattle.reading.specs.Choice.{pick};
 ghost use Rattle.reading.specs.Numbers as No;
@@ -25,7 +27,7 @@ use sweep_sums::kinds::wide;
 use table::word;
 
 // A count of pads, or a refusal. `pads_read` gives its cases.
-#[derive(Drop)]
+#[derive(Clone, Copy)]
 pub enum Pads {
     Count(usize),
     Refused(Refusal),

@@ -4,6 +4,8 @@
 // leaves, specs/Promise.antt what that means of a standing analysis.
 //
 // Module `runs`: the runs of a change, over a standing table.
+#![tactic(auto)]
+
 mod runs;
 
 ghost use Rattle.std.specs.Prelude.{List, ◌≤◌, length};
@@ -24,7 +26,7 @@ use reading::{Refusal, TABLE_SHORT, TEXT_LONG, Verdict};
 use standing_table::texts::read_held;
 
 // Which of the two happened, or a refusal. `changed_read` gives its cases.
-#[derive(Drop)]
+#[derive(Clone, Copy)]
 pub enum Changed {
     WentOn,
     BegunAgain,

@@ -5,6 +5,8 @@
 // which makes one pad more stand.
 //
 // Module `texts`: both texts and the pads, read into tables.
+#![tactic(auto)]
+
 pub mod texts;
 
 ghost use Rattle.std.specs.Prelude.{List, ◌++◌, ◌≡◌, ◌+◌, ◌-◌, ◌≤◌, ◌<◌, length, take, drop};

@@ -7,6 +7,8 @@
 //
 // Rows are added up in crate `sweep_sums`. Here all goes by the kind's number, 0 combinational and 1
 // sequential.
+#![tactic(auto)]
+
 pub mod gather;
 mod places;
 pub mod turns;

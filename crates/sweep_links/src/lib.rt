@@ -3,6 +3,8 @@
 //
 // For the crates above, each with what it asks (specs/Lines.antt): `link`, which makes them, in one
 // array, and `is_tied`, which reads one. Module `awake` wakes gates by them.
+#![tactic(auto)]
+
 pub mod awake;
 
 ghost use Rattle.std.specs.Prelude.{true, false, List, ◌≡◌, ℕ, ◌+◌, ◌≤◌, ◌<◌, length, get_or};

@@ -3,6 +3,8 @@
 // For the crates above, each with what it asks and leaves: whatever the numbers are (specs/Kept.antt),
 // `observe_anew`, CO and SO from their start over the CC and SC that stand, and `go_on`, all four runs from
 // what stands; and from numbers at which CO rests (specs/Trial.antt), `try_pad`, CO with one pad more.
+#![tactic(auto)]
+
 ghost use Rattle.std.specs.Prelude.{List, ◌≡◌, ◌≤◌, ◌<◌, length, get_or, set};
 ghost use Rattle.sizes.specs.Sizes as Size;
 ghost use Rattle.reading.specs.Choice.{pick};

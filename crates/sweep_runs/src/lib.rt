@@ -17,6 +17,8 @@
 //
 // All goes by a role's number, 0 setting (CC, SC) and 1 observing (CO, SO), and by a kind's number,
 // 0 combinational (CC, CO) and 1 sequential (SC, SO).
+#![tactic(auto)]
+
 ghost use Rattle.std.specs.Prelude.{◌≡◌, List, ◌++◌, ◌≤◌, ◌<◌, length, drop};
 ghost use Rattle.sizes.specs.Sizes as Size;
 ghost use Rattle.plans.specs.Sweep.{lower, Settles};
@@ -128,7 +130,7 @@ fn run_all(
 // ---- the halves
 
 // How many sweeps the two runs of a half took.
-#[derive(Drop)]
+#[derive(Clone, Copy)]
 pub struct Sweeps {
     pub combinational: u32,
     pub sequential: u32,

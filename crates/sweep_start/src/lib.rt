@@ -2,6 +2,8 @@
 // out of the netlist table.
 //
 // For the crates above: `start`, which asks for a whole table and for just as many entries as there are numbers.
+#![tactic(auto)]
+
 ghost use Rattle.std.specs.Prelude.{not, ◌≡◌, ◌+◌, ◌*◌, ◌≤◌, ◌<◌, eqb, length, get_or, replicate};
 ghost use Rattle.std.proofs.lemmas.List.Edits.{sets};
 ghost use Rattle.sizes.specs.Sizes as Size;

@@ -7,6 +7,8 @@
 // Modules `spatial` and `temporal` add up rows and compare costs, each in costs of its own kind. What does
 // neither goes by the kind's number, 0 combinational and 1 sequential. Every sum that is answered has its
 // kind in the contract (`Summed`).
+#![tactic(auto)]
+
 pub mod bits;
 pub mod kinds;
 mod spatial;
@@ -21,7 +23,7 @@ use cost::{NEVER, Spatial, Temporal};
 use kinds::COMBINATIONAL;
 
 // A row sum, or the least of some, in the costs of its kind.
-#[derive(Drop)]
+#[derive(Clone, Copy)]
 pub enum Sum {
     Combinational(Spatial),
     Sequential(Temporal),

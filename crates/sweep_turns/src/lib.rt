@@ -6,6 +6,8 @@
 //
 // All goes by a role's number, 0 setting (CC, SC) and 1 observing (CO, SO), and by a kind's number,
 // 0 combinational (CC, CO) and 1 sequential (SC, SO).
+#![tactic(auto)]
+
 pub mod visits;
 
 ghost use Rattle.std.specs.Prelude.{◌≡◌, true, false, List, ℕ, ◌+◌, ◌*◌, ◌≤◌, ◌<◌, get_or};

@@ -5,6 +5,8 @@
 // `needs_both` and `once`, of a row of such a gate, which go "from one named column straight to the next by
 // counting trailing zeros" (02, K4); `cell_both`, whether a cell is none of one wire.
 // specs/Wires.antt says what each answers.
+#![tactic(auto)]
+
 ghost use Rattle.std.specs.Prelude.{not, ◌&&◌, ◌≡◌, ◌+◌, ◌*◌, ◌^◌, ◌≤◌, ◌<◌, length, get_or};
 ghost use Rattle.sizes.specs.Sizes as Size;
 ghost use Rattle.reading.specs.Choice.{pick};

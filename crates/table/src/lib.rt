@@ -3,6 +3,8 @@
 //
 // Open to others: `word`, `put`, `clear`, `clear_bytes`, `used`. specs/Blocks.antt has the parts of which
 // the layouts of the library and the netlist table are put together.
+#![tactic(auto)]
+
 ghost use Rattle.std.specs.Prelude.{◌≡◌, ◌+◌, ◌-◌, ◌≤◌, min, length, get_or, set, replicate};
 ghost use Rattle.table.specs.Blocks.{cleared, zeros, used};
 

@@ -50,7 +50,7 @@ pub fn is_name(f: &[u8]) -> bool
 }
 
 // What a field reads as: a number, or bad form. `numeral_read` gives its cases.
-#[derive(Drop)]
+#[derive(Clone, Copy)]
 pub enum Numeral {
     Value(u32),
     Bad,

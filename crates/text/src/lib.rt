@@ -3,6 +3,8 @@
 //
 // Open to other crates, each for every input: `line`, `field`, `after`, `is_last`, `same`. For the crates above: `class_of`,
 // and the type `Class`.
+#![tactic(auto)]
+
 pub mod fields;
 
 ghost use Rattle.std.specs.Prelude.{◌≡◌, ◌&&◌, ◌+◌, ◌≤◌, leb, ltb, length, drop};
@@ -10,7 +12,7 @@ ghost use Rattle.text.specs.Class.{class_of, ends, end_of};
 ghost use Rattle.text.specs.Lines.{span, part, next_after, same_bytes, some_ends};
 
 // The class of a byte. `class_of` gives its cases.
-#[derive(Drop)]
+#[derive(Clone, Copy)]
 pub enum Class {
     Digit,
     Letter,

@@ -2,6 +2,8 @@
 //
 // For the crates above: `put_back`, over a netlist table and its links. It tells whether it came to the end; then, if the trial
 // changed nothing but what can be reached so, the table is the one that stands (specs/Back.antt).
+#![tactic(auto)]
+
 ghost use Rattle.std.specs.Prelude.{◌≡◌, true, ◌&&◌, ◌≤◌, ◌<◌, ◌+◌, eqb, length, get_or, set};
 ghost use Rattle.sizes.specs.Sizes as Size;
 ghost use Rattle.netlist_table.specs.Gates.{LinesStand};

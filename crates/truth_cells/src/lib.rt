@@ -2,6 +2,8 @@
 //
 // Open to others: `is_generated`, which has no condition. specs/Words.antt says what it answers, by the numbers of the table;
 // proofs/Laws.antt what that says of a table that holds the cells of an accepted library.
+#![tactic(auto)]
+
 mod bits;
 mod groups;
 

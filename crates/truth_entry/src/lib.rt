@@ -4,6 +4,8 @@
 // comes to, `writer` what is answered, left and printed of it. What that is, in rows, is said by crate `truth_tables`.
 //
 // Module `printed`: the six lines of an entry.
+#![tactic(auto)]
+
 mod printed;
 
 ghost use Rattle.std.specs.Prelude.{◌&&◌, true, ◌≡◌, length};

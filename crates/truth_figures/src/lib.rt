@@ -3,3 +3,4 @@
 // NOR of three pins, and the built-in library's text, which `truth_library` writes.
 //
 // No call is open to others, since there is no code.
+#![tactic(auto)]

@@ -2,6 +2,8 @@
 // It is what the generator prints of 19 truth tables: crate `truth_figures` has these, and its text as a figure.
 //
 // Open to others: `put_built_in`, which has no condition.
+#![tactic(auto)]
+
 ghost use Rattle.std.specs.Prelude.{◌↔◌, ◌≡◌, ◌<◌, length};
 ghost use Rattle.reading.specs.Numbers as No;
 ghost use Rattle.reading.specs.Refusal.{refused, read};

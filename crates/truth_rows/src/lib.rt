@@ -3,6 +3,8 @@
 //
 // For the crates above, each of few pins: `of_value` and `of_pin` with the type `Asked` (specs/Asked.antt), and of module
 // `masks` `power`, `is_prime` and `number` (specs/Masks.antt).
+#![tactic(auto)]
+
 pub mod masks;
 
 ghost use Rattle.std.specs.Prelude.{true, map, ◌≡◌, ◌≤◌, ◌<◌};
@@ -16,7 +18,7 @@ const ZERO: u8 = 48;
 
 // What is asked of a group's rows: the settings wanted, of so many pins; what every row has besides the columns of its term,
 // and the weight of the two columns above which a pin is left out that is not named.
-#[derive(Drop)]
+#[derive(Clone, Copy)]
 pub struct Asked {
     pub wanted: u32,
     pub pins: usize,

@@ -8,3 +8,4 @@
 // groups), proofs.Covering (the same over terms), proofs.Columns (the columns of a term), proofs.Counting
 // (no group has more than 16 rows), proofs.Order (rows descend) and proofs.Accepted (the entry of every
 // table is read as its cell).
+#![tactic(auto)]

@@ -5,6 +5,8 @@
 //
 // Open to others: the type `Written`. For the crates above: `put_refusal`, `refuse`, `close` and `show`, which have no
 // condition; `refusal_code` and `code`, which ask that a refusal's line is below `code_lines`.
+#![tactic(auto)]
+
 pub mod bytes;
 
 ghost use Rattle.std.specs.Prelude.{◌≡◌, ◌<◌};
@@ -23,7 +25,7 @@ const LINE_END: u8 = 10;
 const CODE_LINES: u64 = sizes::CODE_LINES as u64;
 
 // A text in the front of a lent buffer, by its length, or a refusal. `written_read` gives its cases.
-#[derive(Drop)]
+#[derive(Clone, Copy)]
 pub enum Written {
     Length(usize),
     Refused(Refusal),

@@ -8,7 +8,7 @@ use truth_rows::masks::{is_prime, number, power};
 use writer::bytes::{put_byte, put_bytes, put_octal};
 
 // Where the next row goes, and whether there is one before it.
-#[derive(Drop)]
+#[derive(Clone, Copy)]
 struct Cursor {
     at: usize,
     any: bool,
