@@ -1,5 +1,5 @@
 -- `report_into`: the entry and both texts, then the end.
-use Rattle.common_laws.proofs.Base.{now, needs}
+use Rattle.common_laws.proofs.Base.{rules}
 use Rattle.demands.specs.Answer.{lent_of}
 use Rattle.demands.specs.Outcome.{Given, Lent, given_texts}
 use Rattle.demands.proofs.Given.{texts-checked}
@@ -10,45 +10,38 @@ use Rattle.analysis_call.proofs.report_into.Tie as tie
 
 -- ---- the places of the code that the answers speak of
 
-abbrev begins : tie.After-read-texts → tie.Start
+abbrev begins : tie.After-read_texts-progress → tie.Start
 begins c = c.before.before.before.before.before.before.before.before.before
 
-abbrev reads : tie.After-tell-arg4 → tie.After-read-texts
+abbrev reads : tie.After-tell-arg-1 → tie.After-read_texts-progress
 reads c = c.before.before.before.before.before.before.before.before
 
-abbrev tells : tie.After-slice-known8 → tie.After-tell
+abbrev tells : tie.After-slice_known-8-1 → tie.After-tell
 tells c = c.before.before.before.before
 
 module _ (s : tie.Start) where
   abbrev given : Given
-  given = given_texts (now s.args.lib) (now s.args.net)
+  given = given_texts s.args.lib.now s.args.net.now
 
   abbrev lent : Lent
-  lent = lent_of (now s.args.library) (now s.args.netlist) (now s.args.found) (now s.args.report)
+  lent = lent_of s.args.library.now s.args.netlist.now s.args.found.now s.args.report.now
 
 tell_requires : tie.Need-tell-requires
 tell_requires c κs =
-    let r = reads c in
+    let r = reads c.before in
     let s = begins r in
-    texts-ready (now s.args.lib) (now s.args.net) (lent s) _ _ r.read-texts.result r.read-texts.ensures
+    texts-ready s.args.lib.now s.args.net.now (lent s) _ _ r.read_texts-progress.result r.read_texts-progress.ensures
 
 returns : tie.Need-returns
 returns c =
     let f = tells c in
-    let r = reads f.before in
+    let r = reads f.before.before in
     let s = begins r in
-    let p = told-promised (given s) (lent s) (texts-checked _ _) _ _ _ _ _ r.read-texts.result
-    (texts-reached (now s.args.lib) (now s.args.net) (lent s) _ _ r.read-texts.result r.read-texts.ensures) f.tell.ensures in
+    let p = told-promised (given s) (lent s) (texts-checked _ _) _ _ _ _ _ r.read_texts-progress.result
+    (texts-reached s.args.lib.now s.args.net.now (lent s) _ _ r.read_texts-progress.result r.read_texts-progress.ensures) f.tell.ensures in
     record { answers = p.0; leaves = p.1 }
 
 pub report_into_spec : {M : Type 1} → statement M
 report_into_spec =
     tie.close
-    (tie.spec
-    (λ c κs. search needs)
-    tell_requires
-    (λ c. search needs)
-    (λ c. search needs)
-    (λ c. search needs)
-    (λ c. search needs)
-    returns)
+    (tie.spec (λ c κs. search rules) tell_requires (λ c. search rules) (λ c. search rules) (λ c. search rules) (λ c. search rules) returns)

@@ -102,16 +102,16 @@ module _ {M : Type 1} {𝓤 : Ura M} (𝓛 : Logic 𝓤) (mem : Memory → SProp
   open 𝓛 use {H}
 
   abbrev x₃ : GName → List ℕ → MutBor (List ℕ)
-  x₃ δ ys = record { ref_ptr = (b₃, o₃); ghost_name = δ; now = ys }
+  x₃ δ ys = record { ref_ptr = (b₃, o₃); ghost_name = δ; =.now ys }
 
   abbrev x₄ : GName → List ℕ → MutBor (List ℕ)
-  x₄ δ ys = record { ref_ptr = (b₄, o₄); ghost_name = δ; now = ys }
+  x₄ δ ys = record { ref_ptr = (b₄, o₄); ghost_name = δ; =.now ys }
 
   abbrev x₅ : Bor (List ℕ)
-  x₅ = record { ref_ptr = (b₅, o₅); ghost_name = γ₅; now = num }
+  x₅ = record { ref_ptr = (b₅, o₅); ghost_name = γ₅; =.now num }
 
   abbrev x₆ : Bor (List ℕ)
-  x₆ = record { ref_ptr = (b₆, o₆); ghost_name = γ₆; now = rep }
+  x₆ = record { ref_ptr = (b₆, o₆); ghost_name = γ₆; =.now rep }
 
   abbrev v₁ : Val
   v₁ = slice_val text.ref_ptr (length text.now)

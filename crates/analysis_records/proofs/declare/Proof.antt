@@ -1,5 +1,5 @@
 -- `declare` refuses 20 where nothing is refused so far.
-use Rattle.common_laws.proofs.Base.{◌≡◌, refl, sym, ◌∙◌, now, needs}
+use Rattle.common_laws.proofs.Base.{◌≡◌, refl, sym, ◌∙◌, rules}
 use Rattle.analysis_texts.proofs.Reached.{entry-shut, later_shut}
 use Rattle.analysis_records.proofs.Laws.{declared_stays, declares-some, declares-none}
 use Rattle.analysis_records.proofs.declare.Statement.{statement}
@@ -7,41 +7,33 @@ use Rattle.analysis_records.proofs.declare.Tie as tie
 
 -- ---- the places of the code that the answers speak of
 
-abbrev begins : tie.After-shared-slice-known → tie.Start
+abbrev begins : tie.After-shared_slice_known-1 → tie.Start
 begins c = c.before
 
-abbrev unrefused : tie.After-some-undeclared → tie.After-shared-slice-known
-unrefused c = c.before.before.before
+abbrev unrefused : tie.After-some_undeclared → tie.After-shared_slice_known-1
+unrefused c = c.before.before
 
-returns : tie.Need-returns
+returns : tie.Need-returns-then-some_undeclared
 returns c =
     let a = (begins (unrefused c.before)).args in
-    declares-some (now a.netlist) a.progress (search needs) (sym c.before.some-undeclared.ensures ∙ c.if1.true)
+    declares-some a.netlist.now a.progress (search rules) (sym c.some_undeclared.ensures ∙ c.if-some_undeclared.true)
 
-returns_2 : tie.Need-returns-2
+returns_2 : tie.Need-returns-in-AtEntry
 returns_2 c =
-    let a = (begins c.before.before).args in
-    sym (declared_stays (now a.netlist) a.progress (λ o. entry-shut _ (sym c.enum_told.given.1 ∙ o)))
+    let a = (begins c.before).args in
+    sym (declared_stays a.netlist.now a.progress (λ o. entry-shut _ (sym c.in-AtEntry.is ∙ o)))
 
-returns_3 : tie.Need-returns-3
+returns_3 : tie.Need-returns-in-Later
 returns_3 c =
-    let a = (begins c.before.before).args in
-    sym (declared_stays (now a.netlist) a.progress (λ o. later_shut _ (sym c.enum-told2.given.1 ∙ o)))
+    let a = (begins c.before).args in
+    sym (declared_stays a.netlist.now a.progress (λ o. later_shut _ (sym c.in-Later.is ∙ o)))
 
-returns_4 : tie.Need-returns-4
+returns_4 : tie.Need-returns-else-some_undeclared
 returns_4 c =
     let a = (begins (unrefused c.before)).args in
-    declares-none (now a.netlist) a.progress (search needs) (sym c.before.some-undeclared.ensures ∙ c.if1.false)
+    declares-none a.netlist.now a.progress (search rules) (sym c.some_undeclared.ensures ∙ c.if-some_undeclared.false)
 
 pub declare_spec : {M : Type 1} → statement M
 declare_spec =
     tie.close
-    (tie.spec
-    (λ c. search needs)
-    (λ c. search needs)
-    (λ c. search needs)
-    (λ c κs. search needs)
-    returns
-    returns_2
-    returns_3
-    returns_4)
+    (tie.spec (λ c. search rules) (λ c. search rules) (λ c. search rules) (λ c κs. search rules) returns returns_2 returns_3 returns_4)

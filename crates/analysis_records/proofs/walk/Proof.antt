@@ -106,10 +106,10 @@ module _ {M : Type 1} {𝓤 : Ura M} (𝓛 : Logic 𝓤) (at_mem : Memory → SP
   open 𝓛 use {H}
 
   abbrev x₀ : GName → List ℕ → MutBor (List ℕ)
-  x₀ δ ts = record { ref_ptr = (b, o); ghost_name = δ; now = ts }
+  x₀ δ ts = record { ref_ptr = (b, o); ghost_name = δ; =.now ts }
 
   abbrev x₂ : Bor (List Record)
-  x₂ = record { ref_ptr = (b', o'); ghost_name = γ'; now = recs }
+  x₂ = record { ref_ptr = (b', o'); ghost_name = γ'; =.now recs }
 
   abbrev n : ℕ
   n = length recs

@@ -4,8 +4,8 @@ use Rattle.files.proofs.Output.{seen}
 use Rattle.files.proofs.load.Statement.{statement}
 use Rattle.files.proofs.load.Tie as tie
 
-returns_2 : tie.Need-returns-2
-returns_2 c = seen _ _ (search rules) c.before.fill.ensures
+returns_2 : tie.Need-returns
+returns_2 c = seen _ _ (search rules) c.fill-loaded.ensures
 
 pub load_spec : {M : Type 1} → statement M
 load_spec =

@@ -1,5 +1,5 @@
 -- `next` tells a read's answer by its sign and by where the bytes end.
-use Rattle.common_laws.proofs.Base.{◌||◌, List, ◌≡◌, ◌∙◌, ℕ, ◌+◌, ◌-◌, now, eqb, length, take, drop, length-take, length-drop, arith, needs}
+use Rattle.common_laws.proofs.Base.{◌||◌, List, ◌≡◌, ◌∙◌, ℕ, ◌+◌, ◌-◌, eqb, length, take, drop, length-take, length-drop, arith, rules}
 use lib.IntN.{ℤ}
 use mir.Facts.{to_z-of_z}
 use Rattle.io.specs.Counts.{clamp_len}
@@ -14,10 +14,10 @@ use Rattle.files.proofs.next.Tie as tie
 abbrev begins : tie.After-count → tie.Start
 begins c = c.before.before.before.before
 
-returns : tie.Need-returns
+returns : tie.Need-returns-then-got-lt0
 returns c =
     let s = c.before.before in
-    failed (length (now s.args.buffer)) s.args.at s.args.got (rw (to_z-of_z s.ranges.got) at c.if1.true)
+    failed (length s.args.buffer.now) s.args.at s.args.got (rw (to_z-of_z s.ranges.got) at c.if-got-lt0.true)
 
 module _ (c : tie.After-count) where
   abbrev got : ℤ
@@ -27,7 +27,7 @@ module _ (c : tie.After-count) where
   at = (begins c).args.at
 
   abbrev buffer : List ℕ
-  buffer = now (begins c).args.buffer
+  buffer = (begins c).args.buffer.now
 
   counted : c.count.result ≡ clamp_len got (length buffer - at)
   counted =
@@ -40,17 +40,17 @@ module _ (c : tie.After-count) where
 
   fills : pick (eqb end at || eqb end (length buffer)) (Done (Bytes end)) (More end) ≡ next_of (length buffer) at got
   fills =
-      went (length buffer) at got (rw (to_z-of_z (begins c).ranges.got) at c.before.before.if1.false) c.count.result counted
+      went (length buffer) at got (rw (to_z-of_z (begins c).ranges.got) at c.if-got-lt0.false) c.count.result counted
 
-returns_2 : tie.Need-returns-2
+returns_2 : tie.Need-returns-then-end-at
 unfolding pick
-returns_2 c = rw c.if2.true at (fills c.before)
+returns_2 c = rw c.if-end-at.true at (fills c.before)
 
-returns_3 : tie.Need-returns-3
+returns_3 : tie.Need-returns-else-end-at
 unfolding pick
-returns_3 c = rw c.if2.false at (fills c.before)
+returns_3 c = rw c.if-end-at.false at (fills c.before)
 
 pub next_spec : {M : Type 1} → statement M
 next_spec =
     tie.close
-    (tie.spec returns (λ c. search needs) (λ c. search needs) (λ c. search needs) (λ c κs. search needs) (λ c. search needs) returns_2 returns_3)
+    (tie.spec returns (λ c. search rules) (λ c. search rules) (λ c. search rules) (λ c κs. search rules) (λ c. search rules) returns_2 returns_3)

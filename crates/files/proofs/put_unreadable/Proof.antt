@@ -9,5 +9,5 @@ returns : tie.Need-returns
 unfolding unreadable bytes
 returns c = search rules
 
-pub put-unreadable_spec : {M : Type 1} → statement M
-put-unreadable_spec = tie.close (tie.spec (λ c. search rules) (λ c κs. search rules) (λ c. search rules) returns)
+pub put_unreadable_spec : {M : Type 1} → statement M
+put_unreadable_spec = tie.close (tie.spec (λ c κs. search rules) (λ c. search rules) returns)

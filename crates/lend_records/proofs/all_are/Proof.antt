@@ -1,25 +1,15 @@
 -- `all_are` ends: the place comes nearer to the end.
-use Rattle.common_laws.proofs.Base.{◌-◌, length, needs}
+use Rattle.common_laws.proofs.Base.{◌-◌, length, rules}
 use Rattle.lend_records.proofs.all_are.Statement.{statement}
 use Rattle.lend_records.proofs.all_are.Tie as tie
 
-abbrev invariant_loop : tie.invariant-loop
+abbrev invariant_loop : tie.invariant-loop-i
 invariant_loop table from value i₀ i = Unit {0}
 
-abbrev decreases_loop : tie.decreases-loop
+abbrev decreases_loop : tie.decreases-loop-i
 decreases_loop table from value i₀ i = length table - i
 
-pub all-are_spec : {M : Type 1} → statement M
-all-are_spec =
+pub all_are_spec : {M : Type 1} → statement M
+all_are_spec =
     tie.close
-    (tie.spec
-    invariant_loop
-    decreases_loop
-    (λ c. search needs)
-    (λ c. search needs)
-    (λ c. search needs)
-    (λ c. search needs)
-    (λ c. search needs)
-    (λ c. search needs)
-    (λ c. search needs)
-    (λ c. search needs))
+    (tie.spec invariant_loop decreases_loop (λ c. search rules) (λ c. search rules) (λ c. search rules) (λ c. search rules) (λ c. search rules) (λ c. search rules) (λ c. search rules) (λ c. search rules))

@@ -40,7 +40,7 @@ use denote.Triple.Statement.{Contract, Triple}
 use denote.Triple.Call.{calls_at}
 use denote.Triple.Clauses.{ensured, lasts}
 use denote.Triple.Table.{entered, cited}
-use denote.Triple.Walked.{says, needs, Stays, gave_slice, stay_none_slice, stay_none, walk_of, Goes-gave_slice, Goes-none_slice, Goes-none, Walks, ends_at, walked, walk_Meets}
+use denote.Triple.Walked.{says, rules, Stays, gave_slice, stay_none_slice, stay_none, walk_of, Goes-gave_slice, Goes-none_slice, Goes-none, Walks, ends_at, walked, walk_Meets}
 use denote.Exit.{yes}
 use denote.Signature.{plain}
 use Rattle.sizes.specs.Sizes as Size
@@ -153,7 +153,7 @@ module _ {M : Type 1} {𝓤 : Ura M} (𝓛 : Logic 𝓤) (mem : Memory → SProp
   room = subst (Room R.the_row) (sym front_length) (omega (arith, within), omega (arith, within))
 
   abbrev x : ℕ → GName → MutBor (List Record)
-  x l δ = record { ref_ptr = (l, 0); ghost_name = δ; now = front }
+  x l δ = record { ref_ptr = (l, 0); ghost_name = δ; =.now front }
 
   abbrev Records : ℕ → Lft → GName → ℕ → Fml
   Records l κ δ m = (ShrSlice (named 1) κ R.the_row).own_val (x l δ) (slice_val (l, 0) m ∷ [])
@@ -243,7 +243,7 @@ module _ {M : Type 1} {𝓤 : Ura M} (𝓛 : Logic 𝓤) (mem : Memory → SProp
   lend_walks : (𝓣 : Tables 𝓤 H) → Triple 𝓤 (𝓣.C #analysis_records-analyse_records) (Callee 𝓛 mem run) → Walks 𝓛 lend.ended stayed (WpFn 𝓤 H 𝓣.C 𝓣.Λ code.function) (lend.clauses 𝓛 mem run)
   lend_walks 𝓣 known = walked 𝓛 lend.ended stayed (lend.clauses 𝓛 mem run) (WpFn 𝓤 H 𝓣.C 𝓣.Λ code.function) (λ κs. (shr_slice_vals, (array_vals spelling, (uint_vals w64, (shr_slice_vals, (shr_slice_vals, (shr_slice_vals, (shr_slice_vals, tt))))))))
       (λ κs. (shr_slice_Tells (named 0) κs.0 u8, (Array-Tells R.the_row spelling (R'.lowers).val_is most, (uint_Tells w64, (mut_slice_Tells (named 1) κs.1.0 u32, (mut_slice_Tells (named 2) κs.1.1.0 u32, (mut_slice_Tells (named 3) κs.1.1.1.0 u32, (mut_slice_Tells (named 4) κs.1.1.1.1.0 u8, tt))))))))
-      (λ κs qs bounds a g are. needs 𝓤 (a.1.1.0 ≤ most) _ (λ within.
+      (λ κs qs bounds a g are. rules 𝓤 (a.1.1.0 ≤ most) _ (λ within.
       walks 𝓛 mem run κs.0 κs.1.0 κs.1.1.0 κs.1.1.1.0 κs.1.1.1.1.0 qs.0 qs.1.0 qs.1.1.0 qs.1.1.1.0 qs.1.1.1.1.0 a.0 a.1.0 a.1.1.0 a.1.1.1.0 a.1.1.1.1.0 a.1.1.1.1.1.0 a.1.1.1.1.1.1.0
       are.0.0.1 are.1.0 are.1.1.0.1 are.1.1.1.0.0.1 are.1.1.1.1.0.0.1 are.1.1.1.1.1.0.0.1 are.1.1.1.1.1.1.0.0.1 within 𝓣 (fm_of 𝓤 H 𝓛.laws 𝓣) known))
 

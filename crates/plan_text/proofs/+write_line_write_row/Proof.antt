@@ -1,6 +1,6 @@
 -- The two writers call each other: the line writer hands on the visit at which its number was last lowered, which is below the
 -- one that it was handed. The measures are twice that bound, and one more for a row.
-use Rattle.common_laws.proofs.Base.{◌≡◌, refl, ap, ◌∙◌, ℕ, ◌+◌, ◌*◌, ◌-◌, ◌≤◌, ◌<◌, arith, and_le_l, ones, length, needs}
+use Rattle.common_laws.proofs.Base.{◌≡◌, refl, ap, ◌∙◌, ℕ, ◌+◌, ◌*◌, ◌-◌, ◌≤◌, ◌<◌, arith, and_le_l, ones, length, rules}
 use borrow.Fn.Kinds.{In}
 use borrow.Fn.PlainCycle.{Measures, is, falls, and}
 use Rattle.writer.proofs.Steps.{put-none}
@@ -52,8 +52,8 @@ module _ (t : ℕ) where
   abbrev row_claims : row-lts.Claims
   row_claims = (lowest-reads.Asked, lowest-reads.Learnt, goal-at-reads.Asked, goal-at-reads.Learnt, line-below, write-line.Post)
 
-pub +write-line-write-row-spec : {M : Type 1} → statement M
-+write-line-write-row-spec =
+pub +write_line_write_row_spec : {M : Type 1} → statement M
++write_line_write_row_spec =
     close μ-write-line μ-write-row
     (λ t. line-lts.spec (line_claims t) (line_at t) write-line.Post
     (λ c. omega arith)

@@ -13,43 +13,31 @@ printed-long lib net h = long-shown _ (either-long lib net h) _
 
 -- ---- places: the library was read, then the netlist
 
-abbrev library : tie.After-net-loaded → tie.After-lib-loaded
+abbrev library : tie.In-Bytes-net_loaded-2 → tie.In-Bytes-2
 library c = c.before.before.before
 
-returns : tie.Need-returns
+returns : tie.Need-returns-in_default
 returns c =
     let e = c.before.before in
-    library-unread printed _ _ _ _ e.enum_told.given.1 (search rules) (search rules) c.put-unreadable.ensures
+    library-unread printed _ _ _ _ e.in_default.is (search rules) (search rules) c.put_unreadable.ensures
 
-returns_2 : tie.Need-returns-2
+returns_2 : tie.Need-returns-in_default-net_loaded
 returns_2 c =
     let e = c.before.before in
-    let k = e.before.before.before in
-    netlist-unread printed _ _ _ _ k.lib-loaded.given.1 e.enum-told2.given.1 (search rules) (search rules)
-    c.put-unreadable2.ensures
+    let k = e in
+    netlist-unread printed _ _ _ _ k.in-Bytes.is e.in_default-net_loaded.is (search rules) (search rules)
+    c.put_unreadable-in_default-net_loaded.ensures
 
-returns_3 : tie.Need-returns-3
+returns_3 : tie.Need-returns
 returns_3 c =
     let second = c.before.before in
     let first = second.before.before in
-    let n = first.before.before.before in
+    let n = first in
     let l = library n in
-    both_read printed _ _ _ _ printed-long (search rules) (search rules) l.lib-loaded.given.1 n.net-loaded.given.1 first.front.ensures
-    second.front2.ensures (prints-outputs c.put-analysis.ensures.bytes)
+    both_read printed _ _ _ _ printed-long (search rules) (search rules) l.in-Bytes.is n.in-Bytes-net_loaded.is first.front.ensures
+    second.front-2.ensures (prints-outputs c.put_analysis.ensures.bytes)
 
-pub put-output_spec : {M : Type 1} → statement M
-put-output_spec =
+pub put_output_spec : {M : Type 1} → statement M
+put_output_spec =
     tie.close
-    (tie.spec
-    (λ c. search rules)
-    (λ c. search rules)
-    (λ c κs. search rules)
-    returns
-    (λ c. search rules)
-    (λ c. search rules)
-    (λ c κs. search rules)
-    returns_2
-    (λ c κs. search rules)
-    (λ c κs. search rules)
-    (λ c κs. search rules)
-    returns_3)
+    (tie.spec (λ c. search rules) (λ c. search rules) (λ c κs. search rules) returns (λ c. search rules) (λ c. search rules) (λ c κs. search rules) returns_2 (λ c κs. search rules) (λ c κs. search rules) (λ c κs. search rules) returns_3)

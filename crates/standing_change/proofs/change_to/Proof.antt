@@ -1,5 +1,5 @@
 -- `change_to` goes on where the library has only grown, and else reads the netlist and begins again.
-use Rattle.common_laws.proofs.Base.{true, false, List, ◌≡◌, refl, sym, subst, ◌∙◌, ℕ, ◌≤◌, length, get_or, drop, now, needs}
+use Rattle.common_laws.proofs.Base.{true, false, List, ◌≡◌, refl, sym, subst, ◌∙◌, ℕ, ◌≤◌, length, get_or, drop, rules}
 use Rattle.sizes.specs.Sizes as Size
 use Rattle.reading.specs.Refusal.{Read, read}
 use Rattle.library_table.specs.Cells.{Cell}
@@ -19,19 +19,19 @@ use Rattle.standing_change.proofs.change_to.Tie as tie
 
 -- ---- the places of the code that the answers speak of
 
-abbrev begins : tie.After-grown-at → tie.Start
+abbrev begins : tie.After-grown_at → tie.Start
 begins c = c.before.before.before.before.before.before
 
-abbrev compares : tie.After-go-on-from-arg2 → tie.After-grown-at
+abbrev compares : tie.After-go_on_from-arg-1 → tie.After-grown_at
 compares c = c.before.before.before
 
-abbrev differs : tie.After-read-again-arg2 → tie.After-grown-at
+abbrev differs : tie.After-read_again-arg-1 → tie.After-grown_at
 differs c = c.before.before.before
 
-abbrev reads : tie.After-slice-known4 → tie.After-read-again
+abbrev reads : tie.After-slice_known-3-1 → tie.After-read_again-again
 reads c = c.before.before
 
-abbrev told : tie.After-begin-again-arg2 → tie.After-enum-told
+abbrev told : tie.After-begin_again-arg-1 → tie.In-Accepted
 told c = c.before.before
 
 -- The state that is known to be held, and its new cells.
@@ -39,97 +39,97 @@ module _ (s : tie.Start) where
   abbrev state : State
   state = s.requires.0.state
 
-  abbrev held : StateHeld (now s.args.net) (now s.args.library) (now s.args.netlist) (now s.args.standing) state
-  held = s.pre.0.is
+  abbrev held : StateHeld s.args.net.now s.args.library.now s.args.netlist.now s.args.standing.now state
+  held = s.requires.0.is
 
   abbrev cells : List Cell
-  cells = s.pre.1.cells
+  cells = s.requires.1.cells
 
-  abbrev holds : HoldsCells (now s.args.more) cells
-  holds = s.pre.1.holds
+  abbrev holds : HoldsCells s.args.more.now cells
+  holds = s.requires.1.holds
 
 -- Whether it has grown.
-compared : (c : tie.After-grown-at) → let s = begins c in (x : State) → StateHeld (now s.args.net) (now s.args.library) (now s.args.netlist) (now s.args.standing) x
-    → (cs : List Cell) → HoldsCells (now s.args.more) cs → c.grown-at.result ≡ grown x.cells cs
-compared c x h cs k = c.grown-at.ensures x.cells cs (some_cells _ _ _ _ x h) k
+compared : (c : tie.After-grown_at) → let s = begins c in (x : State) → StateHeld s.args.net.now s.args.library.now s.args.netlist.now s.args.standing.now x
+    → (cs : List Cell) → HoldsCells s.args.more.now cs → c.grown_at.result ≡ grown x.cells cs
+compared c x h cs k = c.grown_at.ensures x.cells cs (some_cells _ _ _ _ x h) k
 
-go-on_from_requires : tie.Need-go-on-from-requires
+go-on_from_requires : tie.Need-go_on_from-requires
 go-on_from_requires c κs =
     let g = compares c in
     let s = begins g in
-    let t : grown (state s).cells (cells s) ≡ true = sym (compared g (state s) (held s) (cells s) (holds s)) ∙ c.before.before.if1.true in
-    on-ready _ _ _ _ (state s) (held s) _ (cells s) (holds s) s.pre.0.long t
+    let t : grown (state s).cells (cells s) ≡ true = sym (compared g (state s) (held s) (cells s) (holds s)) ∙ c.if-grown_at.true in
+    on-ready _ _ _ _ (state s) (held s) _ (cells s) (holds s) s.requires.0.long t
 
-returns : tie.Need-returns
+returns : tie.Need-returns-then-grown_at
 unfolding changed_read
 returns c x cs h k =
     let p = c.before.before in
     let g = compares p.before in
     let s = begins g in
-    let t : grown x.cells cs ≡ true = sym (compared g x h cs k) ∙ p.before.before.before.if1.true in
-    gone _ _ _ _ x h _ cs k t _ (p.go-on-from.ensures cs (statements_of x) (on-holds _ _ _ _ x h _ cs k t))
+    let t : grown x.cells cs ≡ true = sym (compared g x h cs k) ∙ p.if-grown_at.true in
+    gone _ _ _ _ x h _ cs k t _ (p.go_on_from.ensures cs (statements_of x) (on-holds _ _ _ _ x h _ cs k t))
 
-read_again_requires : tie.Need-read-again-requires
+read_again_requires : tie.Need-read_again-again-requires
 read_again_requires c κs =
     let s = begins (differs c) in
-    again_fits _ _ _ _ s.pre.0
+    again_fits _ _ _ _ s.requires.0
 
 -- The netlist was read again.
-again : (c : tie.After-enum-told) → let r = reads c.before.before in
+again : (c : tie.In-Accepted) → let r = reads c.before in
     let s = begins (differs r.before) in
-    (cs : List Cell) → HoldsCells (now s.args.more) cs
-    → ReadAgain (now s.args.net) (now s.args.more) cs (now s.args.standing) r.read_again.last.1.1.0 (read tt)
+    (cs : List Cell) → HoldsCells s.args.more.now cs
+    → ReadAgain s.args.net.now s.args.more.now cs s.args.standing.now r.read_again-again.new.1.1.0 (read tt)
 again c cs k =
-    let r = reads c.before.before in
+    let r = reads c.before in
     let s = begins (differs r.before) in
-    subst (ReadAgain (now s.args.net) (now s.args.more) cs (now s.args.standing) r.read_again.last.1.1.0)
-    (accepted_is r.read_again.result (search needs)) (r.read_again.ensures cs k)
+    subst (ReadAgain s.args.net.now s.args.more.now cs s.args.standing.now r.read_again-again.new.1.1.0)
+    (accepted_is r.read_again-again.result (search rules)) (r.read_again-again.ensures cs k)
 
-begin_again_requires : tie.Need-begin-again-requires
+begin_again_requires : tie.Need-begin_again-requires
 begin_again_requires c κs =
     let t = told c in
-    let s = begins (differs (reads t.before.before).before) in
-    again_ready _ _ _ _ (state s) (held s) _ (cells s) (holds s) _ s.pre.0.long (again t (cells s) (holds s))
+    let s = begins (differs (reads t.before).before) in
+    again_ready _ _ _ _ (state s) (held s) _ (cells s) (holds s) _ s.requires.0.long (again t (cells s) (holds s))
 
-returns_2 : tie.Need-returns-2
+returns_2 : tie.Need-returns-in-Refused
 unfolding changed_read
 returns_2 c x cs h k =
-    let r = reads c.before.before.before in
+    let r = reads c.before in
     let s = begins (differs r.before) in
-    let y = c.before.again.given.0.0 in
-    again_refused _ _ _ _ x h _ cs k r.read_again.last.1.1.0 y.number y.line
-    (subst (ReadAgain (now s.args.net) (now s.args.more) cs (now s.args.standing) r.read_again.last.1.1.0)
-    (refused_is r.read_again.result y (search needs)) (r.read_again.ensures cs k))
+    let y = c.in-Refused.r in
+    again_refused _ _ _ _ x h _ cs k r.read_again-again.new.1.1.0 y.number y.line
+    (subst (ReadAgain s.args.net.now s.args.more.now cs s.args.standing.now r.read_again-again.new.1.1.0)
+    (refused_is r.read_again-again.result y (search rules)) (r.read_again-again.ensures cs k))
 
-returns_3 : tie.Need-returns-3
+returns_3 : tie.Need-returns-in-Accepted
 unfolding changed_read
 returns_3 c x cs h k =
     let p = c.before.before in
     let t = told p.before in
-    let r = reads t.before.before in
+    let r = reads t.before in
     let g = differs r.before in
-    let f : grown x.cells cs ≡ false = sym (compared g x h cs k) ∙ r.before.before.before.if1.left in
-    again_read _ _ _ _ x h _ cs k r.read_again.last.1.1.0 (again t cs k)
-    (λ ss e holds. begun _ _ _ _ x h _ cs k f ss e _ (p.begin-again.ensures cs _ holds))
+    let f : grown x.cells cs ≡ false = sym (compared g x h cs k) ∙ r.if-grown_at.false in
+    again_read _ _ _ _ x h _ cs k r.read_again-again.new.1.1.0 (again t cs k)
+    (λ ss e holds. begun _ _ _ _ x h _ cs k f ss e _ (p.begin_again.ensures cs _ holds))
 
-pub change-to_spec : {M : Type 1} → statement M
-change-to_spec =
+pub change_to_spec : {M : Type 1} → statement M
+change_to_spec =
     tie.close
     (tie.spec
     (λ c κs.
     let s = c.before.before.before.before.before in
     (record { cells = s.requires.0.state.cells; holds = some_cells _ _ _ _ s.requires.0.state s.requires.0.is }, s.requires.1))
     go-on_from_requires
-    (λ c. search needs)
-    (λ c. search needs)
+    (λ c. search rules)
+    (λ c. search rules)
     returns
     read_again_requires
-    (λ c. search needs)
-    (λ c. search needs)
+    (λ c. search rules)
+    (λ c. search rules)
     begin_again_requires
-    (λ c. search needs)
-    (λ c. search needs)
+    (λ c. search rules)
+    (λ c. search rules)
     returns_2
-    (λ c. search needs)
-    (λ c. search needs)
+    (λ c. search rules)
+    (λ c. search rules)
     returns_3)

@@ -1,5 +1,5 @@
 -- `clear_pads` clears a part of the table.
-use Rattle.common_laws.proofs.Base.{List, ◌++◌, ap, ◌∙◌, ℕ, ◌+◌, ◌-◌, arith, take, now, needs}
+use Rattle.common_laws.proofs.Base.{List, ◌++◌, ap, ◌∙◌, ℕ, ◌+◌, ◌-◌, arith, take, rules}
 use Rattle.sizes.specs.Sizes as Size
 use Rattle.table.specs.Blocks.{cleared}
 use Rattle.standing_table.proofs.Slices.{part_is, part-put}
@@ -10,7 +10,7 @@ returns : tie.Need-returns
 returns c =
     let k = c.before.before in
     let s = k.before.before.before in
-    let xs = now s.args.standing in
+    let xs = s.args.standing.now in
     let a = Size.pads_at + s.args.pads in
     part-put xs a k.clear.new.0 (omega (arith, s.requires.0, s.requires.1))
     ∙ ap (λ (z : List ℕ). take a xs ++ z) (k.clear.ensures ∙ ap (cleared (Size.pads - s.args.pads)) (part_is xs a))
@@ -18,13 +18,4 @@ returns c =
 pub clear_pads_spec : {M : Type 1} → statement M
 clear_pads_spec =
     tie.close
-    (tie.spec
-    (λ c. search needs)
-    (λ c. search needs)
-    (λ c. omega (arith, c.before.requires.0, c.before.requires.1))
-    (λ c. omega (arith, c.before.requires.0, c.before.requires.1))
-    (λ c. search needs)
-    (λ c. search needs)
-    (λ c κs. search needs)
-    (λ c. search needs)
-    returns)
+    (tie.spec (λ c. search rules) (λ c. search rules) (λ c. omega (arith, c.requires.0, c.requires.1)) (λ c. omega (arith, c.requires.0, c.requires.1)) (λ c. search rules) (λ c. search rules) (λ c κs. search rules) (λ c. search rules) returns)

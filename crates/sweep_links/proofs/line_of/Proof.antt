@@ -9,5 +9,5 @@ returns c =
     let line = c.Line-of.ensures in
     (line, omega (arith, line, s.requires.0.most s.args.gate s.args.i (omega arith) s.requires.1))
 
-pub line-of_spec : {M : Type 1} → statement M
-line-of_spec = tie.close (tie.spec (λ c κs. let s = c.before in omega (arith, s.requires.0.room)) returns)
+pub line_of_spec : {M : Type 1} → statement M
+line_of_spec = tie.close (tie.spec (λ c κs. let s = c.before in omega (arith, s.requires.0.room)) returns)

@@ -1,5 +1,5 @@
 -- `lesser_of` is the lesser, in the sum's own kind.
-use Rattle.common_laws.proofs.Base.{◌≡◌, refl, ℕ, needs}
+use Rattle.common_laws.proofs.Base.{◌≡◌, refl, ℕ, rules}
 use Rattle.cost.specs.Cost.{lesser}
 use Rattle.sweep_sums.specs.declared.Sum.{Sum}
 use Rattle.sweep_sums.specs.Sums.{sum_number, sum_kind, Summed}
@@ -10,15 +10,15 @@ of-known : (number : ℕ) {sum known result : Sum} → sum ≡ known → sum_kin
     → Summed (sum_kind sum) (lesser number (sum_number sum)) result
 of-known number e k h = rw e (record { of_kind = k; comes_to = h })
 
-returns : tie.Need-returns
+returns : tie.Need-returns-in-Combinational
 unfolding sum_number sum_kind
-returns c = of-known c.before.before.before.before.args.number c.before.before.sum.given.1 refl c.lesser.ensures
+returns c = of-known c.args.number c.in-Combinational.is refl c.lesser.ensures
 
-returns_2 : tie.Need-returns-2
+returns_2 : tie.Need-returns-in-Sequential
 unfolding sum_number sum_kind
-returns_2 c = of-known c.before.before.before.before.args.number c.before.before.sum2.given.1 refl c.lesser2.ensures
+returns_2 c = of-known c.args.number c.in-Sequential.is refl c.lesser-in-Sequential.ensures
 
-pub lesser-of_spec : {M : Type 1} → statement M
-lesser-of_spec =
+pub lesser_of_spec : {M : Type 1} → statement M
+lesser_of_spec =
     tie.close
-    (tie.spec (λ c. c.match.keys1) (λ c κs. tt) (λ c. c.match.keys2) (λ c κs. tt) returns returns_2)
+    (tie.spec (λ c. c.in-Combinational.in-Combinational-own.keys1) (λ c κs. tt) (λ c. c.in-Sequential.in-Sequential-own.keys2) (λ c κs. tt) returns returns_2)

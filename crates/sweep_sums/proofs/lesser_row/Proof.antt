@@ -5,33 +5,23 @@ use Rattle.sweep_sums.proofs.Sums.{row_lesser}
 use Rattle.sweep_sums.proofs.lesser_row.Statement.{statement}
 use Rattle.sweep_sums.proofs.lesser_row.Tie as tie
 
-returns : tie.Need-returns
+returns : tie.Need-returns-in-Combinational
 unfolding sum_kind sum_number
 returns c =
     let s = c.before.before in
-    let a = s.before.before.before.before.args in
-    row_lesser a.costs.now a.depth a.columns s.before.before.before.before.requires s.before.before.best.given.1
-    s.columns-sum.ensures c.before.plus.ensures refl c.lesser.ensures
+    let a = s.args in
+    row_lesser a.costs.now a.depth a.columns s.requires s.in-Combinational.is
+    s.columns_sum-sum.ensures c.plus.ensures refl c.lesser.ensures
 
-returns_2 : tie.Need-returns-2
+returns_2 : tie.Need-returns-in-Sequential
 unfolding sum_kind sum_number
 returns_2 c =
     let s = c.before.before in
-    let a = s.before.before.before.before.args in
-    row_lesser a.costs.now a.depth a.columns s.before.before.before.before.requires s.before.before.best2.given.1
-    s.columns-sum2.ensures c.before.plus2.ensures refl c.lesser2.ensures
+    let a = s.args in
+    row_lesser a.costs.now a.depth a.columns s.requires s.in-Sequential.is
+    s.columns_sum-sum-in-Sequential.ensures c.plus-in-Sequential.ensures refl c.lesser-in-Sequential.ensures
 
 pub lesser_row_spec : {M : Type 1} → statement M
 lesser_row_spec =
     tie.close
-    (tie.spec
-    (λ c. c.match.keys1)
-    (λ c κs. c.before.before.before.requires)
-    (λ c κs. tt)
-    (λ c κs. tt)
-    (λ c. c.match.keys2)
-    (λ c κs. c.before.before.before.requires)
-    (λ c κs. tt)
-    (λ c κs. tt)
-    returns
-    returns_2)
+    (tie.spec (λ c. c.in-Combinational.in-Combinational-own.keys1) (λ c κs. c.requires) (λ c κs. tt) (λ c κs. tt) (λ c. c.in-Sequential.in-Sequential-own.keys2) (λ c κs. c.requires) (λ c κs. tt) (λ c κs. tt) returns returns_2)

@@ -8,16 +8,16 @@ use Rattle.writer.proofs.put_refusal.Tie as tie
 
 -- ---- places: after the word, the number, the comma and the line
 
-abbrev worded : tie.After-put-digits → tie.After-put-bytes
+abbrev worded : tie.After-put_digits-comma → tie.After-put_bytes-number
 worded c = c.before.before.before.before.before
 
-abbrev numbered : tie.After-put-byte → tie.After-put-digits
+abbrev numbered : tie.After-put_byte-line → tie.After-put_digits-comma
 numbered c = c.before.before.before.before
 
-abbrev parted : tie.After-put-digits2 → tie.After-put-byte
+abbrev parted : tie.After-put_digits-end → tie.After-put_byte-line
 parted c = c.before.before.before.before
 
-abbrev told : tie.After-put-byte2 → tie.After-put-digits2
+abbrev told : tie.After-put_byte → tie.After-put_digits-end
 told c = c.before.before.before.before
 
 returns : tie.Need-returns
@@ -27,20 +27,11 @@ returns c =
     let line = told end in
     let comma = parted line in
     let number = numbered comma in
-    put_then (worded number).put-bytes.ensures
-    (put_then number.put-digits.ensures
-    (put_then comma.put_byte.ensures (put_then line.put-digits2.ensures end.put-byte2.ensures)))
+    put_then (worded number).put_bytes-number.ensures
+    (put_then number.put_digits-comma.ensures
+    (put_then comma.put_byte-line.ensures (put_then line.put_digits-end.ensures end.put_byte.ensures)))
 
-pub put-refusal_spec : {M : Type 1} → statement M
-put-refusal_spec =
+pub put_refusal_spec : {M : Type 1} → statement M
+put_refusal_spec =
     tie.close
-    (tie.spec
-    (λ c. search rules)
-    (λ c κs. search rules)
-    (λ c. search rules)
-    (λ c κs. search rules)
-    (λ c κs. search rules)
-    (λ c κs. search rules)
-    (λ c κs. search rules)
-    (λ c. search rules)
-    returns)
+    (tie.spec (λ c κs. search rules) (λ c. search rules) (λ c κs. search rules) (λ c κs. search rules) (λ c κs. search rules) (λ c κs. search rules) (λ c. search rules) returns)

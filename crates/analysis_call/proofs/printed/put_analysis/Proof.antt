@@ -1,5 +1,5 @@
 -- `put_analysis` leaves the report where it stands, or puts the refusal there.
-use Rattle.common_laws.proofs.Base.{◌≡◌, refl, now, length, needs}
+use Rattle.common_laws.proofs.Base.{◌≡◌, refl, length, rules}
 use Rattle.sizes.specs.Sizes as Size
 use Rattle.demands.specs.Own.{own_tables}
 use Rattle.analysis_call.proofs.PrintedLaws.{analysis-printed, accepted-shown, refused-shown}
@@ -8,41 +8,32 @@ use Rattle.analysis_call.proofs.printed.put_analysis.Tie as tie
 
 -- ---- the places of the code that the answers speak of
 
-abbrev begins : tie.After-analyse-into → tie.Start
+abbrev begins : tie.After-analyse_into-answer → tie.Start
 begins c = c.before.before.before.before.before.before.before
 
-abbrev analysed : tie.After-numbers2 → tie.After-analyse-into
+abbrev analysed : tie.After-numbers-2-1 → tie.After-analyse_into-answer
 analysed c = c.before.before.before
 
-room : (c : tie.After-analyse-into-arg) → Size.report_bytes ≡ length (now c.before.before.before.before.before.before.args.report)
-room c = search needs
+room : (c : tie.After-analyse_into-arg-1) → Size.report_bytes ≡ length c.args.report.now
+room c = search rules
 
-returns : tie.Need-returns
+returns : tie.Need-returns-in-Accepted
 unfolding own_tables
 returns c =
-    let k = analysed c.before.before.before in
+    let k = analysed c.before in
     let a = (begins k).args in
-    analysis-printed (now a.lib) (now a.net) (now a.report) (room k.before) _ (search needs) _ k.analyse-into.ensures _ _
-    (accepted-shown k.analyse-into.result c.before.answer.given.0.0 _ (search needs))
+    analysis-printed a.lib.now a.net.now a.report.now (room k.before) _ (search rules) _ k.analyse_into-answer.ensures _ _
+    (accepted-shown k.analyse_into-answer.result c.in-Accepted.s _ (search rules))
 
-returns_2 : tie.Need-returns-2
+returns_2 : tie.Need-returns-in-Refused
 unfolding own_tables
 returns_2 c =
-    let k = analysed c.before.before.before.before.before in
+    let k = analysed c.before.before.before in
     let a = (begins k).args in
-    analysis-printed (now a.lib) (now a.net) (now a.report) (room k.before) _ (search needs) _ k.analyse-into.ensures _ _
-    (refused-shown k.analyse-into.result c.before.before.before.answer2.given.0.0 _ _ _ (search needs) c.put-refusal.ensures)
+    analysis-printed a.lib.now a.net.now a.report.now (room k.before) _ (search rules) _ k.analyse_into-answer.ensures _ _
+    (refused-shown k.analyse_into-answer.result c.in-Refused.r _ _ _ (search rules) c.put_refusal.ensures)
 
-pub put-analysis_spec : {M : Type 1} → statement M
-put-analysis_spec =
+pub put_analysis_spec : {M : Type 1} → statement M
+put_analysis_spec =
     tie.close
-    (tie.spec
-    (λ c. search needs)
-    (λ c. search needs)
-    (λ c. search needs)
-    (λ c κs. (refl, refl))
-    (λ c. search needs)
-    (λ c. search needs)
-    (λ c κs. search needs)
-    returns
-    returns_2)
+    (tie.spec (λ c. search rules) (λ c. search rules) (λ c. search rules) (λ c κs. (refl, refl)) (λ c. search rules) (λ c. search rules) (λ c κs. search rules) returns returns_2)

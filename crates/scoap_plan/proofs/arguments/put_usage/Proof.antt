@@ -9,5 +9,5 @@ returns : tie.Need-returns
 unfolding usage bytes
 returns c = search rules
 
-pub put-usage_spec : {M : Type 1} → statement M
-put-usage_spec = tie.close (tie.spec (λ c. search rules) (λ c κs. search rules) (λ c. search rules) returns)
+pub put_usage_spec : {M : Type 1} → statement M
+put_usage_spec = tie.close (tie.spec (λ c κs. search rules) (λ c. search rules) returns)

@@ -1,42 +1,32 @@
 -- `three_decimals` is `three_decimals`, numeral by numeral.
-use Rattle.common_laws.proofs.Base.{refl, needs}
+use Rattle.common_laws.proofs.Base.{refl, rules}
 use Rattle.text.specs.Numeral.{numeral_read}
 use Rattle.scoap_plan.specs.Arguments.{three_decimals}
 use Rattle.scoap_plan.proofs.arguments.three_decimals.Statement.{statement}
 use Rattle.scoap_plan.proofs.arguments.three_decimals.Tie as tie
 
-returns : tie.Need-returns
+returns : tie.Need-returns-in_default
 unfolding three_decimals numeral_read
-returns c = rw c.enum_told.given.1 refl
+returns c = rw c.in_default.is refl
 
-returns_2 : tie.Need-returns-2
+returns_2 : tie.Need-returns-in_default-value
 unfolding three_decimals numeral_read
-returns_2 c = rw (c.before.before.before.line.given.1, c.enum-told2.given.1) refl
+returns_2 c = rw (c.in-Value.is, c.in_default-value.is) refl
 
-returns_3 : tie.Need-returns-3
+returns_3 : tie.Need-returns-in_default-kind
 unfolding three_decimals numeral_read
 returns_3 c =
-    let v = c.before.before.before in
-    rw (v.before.before.before.line.given.1, v.value.given.1, c.enum-told3.given.1) refl
+    let v = c in
+    rw (v.in-Value.is, v.in-Value-value.is, c.in_default-kind.is) refl
 
-returns_4 : tie.Need-returns-4
+returns_4 : tie.Need-returns
 unfolding three_decimals numeral_read
 returns_4 c =
-    let k = c.before in
-    let v = k.before.before.before in
-    rw (v.before.before.before.line.given.1, v.value.given.1, k.kind.given.1) refl
+    let k = c in
+    let v = k in
+    rw (v.in-Value.is, v.in-Value-value.is, k.in-Value-kind.is) refl
 
-pub three-decimals_spec : {M : Type 1} → statement M
-three-decimals_spec =
+pub three_decimals_spec : {M : Type 1} → statement M
+three_decimals_spec =
     tie.close
-    (tie.spec
-    (λ c. search needs)
-    (λ c. search needs)
-    returns
-    (λ c. search needs)
-    (λ c. search needs)
-    returns_2
-    (λ c. search needs)
-    (λ c. search needs)
-    returns_3
-    returns_4)
+    (tie.spec (λ c. search rules) (λ c. search rules) returns (λ c. search rules) (λ c. search rules) returns_2 (λ c. search rules) (λ c. search rules) returns_3 returns_4)

@@ -1,5 +1,5 @@
 -- `runs_from` lends the numbers of the standing table.
-use Rattle.common_laws.proofs.Base.{List, sym, subst, ℕ, ◌≤◌, arith, length, now, needs}
+use Rattle.common_laws.proofs.Base.{List, sym, subst, ℕ, ◌≤◌, arith, length, rules}
 use Rattle.sizes.specs.Sizes as Size
 use Rattle.calculation.specs.Stored.{Ready}
 use Rattle.sweep_reruns.specs.Kept.{GoneOn}
@@ -7,30 +7,25 @@ use Rattle.standing_table.proofs.Slices.{part_is, ready-size}
 use Rattle.standing_change.proofs.runs.runs_from.Statement.{statement}
 use Rattle.standing_change.proofs.runs.runs_from.Tie as tie
 
-abbrev begins : tie.After-go-on-arg2 → tie.Start
+abbrev begins : tie.After-go_on-arg-2-1 → tie.Start
 begins c = c.before.before.before.before.before
 
-long : (s : tie.Start) → Size.standing ≤ length (now s.args.standing)
-long s = ready-size (now s.args.standing) s.requires.0
+long : (s : tie.Start) → Size.standing ≤ length s.args.standing.now
+long s = ready-size s.args.standing.now s.requires.0
 
-go-on_requires : tie.Need-go-on-requires
+go-on_requires : tie.Need-go_on-requires
 go-on_requires c κs =
     let s = begins c in
     let a = s.args in
-    (subst (Ready (now a.library) (now a.netlist)) (sym (part_is (now a.standing) Size.standing_numbers)) s.pre.0, s.pre.1)
+    (subst (Ready a.library.now a.netlist.now) (sym (part_is a.standing.now Size.standing_numbers)) s.requires.0, s.requires.1)
 
 returns : tie.Need-returns
 returns c cells ss h =
     let s = begins c.before in
     subst (λ (z : List ℕ). GoneOn cells ss z c.go_on.new.1.1.1.0 c.go_on.result)
-    (part_is (now s.args.standing) Size.standing_numbers) (c.go_on.ensures cells ss h)
+    (part_is s.args.standing.now Size.standing_numbers) (c.go_on.ensures cells ss h)
 
 pub runs_from_spec : {M : Type 1} → statement M
 runs_from_spec =
     tie.close
-    (tie.spec
-    (λ c. omega (arith, long c.before.before.before))
-    (λ c. omega (arith, long c.before.before.before))
-    (λ c. search needs)
-    go-on_requires
-    returns)
+    (tie.spec (λ c. omega (arith, long c.before.before.before)) (λ c. omega (arith, long c.before.before.before)) (λ c. search rules) go-on_requires returns)

@@ -1,5 +1,5 @@
 -- `place_pads` marks one pad after the other.
-use Rattle.common_laws.proofs.Base.{Bool, true, List, ◌≡◌, refl, sym, subst, ◌∙◌, ℕ, ◌-◌, ◌≤◌, add-one, arith, length, get_or, take, drop, length-drop, get_or-drop, now, needs}
+use Rattle.common_laws.proofs.Base.{Bool, true, List, ◌≡◌, refl, sym, subst, ◌∙◌, ℕ, ◌-◌, ◌≤◌, add-one, arith, length, get_or, take, drop, length-drop, get_or-drop, rules}
 use Rattle.common_laws.proofs.Base.{not-true, not-false}
 use Rattle.sizes.specs.Sizes as Size
 use Rattle.library_table.specs.Cells.{Cell}
@@ -11,96 +11,82 @@ use Rattle.standing_table.proofs.Pads.{tried-none, tried-next, tried-stopped}
 use Rattle.standing_table.proofs.texts.place_pads.Statement.{statement}
 use Rattle.standing_table.proofs.texts.place_pads.Tie as tie
 
-abbrev invariant_loop : tie.invariant-loop
+abbrev invariant_loop : tie.invariant-loop-i
 invariant_loop library netlist₀ standing count i₀ netlist i =
     (i ≤ count)
     × (length netlist ≡ length netlist₀)
     × ((cells : List Cell) (ss : List Statement) → Holds library netlist₀ cells ss
     → PadsTried library cells ss (take i (drop Size.pads_at standing)) netlist true)
 
-abbrev decreases_loop : tie.decreases-loop
+abbrev decreases_loop : tie.decreases-loop-i
 decreases_loop library netlist₀ standing count i₀ netlist i = count - i
 
 -- ---- the places of the code that the answers speak of
 
-abbrev begins : tie.At-loop invariant_loop decreases_loop → tie.Start invariant_loop decreases_loop
+abbrev begins : tie.At-loop-i invariant_loop decreases_loop → tie.Start invariant_loop decreases_loop
 begins c = c.before.before.before.before
 
-abbrev walking : tie.After-place invariant_loop decreases_loop → tie.At-loop invariant_loop decreases_loop
+abbrev walking : tie.After-place invariant_loop decreases_loop → tie.At-loop-i invariant_loop decreases_loop
 walking c = c.before.before.before.before.before
 
-abbrev placing : tie.After-slice-known2 invariant_loop decreases_loop → tie.After-place invariant_loop decreases_loop
+abbrev placing : tie.After-slice_known-in-loop-i-1 invariant_loop decreases_loop → tie.After-place invariant_loop decreases_loop
 placing c = c.before.before
 
-module _ (c : tie.At-loop invariant_loop decreases_loop) where
+module _ (c : tie.At-loop-i invariant_loop decreases_loop) where
   abbrev pads : List ℕ
-  pads = drop Size.pads_at (now (begins c).args.standing)
+  pads = drop Size.pads_at ((begins c).args.standing.now)
 
   long : Size.pads ≤ length pads
-  long = omega (arith, length-drop Size.pads_at (now (begins c).args.standing), (begins c).requires.1)
+  long = omega (arith, length-drop Size.pads_at ((begins c).args.standing.now), (begins c).requires.1)
 
 -- The pad of the turn.
 module _ (c : tie.After-place invariant_loop decreases_loop) (cells : List Cell) (ss : List Statement) where
   abbrev Tried : Bool → Type 0
   Tried b =
       let w = walking c in
-      PadTried (now (begins w).args.library) cells (padded ss (take w.loop.i (pads w))) (get_or (pads w) w.loop.i 0) c.place.new.1.0 b
+      PadTried ((begins w).args.library.now) cells (padded ss (take w.loop-i.i (pads w))) (get_or (pads w) w.loop-i.i 0) c.place.new.1.0 b
 
-  tried : Holds (now (begins (walking c)).args.library) (now (begins (walking c)).args.netlist) cells ss → Tried c.place.result
+  tried : Holds ((begins (walking c)).args.library.now) ((begins (walking c)).args.netlist.now) cells ss → Tried c.place.result
   tried h =
       let w = walking c in
       let a = (begins w).args in
-      let e : c.before.wide.result ≡ get_or (pads w) w.loop.i 0 =
-      c.before.wide.ensures ∙ c.before.before.word.ensures ∙ sym (get_or-drop Size.pads_at (now a.standing) w.loop.i 0) in
-      subst (λ (l : ℕ). PadTried (now a.library) cells (padded ss (take w.loop.i (pads w))) l c.place.new.1.0 c.place.result) e
-      (c.place.ensures cells (padded ss (take w.loop.i (pads w))) ((w.loop.inv.2 cells ss h).holds refl))
+      let e : c.wide.result ≡ get_or (pads w) w.loop-i.i 0 =
+      c.wide.ensures ∙ c.word.ensures ∙ sym (get_or-drop Size.pads_at a.standing.now w.loop-i.i 0) in
+      subst (λ (l : ℕ). PadTried a.library.now cells (padded ss (take w.loop-i.i (pads w))) l c.place.new.1.0 c.place.result) e
+      (c.place.ensures cells (padded ss (take w.loop-i.i (pads w))) ((w.loop-i.invariant.2 cells ss h).holds refl))
 
-same_length : tie.Need-same-length invariant_loop decreases_loop
-same_length c = let p = placing c.before in p.place.kept.1.0 ∙ (walking p).loop.inv.1
+same_length : tie.Need-shape_of-netlist-then-not-place invariant_loop decreases_loop
+same_length c = let p = placing c.before in p.place.auto.1.0 ∙ (walking p).loop-i.invariant.1
 
-returns : tie.Need-returns invariant_loop decreases_loop
+returns : tie.Need-returns-then-not-place invariant_loop decreases_loop
 returns c cells ss h =
     let p = placing c.before in
     let w = walking p in
     let a = (begins w).args in
-    tried-stopped (now a.library) cells ss (pads w) w.loop.i (omega (arith, long w, (begins w).pre.0, p.before.before.before.before.loop-test.taken)) w.loop.netlist _
-    (w.loop.inv.2 cells ss h) a.count p.before.before.before.before.loop-test.taken (omega (arith, long w, (begins w).pre.0))
-    (subst (Tried p cells ss) (not-true p.place.result c.if1.true) (tried p cells ss h))
+    tried-stopped a.library.now cells ss (pads w) w.loop-i.i (omega (arith, long w, (begins w).requires.0, p.loop-i-test.true)) w.loop-i.netlist _
+    (w.loop-i.invariant.2 cells ss h) a.count p.loop-i-test.true (omega (arith, long w, (begins w).requires.0))
+    (subst (Tried p cells ss) c.if-not-place.true (tried p cells ss h))
 
-loop_again : tie.Need-loop-preserved invariant_loop decreases_loop
+loop_again : tie.Need-loop-i-preserved invariant_loop decreases_loop
 loop_again c =
     let p = placing c.before in
     let w = walking p in
     let a = (begins w).args in (
-      omega (arith, p.before.before.before.before.loop-test.taken),
-      p.place.kept.1.0 ∙ w.loop.inv.1,
+      omega (arith, p.loop-i-test.true),
+      p.place.auto.1.0 ∙ w.loop-i.invariant.1,
       λ cells ss h.
-          rw (add-one w.loop.i)
-          (tried-next (now a.library) cells ss (pads w) w.loop.i (omega (arith, long w, (begins w).pre.0, p.before.before.before.before.loop-test.taken)) w.loop.netlist _
-          (w.loop.inv.2 cells ss h) (subst (Tried p cells ss) (not-false p.place.result c.if1.false) (tried p cells ss h))),
+          rw (add-one w.loop-i.i)
+          (tried-next a.library.now cells ss (pads w) w.loop-i.i (omega (arith, long w, (begins w).requires.0, p.loop-i-test.true)) w.loop-i.netlist _
+          (w.loop-i.invariant.2 cells ss h) (subst (Tried p cells ss) c.if-not-place.false (tried p cells ss h))),
     )
 
-returns_2 : tie.Need-returns-2 invariant_loop decreases_loop
+returns_2 : tie.Need-returns invariant_loop decreases_loop
 returns_2 c cells ss h =
     let w = c.before in
-    let e : w.loop.i ≡ (begins w).args.count = omega (arith, w.loop.invariant.0, c.loop-test.false) in
-    subst (λ (n : ℕ). PadsTried (now (begins w).args.library) cells ss (take n (pads w)) w.loop.netlist true) e (w.loop.invariant.2 cells ss h)
+    let e : w.loop-i.i ≡ (begins w).args.count = omega (arith, w.loop-i.invariant.0, c.loop-i-test.false) in
+    subst (λ (n : ℕ). PadsTried ((begins w).args.library.now) cells ss (take n (pads w)) w.loop-i.netlist true) e (w.loop-i.invariant.2 cells ss h)
 
-pub place-pads_spec : {M : Type 1} → statement M
-place-pads_spec =
+pub place_pads_spec : {M : Type 1} → statement M
+place_pads_spec =
     tie.close
-    (tie.spec
-    invariant_loop
-    decreases_loop
-    (λ c. (omega arith, refl, λ cells ss h. tried-none (now c.before.before.before.args.library) cells ss (now c.before.before.before.args.netlist) h))
-    (λ c. omega arith)
-    (λ c κs. search needs)
-    (λ c κs. search needs)
-    (λ c κs. search needs)
-    same_length
-    returns
-    (λ c. omega arith)
-    (λ c. omega arith)
-    loop_again
-    (λ c. c.before.loop.invariant.1)
-    returns_2)
+    (tie.spec invariant_loop decreases_loop (λ c. (omega arith, refl, λ cells ss h. tried-none c.args.library.now cells ss c.args.netlist.now h)) (λ c. omega arith) (λ c κs. search rules) (λ c κs. search rules) (λ c κs. search rules) same_length returns (λ c. omega arith) (λ c. omega arith) loop_again (λ c. c.loop-i.invariant.1) returns_2)

@@ -1,5 +1,5 @@
 -- `read_pad`: what stands, and one pad more.
-use Rattle.common_laws.proofs.Base.{subst, now, needs}
+use Rattle.common_laws.proofs.Base.{subst, rules}
 use Rattle.reading.specs.Verdict.{verdict_read}
 use Rattle.demands.specs.Outcome.{Given, given_texts}
 use Rattle.standing_table.specs.Parts.{HeldRead}
@@ -9,48 +9,37 @@ use Rattle.standing_table.proofs.texts.read_pad.Tie as tie
 
 -- ---- the places of the code that the answers speak of
 
-abbrev begins : tie.After-read-held → tie.Start
+abbrev begins : tie.After-read_held-held → tie.Start
 begins c = c.before.before.before.before.before.before.before.before
 
-abbrev reads : tie.After-slice-known4 → tie.After-read-held
+abbrev reads : tie.After-slice_known-4-1 → tie.After-read_held-held
 reads c = c.before.before.before.before
 
-abbrev told : tie.After-place → tie.After-enum-told2
+abbrev told : tie.After-place-marked → tie.In-Accepted
 told c = c.before.before.before
 
-abbrev places : tie.After-slice-known5 → tie.After-place
+abbrev places : tie.After-slice_known-in-Accepted-1 → tie.After-place-marked
 places c = c.before.before
 
 abbrev given : tie.Start → Given
-given s = given_texts (now s.args.lib) (now s.args.net)
+given s = given_texts s.args.lib.now s.args.net.now
 
-returns : tie.Need-returns
+returns : tie.Need-returns-in-Refused
 returns c =
-    let r = reads c.before.before in
+    let r = reads c.before in
     let s = begins r in
-    pad-kept (given s) (now s.args.standing) s.args.line s.args.stale _ _ r.read_held.result _ c.enum_told.given.1 r.read_held.ensures
+    pad-kept (given s) s.args.standing.now s.args.line s.args.stale _ _ r.read_held-held.result _ c.in-Refused.is r.read_held-held.ensures
 
-returns_2 : tie.Need-returns-2
+returns_2 : tie.Need-returns-in-Accepted
 returns_2 c =
     let p = places c.before in
-    let r = reads (told p).before.before in
+    let r = reads (told p).before in
     let s = begins r in
-    pad-judged (given s) (now s.args.standing) s.args.line s.args.stale _ _ _
-    (subst (HeldRead (given s) (now s.args.standing) _ _) (accepted_is r.read_held.result (search needs)) r.read_held.ensures)
-    p.place.result p.place.ensures (verdict_read c.judge.result) c.judge.ensures
+    pad-judged (given s) s.args.standing.now s.args.line s.args.stale _ _ _
+    (subst (HeldRead (given s) s.args.standing.now _ _) (accepted_is r.read_held-held.result (search rules)) r.read_held-held.ensures)
+    p.place-marked.result p.place-marked.ensures (verdict_read c.judge.result) c.judge.ensures
 
-pub read-pad_spec : {M : Type 1} → statement M
-read-pad_spec =
+pub read_pad_spec : {M : Type 1} → statement M
+read_pad_spec =
     tie.close
-    (tie.spec
-    (λ c κs. c.before.before.before.before.before.before.before.requires)
-    (λ c. search needs)
-    (λ c. search needs)
-    (λ c κs. search needs)
-    (λ c κs. search needs)
-    (λ c. search needs)
-    (λ c. search needs)
-    returns
-    (λ c. search needs)
-    (λ c. search needs)
-    returns_2)
+    (tie.spec (λ c κs. c.requires) (λ c. search rules) (λ c. search rules) (λ c κs. search rules) (λ c κs. search rules) (λ c. search rules) (λ c. search rules) returns (λ c. search rules) (λ c. search rules) returns_2)

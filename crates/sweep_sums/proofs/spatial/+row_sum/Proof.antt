@@ -22,8 +22,8 @@ row_sum-at t = and 1 row-sum-kinds.ps (is 1 row-sum-kinds.ps μ-row-sum t) row-s
 abbrev row_sum-below : ℕ → In 1 row-sum-kinds.ps
 row_sum-below t = and 1 row-sum-kinds.ps (falls 1 row-sum-kinds.ps ◌<◌ μ-row-sum t) row-sum.Pre
 
-pub +row-sum-spec : {M : Type 1} → statement M
-+row-sum-spec = close μ-row-sum λ t. row-sum-lts.spec (
+pub +row_sum_spec : {M : Type 1} → statement M
++row_sum_spec = close μ-row-sum λ t. row-sum-lts.spec (
   lowest-reads.Asked,
   lowest-reads.Learnt,
   wide-reads.Asked,

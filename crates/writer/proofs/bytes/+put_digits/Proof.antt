@@ -1,6 +1,6 @@
 -- `put_digits` stores a number's digits: those above the last, by the call of itself, and the last. The measure is the
 -- number.
-use Rattle.common_laws.proofs.Base.{◌∙◌, arith, needs, ℕ, ◌<◌}
+use Rattle.common_laws.proofs.Base.{◌∙◌, arith, rules, ℕ, ◌<◌}
 use Rattle.writer.proofs.Decimal.{decimal-one, decimal-more}
 use Rattle.writer.proofs.Steps.{put_then}
 use borrow.Fn.Kinds.{In}
@@ -23,8 +23,8 @@ abbrev put-digits-below : ℕ → In 1 put-digits-kinds.ps
 put-digits-below t =
     and 1 put-digits-kinds.ps (falls 1 put-digits-kinds.ps ◌<◌ μ-put-digits t) put-digits.Pre
 
-pub +put-digits-spec : {M : Type 1} → statement M
-+put-digits-spec = close μ-put-digits λ t. put-digits-lts.spec (
+pub +put_digits_spec : {M : Type 1} → statement M
++put_digits_spec = close μ-put-digits λ t. put-digits-lts.spec (
   put-byte-reads.Asked,
   put-byte-reads.Learnt,
   put-digits-below t,
@@ -34,9 +34,9 @@ pub +put-digits-spec : {M : Type 1} → statement M
     put-digits.Post
     (λ c. omega arith)
     (λ c. omega arith)
-    (λ c κs. search needs)
+    (λ c κs. search rules)
     (λ c κs. (omega arith, tt))
-    (λ c κs. search needs)
+    (λ c κs. search rules)
     (λ c. c.before.before.put_byte.auto.0)
     (λ c.
     let p = c.before.before in

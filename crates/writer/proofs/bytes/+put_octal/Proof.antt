@@ -1,6 +1,6 @@
 -- `put_octal` stores a number's digits: those above the last, by the call of itself, and the last. The measure is the
 -- number.
-use Rattle.common_laws.proofs.Base.{◌∙◌, arith, needs, ℕ, ◌<◌}
+use Rattle.common_laws.proofs.Base.{◌∙◌, arith, rules, ℕ, ◌<◌}
 use Rattle.writer.proofs.Octal.{octal_one, octal_more}
 use Rattle.writer.proofs.Steps.{put_then}
 use borrow.Fn.Kinds.{In}
@@ -23,8 +23,8 @@ abbrev put_octal_below : ℕ → In 1 put-octal-kinds.ps
 put_octal_below t =
     and 1 put-octal-kinds.ps (falls 1 put-octal-kinds.ps ◌<◌ μ-put-octal t) put-octal.Pre
 
-pub +put-octal-spec : {M : Type 1} → statement M
-+put-octal-spec = close μ-put-octal λ t. put-octal-lts.spec (
+pub +put_octal_spec : {M : Type 1} → statement M
++put_octal_spec = close μ-put-octal λ t. put-octal-lts.spec (
   put-byte-reads.Asked,
   put-byte-reads.Learnt,
   put_octal_below t,
@@ -34,9 +34,9 @@ pub +put-octal-spec : {M : Type 1} → statement M
     put-octal.Post
     (λ c. omega arith)
     (λ c. omega arith)
-    (λ c κs. search needs)
+    (λ c κs. search rules)
     (λ c κs. (omega arith, tt))
-    (λ c κs. search needs)
+    (λ c κs. search rules)
     (λ c. c.before.before.put_byte.auto.0)
     (λ c.
     let p = c.before.before in
