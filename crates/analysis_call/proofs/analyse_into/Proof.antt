@@ -37,7 +37,7 @@ returns c =
     let f = finishes c in
     let r = reads f.before in
     let s = begins r in
-    promised (given s) (lent s) (texts-checked _ _) _ _ r.read_texts-progress.auto.1.1.1.0 r.read_texts-progress.auto.1.1.1.1.0 r.read_texts-progress.result
+    promised (given s) (lent s) (texts-checked _ _) _ _ r.read_texts-progress.auto.library r.read_texts-progress.auto.netlist r.read_texts-progress.result
     (texts-reached s.args.lib.now s.args.net.now (lent s) _ _ r.read_texts-progress.result r.read_texts-progress.ensures) _ _ f.finish.ensures
 
 pub analyse_into_spec : {M : Type 1} → statement M

@@ -47,7 +47,7 @@ read-lines_requires c κs =
 -- What is read stands before what stood past the published size.
 filled : (c : tie.After-read_lines-cells)
     → let a = (begins (accepted (clears (empties c)))).args in
-    (cells : List Cell) → library a.lib.now ≡ read cells → c.read_lines-cells.new.1.0 ≡ library_words cells ++ drop Size.library a.library.now
+    (cells : List Cell) → library a.lib.now ≡ read cells → c.read_lines-cells.new.table ≡ library_words cells ++ drop Size.library a.library.now
 filled c cells e =
     let k = empties c in
     c.read_lines-cells.ensures.1 cells e

@@ -35,7 +35,7 @@ read-all_requires c κs =
     let k = c.before.before.before in
     ((fitting k).0, subst NoStatements (sym k.clear_lent.ensures) (cleared-none ((begins (unrefused k)).args.netlist.now) (fitting k).1))
 
-past : (k : tie.After-clear_lent) → drop Size.netlist k.clear_lent.new.0 ≡ drop Size.netlist ((begins (unrefused k)).args.netlist.now)
+past : (k : tie.After-clear_lent) → drop Size.netlist k.clear_lent.new.table ≡ drop Size.netlist ((begins (unrefused k)).args.netlist.now)
 past k = ap (drop Size.netlist) k.clear_lent.ensures ∙ cleared-past ((begins (unrefused k)).args.netlist.now) (fitting k).1
 
 returns : tie.Need-returns-in-AtEntry

@@ -34,8 +34,8 @@ gate-fits s = s.requires.0.ready.tables_fit.gates s.args.gate s.requires.0.insid
 pins-are : (c : tie.After-lines_of-lines) → c.wide-pins.result ≡ gate_pins (began c).args.library.now (began c).args.netlist.now (began c).args.gate
 pins-are c = rw (celled c).cell_place-cell.ensures at c.wide-pins.ensures
 
-tied_is : (c : tie.After-is_tied-wired) → let a = (began c.before).args in c.is_Tied.result ≡ gate_tied a.library.now a.netlist.now a.gate
-tied_is c = let s = began c.before in c.is_Tied.ensures _ _ _ s.requires.0.ready.linked.tied s.requires.0.inside
+tied_is : (c : tie.After-is_tied-wired) → let a = (began c.before).args in c.is_tied-wired.result ≡ gate_tied a.library.now a.netlist.now a.gate
+tied_is c = let s = began c.before in c.is_tied-wired.ensures _ _ _ s.requires.0.ready.linked.tied s.requires.0.inside
 
 group_few : (c : tie.After-visit_group) → c.visit_group.result ≤ 1
 unfolding by_role pick
@@ -63,7 +63,7 @@ module _ (g : tie.After-visit_group) (wired : Bool) (costs : List ℕ) where
 
   least-offer : let x = lined g.before in
       let a = (began x).args in
-      (told g.before).is_Tied.result ≡ wired → Gathered (role_columns 0 x.wide-pins.result) 0 x.lines_of-lines.result x.wide-pins.result a.numbers.now costs
+      (told g.before).is_tied-wired.result ≡ wired → Gathered (role_columns 0 x.wide-pins.result) 0 x.lines_of-lines.result x.wide-pins.result a.numbers.now costs
       → least costs (group_columns (read_row wired x.lines_of-lines.result x.wide-pins.result) a.library.now (group_at g)) ≡ gate_offer a.library.now a.netlist.now a.numbers.now a.gate a.value
   least-offer e =
       let t = told g.before in

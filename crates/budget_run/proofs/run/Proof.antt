@@ -39,7 +39,7 @@ looping c = c.before.before.before.before
 
 ready : (c : tie.After-link invariant_loop decreases_loop)
     → let a = (began c).args in
-    TablesReady a.library.now a.netlist.now c.link.new.1.1.0
+    TablesReady a.library.now a.netlist.now c.link.new.links
 ready c = record { tables_fit = fit (began c).requires.holds; linked = c.link.ensures }
 
 loop-holds : tie.Need-loop-steps-init invariant_loop decreases_loop

@@ -56,7 +56,7 @@ loop_again c =
     let a = (starts l.before).args in (
       omega arith,
       l.loop-gate.invariant.1,
-      j.judge.auto.1.1.0 ∙ l.loop-gate.invariant.2,
+      j.judge.auto.known ∙ l.loop-gate.invariant.2,
       j.judge.ensures.still,
       generated-on a.library.now a.netlist.now n l.loop-gate.gate (omega arith) k.cell_of.ensures j.judge.ensures.answer c.if-not-judge.false
           ∙ l.loop-gate.invariant.4,

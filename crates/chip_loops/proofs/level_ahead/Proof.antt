@@ -22,8 +22,8 @@ loop_again c =
     let f = c.before.before.before.before in
     let v = f.loop-gate.invariant in (
       v.0,
-      f.level_from.auto.1.1.1.0 ∙ v.1,
-      f.level_from.auto.1.1.1.1.0 ∙ v.2,
+      f.level_from.auto.waiting ∙ v.1,
+      f.level_from.auto.behind ∙ v.2,
       ahead-both _ v.3 f.level_from.ensures,
     )
 

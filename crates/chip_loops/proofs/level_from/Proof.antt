@@ -42,16 +42,16 @@ loop_again : tie.Need-loop-top-preserved invariant_loop decreases_loop
 loop_again c =
     let w = c.before.before.before.before.before.before in
     let v = (turns w).loop-top.invariant in
-    (ahead-both _ v.0 w.wake_one-top.ensures, w.wake_one-top.auto.1.1.1.0 ∙ v.1, w.wake_one-top.auto.1.1.1.1.0 ∙ v.2)
+    (ahead-both _ v.0 w.wake_one-top.ensures, w.wake_one-top.auto.waiting ∙ v.1, w.wake_one-top.auto.behind ∙ v.2)
 
 same-length_4 : tie.Need-shape_of-marks invariant_loop decreases_loop
-same-length_4 c = let l = c.before in ahead-size _ l.loop-top.invariant.0 ∙ (looks l).level_or_wait.auto.1.1.0
+same-length_4 c = let l = c.before in ahead-size _ l.loop-top.invariant.0 ∙ (looks l).level_or_wait.auto.marks
 
 same-length_5 : tie.Need-shape_of-waiting invariant_loop decreases_loop
-same-length_5 c = let l = c.before in l.loop-top.invariant.1 ∙ (looks l).level_or_wait.auto.1.1.1.0
+same-length_5 c = let l = c.before in l.loop-top.invariant.1 ∙ (looks l).level_or_wait.auto.waiting
 
 same-length_6 : tie.Need-shape_of-behind invariant_loop decreases_loop
-same-length_6 c = let l = c.before in l.loop-top.invariant.2 ∙ (looks l).level_or_wait.auto.1.1.1.1.0
+same-length_6 c = let l = c.before in l.loop-top.invariant.2 ∙ (looks l).level_or_wait.auto.behind
 
 returns_2 : tie.Need-returns invariant_loop decreases_loop
 returns_2 c = let l = c.before in ahead-both _ (looks l).level_or_wait.ensures l.loop-top.invariant.0

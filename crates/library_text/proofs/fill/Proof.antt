@@ -26,7 +26,7 @@ accepted c = c.before.before.before
 abbrev stopped : tie.In-Refused → tie.After-read_lines-answer
 stopped c = c.before.before.before
 
-kept : (c : tie.After-clear) → drop Size.library c.clear.new.0 ≡ drop Size.library (begun c).args.table.now
+kept : (c : tie.After-clear) → drop Size.library c.clear.new.table ≡ drop Size.library (begun c).args.table.now
 kept c = ap (drop Size.library) c.clear.ensures ∙ cleared-past (begun c).args.table.now (begun c).requires.1
 
 read-lines_requires : tie.Need-read_lines-answer-requires
@@ -51,8 +51,8 @@ returns_2 c =
     let x = k.in-Refused.field-0 in
     let told : refused x.number x.line ≡ done_read (library s) = sym (ap verdict_read k.in-Refused.is) ∙ r.read_lines-answer.ensures.0 in
     let stop : library s ≡ refused x.number x.line = done_refused (library s) x.number x.line told in
-    let long : length r.read_lines-answer.new.1.0 ≡ length (begun (cleared r)).args.table.now = r.read_lines-answer.auto.1.0 ∙ (cleared r).clear.auto.0 in
-    (r.read_lines-answer.ensures.0, c.clear-in-Refused.ensures ∙ cleared-all r.read_lines-answer.new.1.0 ∙ rw (stop, long) refl)
+    let long : length r.read_lines-answer.new.table ≡ length (begun (cleared r)).args.table.now = r.read_lines-answer.auto.table ∙ (cleared r).clear.auto.table in
+    (r.read_lines-answer.ensures.0, c.clear-in-Refused.ensures ∙ cleared-all r.read_lines-answer.new.table ∙ rw (stop, long) refl)
 
 pub fill_spec : {M : Type 1} → statement M
 fill_spec =

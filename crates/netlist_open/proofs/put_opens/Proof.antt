@@ -28,7 +28,7 @@ loop_again c =
     let l = at.loop-row in
     let a = at.args in (
       omega arith,
-      p.put_one-next.auto.0 ∙ l.invariant.1,
+      p.put_one-next.auto.copy ∙ l.invariant.1,
       rw (add-one l.row, opens-more (words_undeclared a.netlist.now) l.row) (put_then l.invariant.2 p.put_one-next.ensures),
     )
 

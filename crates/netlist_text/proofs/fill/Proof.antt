@@ -43,8 +43,8 @@ returns_2 c cells lib =
     let k = clears r in
     let s = begins k in
     whole_refused _ s.args.table.now _ r.read_all-answer.result _ (r.read_all-answer.ensures cells lib) _ t.in-Refused.is _
-    (c.clear-in-Refused.ensures ∙ cleared-all r.read_all-answer.new.1.1.1.0
-    ∙ ap (λ (n : ℕ). replicate n 0) (r.read_all-answer.auto.1.1.1.0 ∙ k.clear.auto.0))
+    (c.clear-in-Refused.ensures ∙ cleared-all r.read_all-answer.new.table
+    ∙ ap (λ (n : ℕ). replicate n 0) (r.read_all-answer.auto.table ∙ k.clear.auto.table))
 
 pub fill_spec : {M : Type 1} → statement M
 fill_spec =

@@ -76,7 +76,7 @@ decided : (c : tie.After-read_line-cause invariant_loop decreases_loop) (cells :
     (lib : CellsTold (begun w).args.library.now cells)
     → let so_far = w.loop-at.invariant.3 cells lib in
     Decided cells so_far.statements (statement_of (begun w).args.rules cells (fields (part 10 (text w) w.loop-at.at)))
-    (drop Size.netlist (before w)) c.read_line-cause.result c.read_line-cause.new.1.1.1.0
+    (drop Size.netlist (before w)) c.read_line-cause.result c.read_line-cause.new.table
 decided c cells lib =
     let w = walking (ended c).before in
     let so_far = w.loop-at.invariant.3 cells lib in
@@ -102,7 +102,7 @@ returns c cells lib =
 same-length_2 : tie.Need-shape_of-table-then-cause-ne0 invariant_loop decreases_loop
 same-length_2 c =
     let r = read c.before.before in
-    r.read_line-cause.auto.1.1.1.0 ∙ (walking (ended r).before).loop-at.invariant.2
+    r.read_line-cause.auto.table ∙ (walking (ended r).before).loop-at.invariant.2
 
 returns_2 : tie.Need-returns-then-cause-ne0 invariant_loop decreases_loop
 returns_2 c cells lib =
@@ -130,7 +130,7 @@ loop_again c =
     let l = w.loop-at in (
       (ended r).if-n-end.false,
       line-number (text w) l.at f.after-end.result l.invariant.0 (behind f) l.number l.invariant.1,
-      r.read_line-cause.auto.1.1.1.0 ∙ l.invariant.2,
+      r.read_line-cause.auto.table ∙ l.invariant.2,
       λ cells lib. reading-more (l.invariant.3 cells lib) (whole (ended r)) (decided r cells lib) (behind f) c.if-cause-ne0.false,
     )
 

@@ -11,7 +11,7 @@ use Rattle.plan_calls.proofs.put_plan.Tie as tie
 abbrev begins : tie.After-write_plan_into-written → tie.Start
 begins c = c.before.before.before.before.before.before.before
 
-room : (c : tie.After-show-arg-1) → Size.report_bytes ≡ length c.write_plan_into-written.new.1.1.1.1.1.0
+room : (c : tie.After-show-arg-1) → Size.report_bytes ≡ length c.write_plan_into-written.new.text
 room c = search rules
 
 returns : tie.Need-returns

@@ -58,7 +58,7 @@ returns_2 c =
     let s = begins r in
     call_later (given s) (lent s) s.args.line s.args.value s.args.kind (texts-checked _ _) _ _ r.read_texts-progress.result
     (texts-reached s.args.lib.now s.args.net.now (lent s) _ _ r.read_texts-progress.result r.read_texts-progress.ensures) _ (search rules)
-    r.read_texts-progress.auto.1.1.1.0 r.read_texts-progress.auto.1.1.1.1.0 _ k.clear_all.ensures
+    r.read_texts-progress.auto.library r.read_texts-progress.auto.netlist _ k.clear_all.ensures
 
 returns_3 : tie.Need-returns-in-Unrefused
 returns_3 c =

@@ -89,7 +89,7 @@ more : (c : tie.After-one_sweep-changed invariant_loop decreases_loop)
     let b = started l in
     let a = (began b).args in
     let n = 2 * (counted b).count-gates.result + 1 - l.loop-left.false in
-    Stands a.kind a.library.now a.netlist.now (after a.kind a.library.now a.netlist.now (suc n)) c.one_sweep-changed.new.1.1.1.1.1.0 c.one_sweep-changed.new.1.1.1.1.1.1.0
+    Stands a.kind a.library.now a.netlist.now (after a.kind a.library.now a.netlist.now (suc n)) c.one_sweep-changed.new.numbers c.one_sweep-changed.new.marks
     × ((after a.kind a.library.now a.netlist.now (suc n)).time ≡ l.loop-left.clock + 2 * get_or a.netlist.now 0 0)
 more c =
     let l = looping c in

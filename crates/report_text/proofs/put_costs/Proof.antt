@@ -31,7 +31,7 @@ loop_again c =
     let l = at.loop-k in
     let a = at.args in (
       omega arith,
-      p.put_cost-next.auto.0 ∙ b.put_byte-cost.auto.0 ∙ l.invariant.1,
+      p.put_cost-next.auto.report ∙ b.put_byte-cost.auto.buffer ∙ l.invariant.1,
       rw (add-one l.k, costs-more a.numbers.now l.k a.place, ← w.word.ensures)
           (put_then l.invariant.2 (put_then b.put_byte-cost.ensures p.put_cost-next.ensures)),
     )

@@ -36,7 +36,7 @@ loop_again c =
     let l = at.loop-row in
     let a = (begun at).args in (
       omega arith,
-      p.put_row-next.auto.0 ∙ l.invariant.1,
+      p.put_row-next.auto.report ∙ l.invariant.1,
       rw (add-one l.row, lines_more (marked a.netlist.now) a.numbers.now l.row 1, add_comm 1 l.row)
           (put_then l.invariant.2 p.put_row-next.ensures),
     )

@@ -23,7 +23,7 @@ code_requires c κs =
     let k = planned m in
     let a = (begins k).args in
     plan-line a.lib.now a.net.now a.text.now _ a.line a.value a.kind k.write_plan_into-written.result k.write_plan_into-written.ensures
-    k.write_plan_into-written.auto.1.1.1.1.1.0 _ m.limit_plan-told.result m.limit_plan-told.ensures
+    k.write_plan_into-written.auto.text _ m.limit_plan-told.result m.limit_plan-told.ensures
 
 returns : tie.Need-returns
 unfolding own_tables
@@ -32,7 +32,7 @@ returns c =
     let k = planned m in
     let a = (begins k).args in
     plan-coded a.lib.now a.net.now a.text.now _ a.line a.value a.kind k.write_plan_into-written.result k.write_plan_into-written.ensures
-    k.write_plan_into-written.auto.1.1.1.1.1.0 _ m.limit_plan-told.result m.limit_plan-told.ensures c.code.result c.code.ensures
+    k.write_plan_into-written.auto.text _ m.limit_plan-told.result m.limit_plan-told.ensures c.code.result c.code.ensures
 
 pub scoap_plan_spec : {M : Type 1} → statement M
 scoap_plan_spec =

@@ -48,15 +48,15 @@ sized c = c.if-short.false
 accepted : (c : tie.In-Accepted)
     → let r = reads c.before in
     let s = starts r in
-    PadRead (given s) s.args.standing.now s.args.line false r.read_pad-checked.new.1.1.1.1.1.0 r.read_pad-checked.new.1.1.1.1.1.1.0 (read tt)
+    PadRead (given s) s.args.standing.now s.args.line false r.read_pad-checked.new.library r.read_pad-checked.new.netlist (read tt)
 accepted c =
     let r = reads c.before in
     let s = starts r in
-    subst (PadRead (given s) s.args.standing.now s.args.line false r.read_pad-checked.new.1.1.1.1.1.0 r.read_pad-checked.new.1.1.1.1.1.1.0)
+    subst (PadRead (given s) s.args.standing.now s.args.line false r.read_pad-checked.new.library r.read_pad-checked.new.netlist)
     (accepted_is r.read_pad-checked.result (search rules)) r.read_pad-checked.ensures
 
 held : (c : tie.In-Accepted) → let r = reads c.before in
-    Ready r.read_pad-checked.new.1.1.1.1.1.0 r.read_pad-checked.new.1.1.1.1.1.1.0 (drop Size.standing_numbers ((starts r).args.standing.now))
+    Ready r.read_pad-checked.new.library r.read_pad-checked.new.netlist (drop Size.standing_numbers ((starts r).args.standing.now))
 held c =
     let r = reads c.before in
     let s = starts r in
@@ -79,8 +79,8 @@ returns_2 c =
     let a = s.args in
     let x = c.in-Refused.r in
     ask-stopped (given s) (texts-checked _ _) a.standing.now a.line a.answer.now (sized (fits r.before))
-    r.read_pad-checked.new.1.1.1.1.1.0 r.read_pad-checked.new.1.1.1.1.1.1.0 x.number x.line
-    (subst (PadRead (given s) a.standing.now a.line false r.read_pad-checked.new.1.1.1.1.1.0 r.read_pad-checked.new.1.1.1.1.1.1.0)
+    r.read_pad-checked.new.library r.read_pad-checked.new.netlist x.number x.line
+    (subst (PadRead (given s) a.standing.now a.line false r.read_pad-checked.new.library r.read_pad-checked.new.netlist)
     (refused_is r.read_pad-checked.result x (search rules)) r.read_pad-checked.ensures)
 
 returns_3 : tie.Need-returns-in-Accepted
@@ -92,11 +92,11 @@ returns_3 c =
     let r = reads t.before in
     let s = starts r in
     let a = s.args in
-    subst (λ (n : ℕ). AskPromised (given s) a.standing.now a.line a.answer.now k.hand_observed.new.1.0 (read n))
+    subst (λ (n : ℕ). AskPromised (given s) a.standing.now a.line a.answer.now k.hand_observed.new.answer (read n))
     (sym (c.wide.ensures ∙ c.word.ensures))
     (ask-answered (given s) (texts-checked _ _) a.standing.now a.line a.answer.now (sized (fits r.before))
-    r.read_pad-checked.new.1.1.1.1.1.0 r.read_pad-checked.new.1.1.1.1.1.1.0 (both_long a.standing.now a.answer.now (sized (fits r.before))).0
-    (accepted t) o.observe-observed.new.1.1.1.0 k.hand_observed.new.1.0 o.observe-observed.result o.observe-observed.ensures k.hand_observed.ensures)
+    r.read_pad-checked.new.library r.read_pad-checked.new.netlist (both_long a.standing.now a.answer.now (sized (fits r.before))).0
+    (accepted t) o.observe-observed.new.numbers k.hand_observed.new.answer o.observe-observed.result o.observe-observed.ensures k.hand_observed.ensures)
 
 pub ask_spec : {M : Type 1} → statement M
 ask_spec =

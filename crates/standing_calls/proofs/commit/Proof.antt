@@ -48,7 +48,7 @@ Told c said =
     let s = starts c in
     let a = s.args in
     PadRead (given s) a.standing.now a.line (not (eqb a.count (get_or a.standing.now 0 0)))
-    c.read_pad-checked.new.1.1.1.1.1.0 c.read_pad-checked.new.1.1.1.1.1.1.0 said
+    c.read_pad-checked.new.library c.read_pad-checked.new.netlist said
 
 told : (c : tie.After-read_pad-checked) → Told c (verdict_read c.read_pad-checked.result)
 told c =
@@ -56,7 +56,7 @@ told c =
     let a = s.args in
     subst
     (λ (n : ℕ).
-    PadRead (given s) a.standing.now a.line (not (eqb a.count n)) c.read_pad-checked.new.1.1.1.1.1.0 c.read_pad-checked.new.1.1.1.1.1.1.0
+    PadRead (given s) a.standing.now a.line (not (eqb a.count n)) c.read_pad-checked.new.library c.read_pad-checked.new.netlist
     (verdict_read c.read_pad-checked.result))
     (count (counts c)) c.read_pad-checked.ensures
 
@@ -81,7 +81,7 @@ returns_2 c =
     let a = s.args in
     let x = c.in-Refused.r in
     commit-stopped (given s) (texts-checked _ _) a.standing.now a.line a.count (long r)
-    r.read_pad-checked.new.1.1.1.1.1.0 r.read_pad-checked.new.1.1.1.1.1.1.0 x.number x.line
+    r.read_pad-checked.new.library r.read_pad-checked.new.netlist x.number x.line
     (subst (Told r) (refused_is r.read_pad-checked.result x (search rules)) (told r))
 
 returns_3 : tie.Need-returns-in-Accepted
@@ -94,11 +94,11 @@ returns_3 c =
     let a = s.args in
     let table = a.standing.now in
     let more : v.wide-pads.result + 1 ≡ suc (get_or table 0 0) = omega (arith, count v) in
-    subst (λ (n : ℕ). CommitPromised (given s) table a.line a.count p.put_pad.new.1.1.0 (read n)) (sym more)
+    subst (λ (n : ℕ). CommitPromised (given s) table a.line a.count p.put_pad.new.standing (read n)) (sym more)
     (commit-stored (given s) (texts-checked _ _) table a.line a.count (long r)
-    r.read_pad-checked.new.1.1.1.1.1.0 r.read_pad-checked.new.1.1.1.1.1.1.0
-    (accepted p.before) p.put_pad.new.1.1.0 p.put_pad.auto.1.1.0
-    (λ cells ss h. subst (λ (n : ℕ). StoresPad cells ss n a.line table p.put_pad.new.1.1.0) (count v) (p.put_pad.ensures cells ss h)))
+    r.read_pad-checked.new.library r.read_pad-checked.new.netlist
+    (accepted p.before) p.put_pad.new.standing p.put_pad.auto.standing
+    (λ cells ss h. subst (λ (n : ℕ). StoresPad cells ss n a.line table p.put_pad.new.standing) (count v) (p.put_pad.ensures cells ss h)))
 
 pub commit_spec : {M : Type 1} → statement M
 commit_spec =

@@ -33,11 +33,11 @@ given s = given_texts s.args.lib.now s.args.net.now
 accepted : (c : tie.In-Accepted)
     → let r = reads c.before in
     let s = starts (fits r.before) in
-    HeldRead (given s) s.args.standing.now r.read_held-held.new.1.1.1.0 r.read_held-held.new.1.1.1.1.0 (read tt)
+    HeldRead (given s) s.args.standing.now r.read_held-held.new.library r.read_held-held.new.netlist (read tt)
 accepted c =
     let r = reads c.before in
     let s = starts (fits r.before) in
-    subst (HeldRead (given s) s.args.standing.now r.read_held-held.new.1.1.1.0 r.read_held-held.new.1.1.1.1.0)
+    subst (HeldRead (given s) s.args.standing.now r.read_held-held.new.library r.read_held-held.new.netlist)
     (accepted_is r.read_held-held.result (search rules)) r.read_held-held.ensures
 
 returns : tie.Need-returns-then-standing-lt-STANDING
@@ -69,8 +69,8 @@ returns_3 c =
     let a = s.args in
     let y = c.in-Refused.r in
     held-stopped a.lib.now a.new-lib.now a.net.now a.standing.now f.if-standing-lt-STANDING.false f.if-new_lib-gt-TEXT_BYTES.false
-    r.read_held-held.new.1.1.1.0 r.read_held-held.new.1.1.1.1.0 y.number y.line
-    (subst (HeldRead (given s) a.standing.now r.read_held-held.new.1.1.1.0 r.read_held-held.new.1.1.1.1.0)
+    r.read_held-held.new.library r.read_held-held.new.netlist y.number y.line
+    (subst (HeldRead (given s) a.standing.now r.read_held-held.new.library r.read_held-held.new.netlist)
     (refused_is r.read_held-held.result y (search rules)) r.read_held-held.ensures)
 
 returns_4 : tie.Need-returns-in-Accepted

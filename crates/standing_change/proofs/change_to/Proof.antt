@@ -78,11 +78,11 @@ read_again_requires c κs =
 again : (c : tie.In-Accepted) → let r = reads c.before in
     let s = begins (differs r.before) in
     (cs : List Cell) → HoldsCells s.args.more.now cs
-    → ReadAgain s.args.net.now s.args.more.now cs s.args.standing.now r.read_again-again.new.1.1.0 (read tt)
+    → ReadAgain s.args.net.now s.args.more.now cs s.args.standing.now r.read_again-again.new.netlist (read tt)
 again c cs k =
     let r = reads c.before in
     let s = begins (differs r.before) in
-    subst (ReadAgain s.args.net.now s.args.more.now cs s.args.standing.now r.read_again-again.new.1.1.0)
+    subst (ReadAgain s.args.net.now s.args.more.now cs s.args.standing.now r.read_again-again.new.netlist)
     (accepted_is r.read_again-again.result (search rules)) (r.read_again-again.ensures cs k)
 
 begin_again_requires : tie.Need-begin_again-requires
@@ -97,8 +97,8 @@ returns_2 c x cs h k =
     let r = reads c.before in
     let s = begins (differs r.before) in
     let y = c.in-Refused.r in
-    again_refused _ _ _ _ x h _ cs k r.read_again-again.new.1.1.0 y.number y.line
-    (subst (ReadAgain s.args.net.now s.args.more.now cs s.args.standing.now r.read_again-again.new.1.1.0)
+    again_refused _ _ _ _ x h _ cs k r.read_again-again.new.netlist y.number y.line
+    (subst (ReadAgain s.args.net.now s.args.more.now cs s.args.standing.now r.read_again-again.new.netlist)
     (refused_is r.read_again-again.result y (search rules)) (r.read_again-again.ensures cs k))
 
 returns_3 : tie.Need-returns-in-Accepted
@@ -109,7 +109,7 @@ returns_3 c x cs h k =
     let r = reads t.before in
     let g = differs r.before in
     let f : grown x.cells cs ≡ false = sym (compared g x h cs k) ∙ r.if-grown_at.false in
-    again_read _ _ _ _ x h _ cs k r.read_again-again.new.1.1.0 (again t cs k)
+    again_read _ _ _ _ x h _ cs k r.read_again-again.new.netlist (again t cs k)
     (λ ss e holds. begun _ _ _ _ x h _ cs k f ss e _ (p.begin_again.ensures cs _ holds))
 
 pub change_to_spec : {M : Type 1} → statement M

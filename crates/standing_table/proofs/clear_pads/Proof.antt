@@ -12,7 +12,7 @@ returns c =
     let s = k.before.before.before in
     let xs = s.args.standing.now in
     let a = Size.pads_at + s.args.pads in
-    part-put xs a k.clear.new.0 (omega (arith, s.requires.0, s.requires.1))
+    part-put xs a k.clear.new.table (omega (arith, s.requires.0, s.requires.1))
     ∙ ap (λ (z : List ℕ). take a xs ++ z) (k.clear.ensures ∙ ap (cleared (Size.pads - s.args.pads)) (part_is xs a))
 
 pub clear_pads_spec : {M : Type 1} → statement M

@@ -22,7 +22,7 @@ observe-anew_requires c κs =
 returns : tie.Need-returns
 returns c cells ss h =
     let s = begins c.before in
-    subst (λ (z : List ℕ). ObservedAnew cells ss z c.observe_anew.new.1.1.1.0 c.observe_anew.result)
+    subst (λ (z : List ℕ). ObservedAnew cells ss z c.observe_anew.new.numbers c.observe_anew.result)
     (part_is s.args.standing.now Size.standing_numbers) (c.observe_anew.ensures cells ss h)
 
 pub observe_spec : {M : Type 1} → statement M

@@ -10,7 +10,7 @@ returns c =
     let k = c.before.before in
     let s = k.before.before.before in
     let xs = s.args.standing.now in
-    part-put xs Size.standing_numbers k.hand_over.new.1.0 (omega (arith, s.requires.0))
+    part-put xs Size.standing_numbers k.hand_over.new.numbers (omega (arith, s.requires.0))
     ∙ ap (λ (z : List ℕ). take Size.standing_numbers xs ++ z)
     (k.hand_over.ensures ∙ ap (λ (z : List ℕ). s.args.numbers.now ++ drop Size.numbers z) (part_is xs Size.standing_numbers))
 

@@ -34,7 +34,7 @@ returns c cells ss h =
     let a = s.args in
     let e1 = v.word.ensures in
     let e2 = v.word-2.ensures in
-    stores a.standing.now a.pads a.line s.requires.1 (long s) cells ss o.observe-observed.new.1.1.1.0 p.put.new.0 _ o.observe-observed.result _
+    stores a.standing.now a.pads a.line s.requires.1 (long s) cells ss o.observe-observed.new.numbers p.put.new.table _ o.observe-observed.result _
     (o.observe-observed.ensures cells ss h)
     (λ i. record { cc = e1 i; sc = e2 i; co = o.observe-observed.result.combinational; so = o.observe-observed.result.sequential })
     p.put.ensures x.put_standing.ensures
@@ -57,8 +57,8 @@ put_pad_spec =
     let s = begins o in
     let h = s.requires.0 in (
       omega (arith, s.requires.1),
-      omega (arith, p.put.auto.0, long s),
+      omega (arith, p.put.auto.table, long s),
       anew-length h.cells h.statements s.args.standing.now _ o.observe-observed.result (long s) (o.observe-observed.ensures h.cells h.statements h.holds),
     ))
-    (λ c. let x = c.before.before in x.put_standing.auto.0 ∙ (puts x).put.auto.0)
+    (λ c. let x = c.before.before in x.put_standing.auto.standing ∙ (puts x).put.auto.table)
     returns)

@@ -38,7 +38,7 @@ returns c =
     let k = clears n in
     let s = begins k in
     let a = s.args in
-    stored a.standing.now a.pads s.requires.0 s.requires.1 a.numbers.now k.clear_pads.new.0 n.put_numbers.new.0 _ a.counts
+    stored a.standing.now a.pads s.requires.0 s.requires.1 a.numbers.now k.clear_pads.new.standing n.put_numbers.new.standing _ a.counts
     k.clear_pads.ensures n.put_numbers.ensures
     (p5.put-5.ensures
     ∙ ap (λ (z : List ℕ). set z 4 a.counts.so)
@@ -56,9 +56,9 @@ same_length c =
     let p1 = first p2 in
     let n = hands p1 in
     let k = clears n in
-    p5.put-5.auto.0 ∙ p4.put-4.auto.0 ∙ p3.put-3.auto.0 ∙ p2.put-2.auto.0 ∙ p1.put.auto.0 ∙ n.put_numbers.auto.0 ∙ k.clear_pads.auto.0
+    p5.put-5.auto.table ∙ p4.put-4.auto.table ∙ p3.put-3.auto.table ∙ p2.put-2.auto.table ∙ p1.put.auto.table ∙ n.put_numbers.auto.standing ∙ k.clear_pads.auto.standing
 
 pub put_standing_spec : {M : Type 1} → statement M
 put_standing_spec =
     tie.close
-    (tie.spec (λ c κs. let s = c.before.before in (s.requires.0, s.requires.1)) (λ c κs. let k = c.before.before.before in let s = begins k in (omega (arith, k.clear_pads.auto.0, s.requires.1), s.requires.2)) (λ c. let s = begins (clears c.before.before.before) in omega (arith, s.requires.0)) (λ c κs. search rules) (λ c κs. search rules) (λ c. omega arith) (λ c κs. search rules) (λ c. omega arith) (λ c κs. search rules) (λ c. omega arith) (λ c κs. search rules) same_length returns)
+    (tie.spec (λ c κs. let s = c.before.before in (s.requires.0, s.requires.1)) (λ c κs. let k = c.before.before.before in let s = begins k in (omega (arith, k.clear_pads.auto.standing, s.requires.1), s.requires.2)) (λ c. let s = begins (clears c.before.before.before) in omega (arith, s.requires.0)) (λ c κs. search rules) (λ c κs. search rules) (λ c. omega arith) (λ c κs. search rules) (λ c. omega arith) (λ c κs. search rules) (λ c. omega arith) (λ c κs. search rules) same_length returns)

@@ -18,7 +18,7 @@ loop_again c =
     let l = c.loop-i in (
       omega arith,
       rw (add-one l.i)
-          (kept_next s.args.end s.args.standing.now s.args.numbers.now l.numbers c.keep.new.1.0 l.i (omega (arith, s.requires.1)) l.invariant.1 c.keep.ensures),
+          (kept_next s.args.end s.args.standing.now s.args.numbers.now l.numbers c.keep.new.numbers l.i (omega (arith, s.requires.1)) l.invariant.1 c.keep.ensures),
     )
 
 returns : tie.Need-returns invariant_loop decreases_loop

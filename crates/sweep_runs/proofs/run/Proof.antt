@@ -25,7 +25,7 @@ began c = c.before.before.before.before
 abbrev turning : tie.After-one_sweep invariant_loop decreases_loop → tie.At-loop-count invariant_loop decreases_loop
 turning c = c.before.before.before
 
-size : (o : tie.After-one_sweep invariant_loop decreases_loop) → length o.one_sweep.new.1.1.1.1.1.0 ≡ Size.numbers
+size : (o : tie.After-one_sweep invariant_loop decreases_loop) → length o.one_sweep.new.numbers ≡ Size.numbers
 size o = swept-length o.one_sweep.ensures.0 ∙ (turning o).loop-count.invariant.0
 
 pub run_spec : {M : Type 1} → statement M

@@ -53,7 +53,7 @@ loop_again c =
     let at = k.before.before.before in
     let s = begun (filled at.before) in
     let l = at.loop-line in
-    (omega arith, laid_next s.args.high s.args.netlist.now nevers l.numbers k.start_line.new.1.0 l.line (inside (l.line * Size.costs + Size.costs) Size.numbers (omega (arith, few at))) l.invariant.1 k.start_line.ensures)
+    (omega arith, laid_next s.args.high s.args.netlist.now nevers l.numbers k.start_line.new.numbers l.line (inside (l.line * Size.costs + Size.costs) Size.numbers (omega (arith, few at))) l.invariant.1 k.start_line.ensures)
 
 returns : tie.Need-returns invariant_loop decreases_loop
 returns c =

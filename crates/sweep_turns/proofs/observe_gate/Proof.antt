@@ -68,7 +68,7 @@ unwired c = refl
 made : (v : tie.After-visit_in_turn-renewed invariant_loop decreases_loop)
     → let l = looping (gathered v) in
     let a = (began l).args in
-    Renewed (gate_visit 1 a.kind a.library.now a.netlist.now a.gate l.loop-i.i) l.loop-i.numbers v.visit_in_turn-renewed.new.1.1.1.1.1.1.1.1.0 v.visit_in_turn-renewed.result
+    Renewed (gate_visit 1 a.kind a.library.now a.netlist.now a.gate l.loop-i.i) l.loop-i.numbers v.visit_in_turn-renewed.new.numbers v.visit_in_turn-renewed.result
 made v =
     let g = gathered v in
     let l = looping g in

@@ -57,19 +57,19 @@ turn c = c.loop-i-test.true
 numbers-length : (c : tie.At-loop-i invariant_loop decreases_loop) → length c.loop-i.numbers ≡ Size.numbers
 numbers-length c = swept-length c.loop-i.invariant.1 ∙ (began c).requires.visits_fit.size
 
-wired_is : (c : tie.At-loop-i invariant_loop decreases_loop) → let a = (began c).args in c.is_Tied.result ≡ visit_wired 0 a.library.now a.netlist.now a.gate
+wired_is : (c : tie.At-loop-i invariant_loop decreases_loop) → let a = (began c).args in c.is_tied-wired.result ≡ visit_wired 0 a.library.now a.netlist.now a.gate
 unfolding by_role pick
-wired_is c = let f = (began c).requires.visits_fit in c.is_Tied.ensures _ _ _ f.links_fit.linked.tied f.inside
+wired_is c = let f = (began c).requires.visits_fit in c.is_tied-wired.ensures _ _ _ f.links_fit.linked.tied f.inside
 
 -- The visit that was made.
 made : (v : tie.After-visit_in_turn-renewed invariant_loop decreases_loop)
     → let l = (looping (gathered v)).before in
     let a = (began l).args in
-    Renewed (gate_visit 0 a.kind a.library.now a.netlist.now a.gate l.loop-i.i) l.loop-i.numbers v.visit_in_turn-renewed.new.1.1.1.1.1.1.1.1.0 v.visit_in_turn-renewed.result
+    Renewed (gate_visit 0 a.kind a.library.now a.netlist.now a.gate l.loop-i.i) l.loop-i.numbers v.visit_in_turn-renewed.new.numbers v.visit_in_turn-renewed.result
 made v =
     let g = gathered v in
     let l = (looping g).before in
-    turn-made (began l).requires (lined l).lines_of-lines.result (lined l).lines_of-lines.ensures l.is_Tied.result (wired_is l) l.loop-i.i (turn (looping g)) g.column_costs.ensures v.visit_in_turn-renewed.ensures
+    turn-made (began l).requires (lined l).lines_of-lines.result (lined l).lines_of-lines.ensures l.is_tied-wired.result (wired_is l) l.loop-i.i (turn (looping g)) g.column_costs.ensures v.visit_in_turn-renewed.ensures
 
 loop_again : tie.Need-loop-i-preserved invariant_loop decreases_loop
 unfolding by_role pick
@@ -129,7 +129,7 @@ set_gate_spec =
     (λ c κs.
     let g = c.before.before.before in
     let l = (looping g).before in
-    turn-fits (began l).requires (lined l).lines_of-lines.result (lined l).lines_of-lines.ensures l.is_Tied.result (wired_is l) l.loop-i.i (turn (looping g)) g.column_costs.ensures (numbers-length l))
+    turn-fits (began l).requires (lined l).lines_of-lines.result (lined l).lines_of-lines.ensures l.is_tied-wired.result (wired_is l) l.loop-i.i (turn (looping g)) g.column_costs.ensures (numbers-length l))
     (λ c κs. let l = (looping (gathered c.before.before.before)).before in (lines_fit_lem (began l).requires (lined l).lines_of-lines.result (lined l).lines_of-lines.ensures).count)
     (λ c κs. search rules)
     (λ c. omega (arith, (looping (gathered (visited c.before))).loop-i-test.true))

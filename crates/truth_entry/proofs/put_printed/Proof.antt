@@ -11,7 +11,7 @@ returns c =
     let a = k.args in
     let long : 8192 ≡ length a.entry.now = search rules in
     rw (← room_enough a.text.now (length a.entry.now) (omega arith))
-    (writes-prints (omega arith) (omega (arith, k.put_entry-written.auto.1.0)) k.put_entry-written.ensures.0 c.show.ensures)
+    (writes-prints (omega arith) (omega (arith, k.put_entry-written.auto.entry)) k.put_entry-written.ensures.0 c.show.ensures)
 
 pub put_printed_spec : {M : Type 1} → statement M
 put_printed_spec =

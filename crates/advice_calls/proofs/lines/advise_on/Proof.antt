@@ -41,7 +41,7 @@ advise_on_spec =
       statements = p.statements;
       forbidden = (began a).args.forbidden.now;
       stands = a.analyse.ensures p.cells p.statements p.holds;
-      laid = laid_whole a.analyse.new.1.1.1.0 (replicate Size.numbers 0) _ (length-replicate {A = ℕ} Size.numbers 0) h.hand_over.ensures;
+      laid = laid_whole a.analyse.new.numbers (replicate Size.numbers 0) _ (length-replicate {A = ℕ} Size.numbers 0) h.hand_over.ensures;
       bars = b.bar_all.ensures;
     })
     (λ c cells ss h.

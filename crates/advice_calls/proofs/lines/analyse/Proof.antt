@@ -25,7 +25,7 @@ returns : tie.Need-returns
 returns c cells ss h =
     let l = linked c.before in
     let s = began l.before in
-    analysis-stands h l.link.ensures s.args.numbers.now s.requires.2 c.calculate-counts.new.1.1.0 (c.calculate-counts.ensures cells ss h)
+    analysis-stands h l.link.ensures s.args.numbers.now s.requires.2 c.calculate-counts.new.numbers (c.calculate-counts.ensures cells ss h)
 
 pub analyse_spec : {M : Type 1} → statement M
 analyse_spec = tie.close (tie.spec link_requires calculate_requires returns)

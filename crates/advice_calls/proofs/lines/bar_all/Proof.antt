@@ -28,7 +28,7 @@ loop_again c =
     let l = looped e in
     let a = (began l).args in (
       omega arith,
-      barred-on a.forbidden.now l.loop-i.i e.loop-i-test.true l.loop-i.invariant.0 e.entry_at.ensures l.loop-i.barred c.bar.new.0 l.loop-i.invariant.1
+      barred-on a.forbidden.now l.loop-i.i e.loop-i-test.true l.loop-i.invariant.0 e.entry_at.ensures l.loop-i.barred c.bar.new.barred l.loop-i.invariant.1
           c.bar.ensures,
     )
 

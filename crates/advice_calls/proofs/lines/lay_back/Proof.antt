@@ -12,7 +12,7 @@ began c = c.before.before.before
 returns_2 : tie.Need-returns
 returns_2 c changed =
     let p = c.before.before.before in
-    laid_whole ((began p).args.numbers.now) p.put_back.new.1.1.1.0 _ (omega arith) c.hand_over.ensures
+    laid_whole ((began p).args.numbers.now) p.put_back.new.tried _ (omega arith) c.hand_over.ensures
 
 pub lay_back_spec : {M : Type 1} → statement M
 lay_back_spec =

@@ -32,7 +32,7 @@ returns c =
       λ cells ss forbidden s b.
           ranked s b a.l range m.may_pad.ensures i.if-may_pad.true t.try_line-left.result
           (t.try_line-left.ensures cells ss s (may-said s b a.l range m.may_pad.ensures i.if-may_pad.true) (may_free s b a.l range m.may_pad.ensures i.if-may_pad.true)).leave
-          a.count a.table.now p.put_rank.new.0 p.put_rank.ensures,
+          a.count a.table.now p.put_rank.new.table p.put_rank.ensures,
       (t.try_line-left.ensures q.cells q.statements q.stands (may-said q.stands q.bars a.l range m.may_pad.ensures i.if-may_pad.true)
           (may_free q.stands q.bars a.l range m.may_pad.ensures i.if-may_pad.true)).back,
     )
@@ -44,7 +44,7 @@ returns_2 c =
     let m = i.before in
     let a = (began m).args in (
       λ cells ss forbidden s b.
-          unranked s b a.l (began m).requires.1 m.may_pad.ensures i.if-may_pad.false a.count a.table.now p.put_rank-else-may_pad.new.0 p.put_rank-else-may_pad.ensures,
+          unranked s b a.l (began m).requires.1 m.may_pad.ensures i.if-may_pad.false a.count a.table.now p.put_rank-else-may_pad.new.table p.put_rank-else-may_pad.ensures,
       (began m).requires.0.laid,
     )
 

@@ -48,12 +48,12 @@ loop_again c =
     let v = l.loop-l.invariant in (
       omega arith,
       r.rank_line-count.ensures.1,
-      r.rank_line-count.auto.1.1.1.1.1.1.0 ∙ v.2,
+      r.rank_line-count.auto.table ∙ v.2,
       λ cells ss forbidden s b.
           let i = v.3 cells ss forbidden s b in
           let e = r.rank_line-count.ensures.0 cells ss forbidden s b in (
             count_next (allowed ss forbidden) l.loop-l.l (omega arith) v.0 l.loop-l.count r.rank_line-count.result i.0 e.counts,
-            ranks-laid (line_rank cells ss forbidden) (four cells ss forbidden) ((began l).args.table.now) l.loop-l.table r.rank_line-count.new.1.1.1.1.1.1.0 (began l).requires.1 l.loop-l.l
+            ranks-laid (line_rank cells ss forbidden) (four cells ss forbidden) ((began l).args.table.now) l.loop-l.table r.rank_line-count.new.table (began l).requires.1 l.loop-l.l
                 (omega arith) v.0 i.1 e.lays,
           ),
     )

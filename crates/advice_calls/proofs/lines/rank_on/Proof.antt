@@ -41,7 +41,7 @@ rank_on_spec =
         statements = p.0.statements;
         forbidden = (began a).args.forbidden.now;
         stands = a.analyse.ensures p.0.cells p.0.statements p.0.holds;
-        laid = laid_whole a.analyse.new.1.1.1.0 (replicate Size.numbers 0) _ (length-replicate {A = ℕ} Size.numbers 0) h.hand_over.ensures;
+        laid = laid_whole a.analyse.new.numbers (replicate Size.numbers 0) _ (length-replicate {A = ℕ} Size.numbers 0) h.hand_over.ensures;
         bars = b.bar_all.ensures;
       },
       p.1,

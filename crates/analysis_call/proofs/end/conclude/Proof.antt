@@ -33,7 +33,7 @@ written c = c.before.before
 writes : (w : tie.After-close-written) (cells : List Cell) (ss : List Statement)
     → let a = (begins (calculated (first (both w)))).args in
     Holds a.library.now a.netlist.now cells ss
-    → Writes (text_within No.report_long (length a.report.now) (reports cells ss)) a.report.now w.close-written.new.0 w.close-written.result
+    → Writes (text_within No.report_long (length a.report.now) (reports cells ss)) a.report.now w.close-written.new.buffer w.close-written.result
 writes w cells ss h =
     let q = both w in
     let p = first q in

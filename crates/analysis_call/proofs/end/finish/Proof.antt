@@ -58,7 +58,7 @@ returns_4 c =
     let k = concludes (told d.before) in
     let s = begins (unrefused k.before.before) in
     finished_long s.args.progress (lent s) (search rules) k.conclude-answer.result _ _ k.conclude-answer.ensures _ (search rules) _ d.clear_all-in-Refused.ensures
-    k.conclude-answer.auto.1.1.0 k.conclude-answer.auto.1.1.1.0
+    k.conclude-answer.auto.numbers k.conclude-answer.auto.report
 
 pub finish_spec : {M : Type 1} → statement M
 finish_spec =

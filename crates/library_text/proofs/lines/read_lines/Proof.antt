@@ -58,7 +58,7 @@ module _ (c : tie.Else-at-l invariant_loop decreases_loop) where
 
 -- What the line leaves.
 left : (c : tie.After-read_line-s invariant_loop decreases_loop) → let l = (turn (cut c)).loop-at in let r = l.inv.3.reading in
-    Leaves l.number (library_line l.number r.cells r.place (fields (here (cut c)))) c.read_line-s.result c.read_line-s.new.1.0 (past (turn (cut c)))
+    Leaves l.number (library_line l.number r.cells r.place (fields (here (cut c)))) c.read_line-s.result c.read_line-s.new.table (past (turn (cut c)))
 left c =
     let t = turn (cut c) in
     rw (← (cut c).line-l.ensures) (c.read_line-s.ensures t.loop-at.invariant.3.reading (past t) t.loop-at.number t.loop-at.invariant.3.shows)
@@ -94,7 +94,7 @@ read-line_requires c κs =
     rw e.line-l.ensures (state-fits w.reading l.s l.table (past (turn e)) w.shows, omega (arith, ended e, (begun (turn e)).requires.0))
 
 same-length_2 : tie.Need-shape_of-table-then-s-ne0 invariant_loop decreases_loop
-same-length_2 c = let r = read_of c.before in r.read_line-s.auto.1.0 ∙ (turn (cut r)).loop-at.invariant.2
+same-length_2 c = let r = read_of c.before in r.read_line-s.auto.table ∙ (turn (cut r)).loop-at.invariant.2
 
 returns_2 : tie.Need-returns-then-s-ne0 invariant_loop decreases_loop
 unfolding verdict_read done_read
@@ -125,7 +125,7 @@ loop_again c =
     rw (c.after-at.ensures, (cut r).line-l.ensures) (
       omega arith,
       omega arith,
-      r.read_line-s.auto.1.0 ∙ l.invariant.2,
+      r.read_line-s.auto.table ∙ l.invariant.2,
       walk-on s (past t) l.at l.number l.s l.table l.invariant.3 below r.read_line-s.result _ (left r) c.if-s-ne0.false,
     )
 

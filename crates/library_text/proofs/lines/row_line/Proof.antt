@@ -21,7 +21,7 @@ read-rows_requires c κs = let s = c.before.before.before.before in (s.requires.
 -- The line was read by the word that its place wants.
 by_word : (c : tie.After-read_rows-number)
     → let s = (begun c).args.s in
-    RowsRead s.cells s.heading (word_at s.place) s.pins (fields (begun c).args.line.now) (begun c).args.table.now c.read_rows-number.new.0 c.read_rows-number.result
+    RowsRead s.cells s.heading (word_at s.place) s.pins (fields (begun c).args.line.now) (begun c).args.table.now c.read_rows-number.new.table c.read_rows-number.result
 by_word c = rw c.word_at-word.ensures at c.read_rows-number.ensures
 
 -- The place wants a row line.

@@ -26,10 +26,10 @@ asking c = c.before.before
 -- What the first field told.
 word-told : (c : tie.After-is_word)
     → let a = (begun c).args in
-    c.is_IsWord.result ≡ same_bytes (get_or (fields a.line.now) 0 []) (word_bytes a.word)
+    c.is_word.result ≡ same_bytes (get_or (fields a.line.now) 0 []) (word_bytes a.word)
 word-told c =
     let s = (begun c).args.line.now in
-    rw (field_nth s _ 0 0 0 (fields_from-start s) c.field-first.ensures) at c.is_IsWord.ensures
+    rw (field_nth s _ 0 0 0 (fields_from-start s) c.field-first.ensures) at c.is_word.ensures
 
 returns : tie.Need-returns-then-not-is_word
 unfolding pick

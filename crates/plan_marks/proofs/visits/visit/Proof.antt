@@ -129,10 +129,10 @@ small c =
 -- How the gate's rows are read.
 wired_is : (c : tie.After-least_in-lowest)
     → let a = (began (lined (gathered (grouped (placed c))))).args in
-    (told c).is_Tied.result ≡ gate_tied a.library.now a.netlist.now a.gate
+    (told c).is_tied-wired.result ≡ gate_tied a.library.now a.netlist.now a.gate
 wired_is c =
     let s = began (lined (gathered (grouped (placed c)))) in
-    (told c).is_Tied.ensures _ _ _ s.requires.0.links_fit.linked.tied s.requires.1
+    (told c).is_tied-wired.ensures _ _ _ s.requires.0.links_fit.linked.tied s.requires.1
 
 returns : tie.Need-returns-then-not-store
 returns c =

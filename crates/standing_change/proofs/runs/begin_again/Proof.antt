@@ -37,7 +37,7 @@ returns c cells ss h =
     let p = c.before.before in
     let r = calculates p.before in
     let s = begins r.before in
-    subst (λ (a : Analysed). Stores a s.args.standing.now p.put_kept.new.0)
+    subst (λ (a : Analysed). Stores a s.args.standing.now p.put_kept.new.standing)
     (begun_whole cells ss _ r.calculate-counts.result (r.calculate-counts.ensures cells ss h))
     p.put_kept.ensures
 

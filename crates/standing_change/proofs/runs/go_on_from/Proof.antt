@@ -32,7 +32,7 @@ returns c cells ss h =
     let p = c.before.before in
     let r = runs p.before in
     let s = begins r.before in
-    subst (λ (a : Analysed). Stores a s.args.standing.now p.put_kept.new.0)
+    subst (λ (a : Analysed). Stores a s.args.standing.now p.put_kept.new.standing)
     (gone_whole s.args.standing.now (long s) cells ss _ r.runs_from-counts.result (r.runs_from-counts.ensures cells ss h) h.sound)
     p.put_kept.ensures
 

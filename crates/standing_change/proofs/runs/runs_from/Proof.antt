@@ -22,7 +22,7 @@ go-on_requires c κs =
 returns : tie.Need-returns
 returns c cells ss h =
     let s = begins c.before in
-    subst (λ (z : List ℕ). GoneOn cells ss z c.go_on.new.1.1.1.0 c.go_on.result)
+    subst (λ (z : List ℕ). GoneOn cells ss z c.go_on.new.numbers c.go_on.result)
     (part_is s.args.standing.now Size.standing_numbers) (c.go_on.ensures cells ss h)
 
 pub runs_from_spec : {M : Type 1} → statement M

@@ -32,13 +32,13 @@ module _ (c : tie.After-place_pads) (cells : List Cell) (ss : List Statement) wh
   abbrev Tried : Bool → Type 0
   Tried b =
       let a = (begins (counted c).before).args in
-      PadsTried a.library.now cells ss (take (get_or a.standing.now 0 0) (drop Size.pads_at a.standing.now)) c.place_pads.new.1.0 b
+      PadsTried a.library.now cells ss (take (get_or a.standing.now 0 0) (drop Size.pads_at a.standing.now)) c.place_pads.new.netlist b
 
   tried : Holds ((begins (counted c).before).args.library.now) ((begins (counted c).before).args.netlist.now) cells ss → Tried c.place_pads.result
   tried h =
       let a = (begins (counted c).before).args in
       let table = a.standing.now in
-      subst (λ (n : ℕ). PadsTried a.library.now cells ss (take n (drop Size.pads_at table)) c.place_pads.new.1.0 c.place_pads.result) (count (counted c).before)
+      subst (λ (n : ℕ). PadsTried a.library.now cells ss (take n (drop Size.pads_at table)) c.place_pads.new.netlist c.place_pads.result) (count (counted c).before)
       (c.place_pads.ensures cells ss h)
 
 returns : tie.Need-returns-then-count-gt-PADS

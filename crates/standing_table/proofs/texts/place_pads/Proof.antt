@@ -44,7 +44,7 @@ module _ (c : tie.After-place invariant_loop decreases_loop) (cells : List Cell)
   abbrev Tried : Bool → Type 0
   Tried b =
       let w = walking c in
-      PadTried ((begins w).args.library.now) cells (padded ss (take w.loop-i.i (pads w))) (get_or (pads w) w.loop-i.i 0) c.place.new.1.0 b
+      PadTried ((begins w).args.library.now) cells (padded ss (take w.loop-i.i (pads w))) (get_or (pads w) w.loop-i.i 0) c.place.new.netlist b
 
   tried : Holds ((begins (walking c)).args.library.now) ((begins (walking c)).args.netlist.now) cells ss → Tried c.place.result
   tried h =
@@ -52,11 +52,11 @@ module _ (c : tie.After-place invariant_loop decreases_loop) (cells : List Cell)
       let a = (begins w).args in
       let e : c.wide.result ≡ get_or (pads w) w.loop-i.i 0 =
       c.wide.ensures ∙ c.word.ensures ∙ sym (get_or-drop Size.pads_at a.standing.now w.loop-i.i 0) in
-      subst (λ (l : ℕ). PadTried a.library.now cells (padded ss (take w.loop-i.i (pads w))) l c.place.new.1.0 c.place.result) e
+      subst (λ (l : ℕ). PadTried a.library.now cells (padded ss (take w.loop-i.i (pads w))) l c.place.new.netlist c.place.result) e
       (c.place.ensures cells (padded ss (take w.loop-i.i (pads w))) ((w.loop-i.invariant.2 cells ss h).holds refl))
 
 same_length : tie.Need-shape_of-netlist-then-not-place invariant_loop decreases_loop
-same_length c = let p = placing c.before in p.place.auto.1.0 ∙ (walking p).loop-i.invariant.1
+same_length c = let p = placing c.before in p.place.auto.netlist ∙ (walking p).loop-i.invariant.1
 
 returns : tie.Need-returns-then-not-place invariant_loop decreases_loop
 returns c cells ss h =
@@ -73,7 +73,7 @@ loop_again c =
     let w = walking p in
     let a = (begins w).args in (
       omega (arith, p.loop-i-test.true),
-      p.place.auto.1.0 ∙ w.loop-i.invariant.1,
+      p.place.auto.netlist ∙ w.loop-i.invariant.1,
       λ cells ss h.
           rw (add-one w.loop-i.i)
           (tried-next a.library.now cells ss (pads w) w.loop-i.i (omega (arith, long w, (begins w).requires.0, p.loop-i-test.true)) w.loop-i.netlist _

@@ -21,12 +21,12 @@ given s = given_texts s.args.lib.now s.args.net.now
 
 reached : (c : tie.After-read_texts-progress)
     → let s = begins c.before in
-    Reached (given s) (entered false (given s)) s.args.library.now s.args.netlist.now c.read_texts-progress.new.1.1.1.0 c.read_texts-progress.new.1.1.1.1.0
+    Reached (given s) (entered false (given s)) s.args.library.now s.args.netlist.now c.read_texts-progress.new.library c.read_texts-progress.new.netlist
     c.read_texts-progress.result
 reached c =
     let s = begins c.before in
     let a = s.args in
-    both-reached a.lib.now a.net.now a.library.now a.netlist.now c.read_texts-progress.new.1.1.1.0 c.read_texts-progress.new.1.1.1.1.0
+    both-reached a.lib.now a.net.now a.library.now a.netlist.now c.read_texts-progress.new.library c.read_texts-progress.new.netlist
     c.read_texts-progress.result s.requires c.read_texts-progress.ensures
 
 returns : tie.Need-returns-in-AtEntry

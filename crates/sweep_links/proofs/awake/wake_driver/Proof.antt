@@ -25,7 +25,7 @@ returns c netlist driven =
       driver = λ g h e last.
           let turn : s.args.gates - 1 - g ≡ s.args.gates - c.place_of-gate.result =
           omega (arith, c.place_of-gate.ensures, driver-noted driven s.args.line g s.requires.inside h e last) in
-          ap (bit_at c.wake.new.0) turn ∙ c.wake.ensures.becomes;
+          ap (bit_at c.wake.new.awake) turn ∙ c.wake.ensures.becomes;
       size = c.wake.ensures.size;
     }
 

@@ -24,7 +24,7 @@ loop_again : tie.Need-loop-k-preserved invariant_loop decreases_loop
 loop_again c =
     let p = c.before.before in
     let l = p.loop-k in
-    (omega arith, p.put_pin-next.auto.0 ∙ l.invariant.1, listed_more _ _ _ _ _ l.k _ _ _ _ (omega arith) l.invariant.2 p.put_pin-next.ensures)
+    (omega arith, p.put_pin-next.auto.entry ∙ l.invariant.1, listed_more _ _ _ _ _ l.k _ _ _ _ (omega arith) l.invariant.2 p.put_pin-next.ensures)
 
 returns : tie.Need-returns invariant_loop decreases_loop
 unfolding line_bytes
@@ -37,4 +37,4 @@ returns c =
 pub put_pins_spec : {M : Type 1} → statement M
 put_pins_spec =
     tie.close
-    (tie.spec invariant_loop decreases_loop (λ c κs. search rules) loop-holds put-pin_requires (λ c. omega arith) (λ c. omega arith) loop_again (λ c κs. search rules) (λ c. let p = c.before.before in p.put_byte.auto.0 ∙ p.loop-k.invariant.1 ∙ p.put_bytes-next.auto.0) returns)
+    (tie.spec invariant_loop decreases_loop (λ c κs. search rules) loop-holds put-pin_requires (λ c. omega arith) (λ c. omega arith) loop_again (λ c κs. search rules) (λ c. let p = c.before.before in p.put_byte.auto.buffer ∙ p.loop-k.invariant.1 ∙ p.put_bytes-next.auto.buffer) returns)

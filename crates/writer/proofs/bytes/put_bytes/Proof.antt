@@ -19,7 +19,7 @@ loop_again c =
     let l = at.loop-i in
     let word = at.args.word.now in
     let more : l.i < length word = omega arith in
-    (omega arith, p.put_byte-next.auto.0 ∙ l.invariant.1, rw (add-one l.i, take-suc word l.i 0 more) (put_then l.invariant.2 p.put_byte-next.ensures))
+    (omega arith, p.put_byte-next.auto.buffer ∙ l.invariant.1, rw (add-one l.i, take-suc word l.i 0 more) (put_then l.invariant.2 p.put_byte-next.ensures))
 
 returns : tie.Need-returns invariant_loop decreases_loop
 returns c =

@@ -28,7 +28,7 @@ loop_again : tie.Need-loop-rest-preserved invariant_loop decreases_loop
 loop_again c =
     let p = c.before.before in
     let l = p.loop-rest in
-    (p.put_two.auto.0 ∙ l.invariant.0, omega arith, omega arith, passed-more _ _ _ l.rest l.behind _ _ l.invariant.3 (omega arith) (omega arith) p.put_two.ensures)
+    (p.put_two.auto.buffer ∙ l.invariant.0, omega arith, omega arith, passed-more _ _ _ l.rest l.behind _ _ l.invariant.3 (omega arith) (omega arith) p.put_two.ensures)
 
 slice_write_buffer : tie.Need-bounds-buffer-at invariant_loop decreases_loop
 slice_write_buffer c =

@@ -21,7 +21,7 @@ loop_again : tie.Need-loop-row-preserved invariant_loop decreases_loop
 loop_again c =
     let p = c.before.before in
     let l = p.loop-row in
-    (p.pass_row-cursor.auto.0 ∙ l.invariant.0, progress-more _ _ _ l.row l.cursor _ _ _ (omega arith) l.invariant.1 p.pass_row-cursor.ensures)
+    (p.pass_row-cursor.auto.entry ∙ l.invariant.0, progress-more _ _ _ l.row l.cursor _ _ _ (omega arith) l.invariant.1 p.pass_row-cursor.ensures)
 
 returns : tie.Need-returns-then-cursor invariant_loop decreases_loop
 returns c =
@@ -41,4 +41,4 @@ returns_2 c =
 pub put_rows_spec : {M : Type 1} → statement M
 put_rows_spec =
     tie.close
-    (tie.spec invariant_loop decreases_loop power_requires loop-holds (λ c. omega arith) (λ c κs. c.requires) (λ c. omega arith) loop_again (λ c. c.loop-row.invariant.0) returns (λ c κs. search rules) (λ c. let p = c.before.before in p.put_byte.auto.0 ∙ p.loop-row.invariant.0) returns_2)
+    (tie.spec invariant_loop decreases_loop power_requires loop-holds (λ c. omega arith) (λ c κs. c.requires) (λ c. omega arith) loop_again (λ c. c.loop-row.invariant.0) returns (λ c κs. search rules) (λ c. let p = c.before.before in p.put_byte.auto.buffer ∙ p.loop-row.invariant.0) returns_2)
