@@ -14,7 +14,7 @@ abbrev begins : tie.After-read_texts-progress → tie.Start
 begins c = c.before.before.before.before.before.before.before.before.before
 
 abbrev reads : tie.After-tell-arg-1 → tie.After-read_texts-progress
-reads c = c.before.before.before.before.before.before.before.before
+reads c = c.before.before.before.before.before
 
 abbrev tells : tie.After-slice_known-8-1 → tie.After-tell
 tells c = c.before.before.before.before

@@ -9,7 +9,7 @@ use Rattle.analysis_records.proofs.close.Tie as tie
 -- ---- the places of the code that the answers speak of
 
 abbrev begins : tie.After-declare-declared → tie.Start
-begins c = c.before.before.before.before.before.before
+begins c = c.before.before.before.before.before
 
 abbrev declared : tie.After-finish-arg-4-1 → tie.After-declare-declared
 declared c = c.before.before.before.before

@@ -19,10 +19,10 @@ abbrev begins : tie.After-slice_known-1 → tie.Start
 begins c = c.before.before.before
 
 abbrev fits : tie.After-wide-pads → tie.Else-standing-lt-STANDING
-fits c = c.before.before.before
+fits c = c.before.before
 
 abbrev counts : tie.After-read_pad-checked → tie.After-wide-pads
-counts c = c.before.before.before.before
+counts c = c.before.before.before
 
 abbrev starts : tie.After-read_pad-checked → tie.Start
 starts c = begins (fits (counts c)).before

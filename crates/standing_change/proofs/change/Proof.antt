@@ -16,7 +16,7 @@ abbrev begins : tie.After-slice_known-1 → tie.Start
 begins c = c.before.before.before.before
 
 abbrev fits : tie.After-netlist-1 → tie.Else-new_lib-gt-TEXT_BYTES
-fits c = c.before.before.before
+fits c = c.before.before
 
 abbrev starts : tie.Else-new_lib-gt-TEXT_BYTES → tie.Start
 starts c = begins c.before.before

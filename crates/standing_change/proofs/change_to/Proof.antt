@@ -23,16 +23,16 @@ abbrev begins : tie.After-grown_at → tie.Start
 begins c = c.before.before.before.before.before.before
 
 abbrev compares : tie.After-go_on_from-arg-1 → tie.After-grown_at
-compares c = c.before.before.before
+compares c = c.before.before
 
 abbrev differs : tie.After-read_again-arg-1 → tie.After-grown_at
-differs c = c.before.before.before
+differs c = c.before.before
 
 abbrev reads : tie.After-slice_known-3-1 → tie.After-read_again-again
 reads c = c.before.before
 
 abbrev told : tie.After-begin_again-arg-1 → tie.In-Accepted
-told c = c.before.before
+told c = c.before
 
 -- The state that is known to be held, and its new cells.
 module _ (s : tie.Start) where

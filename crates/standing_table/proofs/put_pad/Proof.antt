@@ -10,10 +10,10 @@ use Rattle.standing_table.proofs.put_pad.Tie as tie
 -- ---- the places of the code that the answers speak of
 
 abbrev begins : tie.After-observe-observed → tie.Start
-begins c = c.before.before.before.before.before.before
+begins c = c.before.before.before.before.before
 
 abbrev observes : tie.After-word-2 → tie.After-observe-observed
-observes c = c.before.before.before.before
+observes c = c.before.before
 
 abbrev counts : tie.After-put → tie.After-word-2
 counts c = c.before.before

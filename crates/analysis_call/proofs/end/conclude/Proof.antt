@@ -18,7 +18,7 @@ abbrev begins : tie.After-calculate-counts → tie.Start
 begins c = c.before.before.before.before.before.before
 
 abbrev calculated : tie.After-put_report-low → tie.After-calculate-counts
-calculated c = c.before.before.before.before.before
+calculated c = c.before.before.before.before
 
 abbrev first : tie.After-put_second-end → tie.After-put_report-low
 first c = c.before.before.before.before

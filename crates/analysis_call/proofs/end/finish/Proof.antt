@@ -12,7 +12,7 @@ abbrev begins : tie.After-slice_known-4-1 → tie.Start
 begins c = c.before.before.before.before
 
 abbrev unrefused : tie.After-conclude-arg-1 → tie.After-slice_known-4-1
-unrefused c = c.before.before.before.before.before
+unrefused c = c.before.before
 
 abbrev concludes : tie.After-slice_known-in-Unrefused-2-1 → tie.After-conclude-answer
 concludes c = c.before.before.before.before

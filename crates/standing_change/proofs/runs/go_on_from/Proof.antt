@@ -9,7 +9,7 @@ use Rattle.standing_change.proofs.runs.go_on_from.Statement.{statement}
 use Rattle.standing_change.proofs.runs.go_on_from.Tie as tie
 
 abbrev begins : tie.After-numbers-1 → tie.Start
-begins c = c.before.before.before.before.before
+begins c = c.before.before.before.before
 
 abbrev runs : tie.After-numbers-2-1 → tie.After-runs_from-counts
 runs c = c.before.before

@@ -6,7 +6,7 @@ use Rattle.standing_change.proofs.runs.put_kept.Statement.{statement}
 use Rattle.standing_change.proofs.runs.put_kept.Tie as tie
 
 abbrev begins : tie.After-wide → tie.Start
-begins c = c.before.before.before.before.before
+begins c = c.before.before.before.before
 
 put-standing_requires : tie.Need-put_standing-requires
 put-standing_requires c κs =

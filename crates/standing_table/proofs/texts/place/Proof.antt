@@ -14,7 +14,7 @@ abbrev begins : tie.Else-line-gt-LINES → tie.Start
 begins c = c.before.before.before
 
 abbrev inside : tie.After-mentioned → tie.Else-line-eq0
-inside c = c.before.before
+inside c = c.before
 
 abbrev mentioned : tie.After-admit-cause → tie.Else-not-mentioned
 mentioned c = c.before.before.before

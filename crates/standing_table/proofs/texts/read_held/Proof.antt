@@ -16,7 +16,7 @@ abbrev reads : tie.After-slice_known-4-1 → tie.After-read_both-texts
 reads c = c.before.before.before.before
 
 abbrev told : tie.After-mark_pads → tie.In-Accepted
-told c = c.before.before.before
+told c = c.before.before
 
 abbrev given : tie.Start → Given
 given s = given_texts s.args.lib.now s.args.net.now

@@ -16,7 +16,7 @@ abbrev reads : tie.After-slice_known-4-1 → tie.After-read_held-held
 reads c = c.before.before.before.before
 
 abbrev told : tie.After-place-marked → tie.In-Accepted
-told c = c.before.before.before
+told c = c.before.before
 
 abbrev places : tie.After-slice_known-in-Accepted-1 → tie.After-place-marked
 places c = c.before.before
