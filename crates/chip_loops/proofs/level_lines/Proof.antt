@@ -1,5 +1,5 @@
 -- `level_lines` has so many passes left, or the last one levelled nothing.
-use Rattle.common_laws.proofs.Base.{◌≡◌, refl, ap, ◌∙◌, ◌≤◌, arith, length}
+use Rattle.common_laws.proofs.Base.{◌≡◌, refl, ap, ◌∙◌, ◌≤◌, arith, length, not}
 use Rattle.netlist_table.specs.Gates.{gates_held}
 use Rattle.chip_loops.specs.Marks.{passes, most_passes}
 use Rattle.chip_loops.proofs.Steps.{passed-size, passes-end, passes-next}
@@ -25,7 +25,7 @@ returns : tie.Need-returns-then-not-pass_over invariant_loop decreases_loop
 returns c =
     let p = c.before.before.before in
     let l = (turns p).loop-left in
-    passes-end p.pass_over.ensures l.left c.if-not-pass_over.true ∙ l.invariant.2
+    passes-end p.pass_over.ensures l.left (ap not c.if-not-pass_over.true) ∙ l.invariant.2
 
 loop_again : tie.Need-loop-left-preserved invariant_loop decreases_loop
 loop_again c =
