@@ -48,7 +48,7 @@ module _ (marks : List ℕ) where
   unfolding all_marked
   all_listed (k ∷ ls) t l (List-Memᴰ-head e) = rw e (and_left (marked marks k) (all_marked marks ls) t)
   all_listed (k ∷ ls) t l (List-Memᴰ-tail m) = all_listed ls (and_right (marked marks k) (all_marked marks ls) t) l m
-  all_listed [] t l x'' = elim x'' [ ]
+  all_listed [] t l m = elim m [ ]
 
   pub listed-all : (ls : List ℕ) → ((l : ℕ) → List-as-Memᴰ l ls → marked marks l ≡ true) → all_marked marks ls ≡ true
   unfolding all_marked
@@ -96,7 +96,7 @@ unfolding mark_each
 each-marked marks (k ∷ ls) l (List-Memᴰ-head e) h =
     each_keeps (set marks k 1) ls l (rw e (set-marked marks k (rw (← e) h)))
 each-marked marks (k ∷ ls) l (List-Memᴰ-tail m) h = each-marked (set marks k 1) ls l m (simp length-set h)
-each-marked marks [] l x'' h = elim x'' [ ]
+each-marked marks [] l m h = elim m [ ]
 
 pub each-size : (marks ls : List ℕ) → length (mark_each marks ls) ≡ length marks
 unfolding mark_each

@@ -67,7 +67,7 @@ loop-row-preserved c =
     let f = c.requires.0.sum_fits.group_fits in
     let inside = rw c.wide-rows.ensures at c.loop-row-test.true in
     elim c.if-is_way.branch [
-      then-is_way w ↦ sought_later k inside f w.read_sum-sum.ensures c.requires.1 w.is_lower.ensures w.if-not-is_lower.false
+      | then-is_way w ↦ sought_later k inside f w.read_sum-sum.ensures c.requires.1 w.is_lower.ensures w.if-not-is_lower.false
       | else-is_way w ↦ sought_past k inside f c.is_way.ensures w.if-is_way.false
     ]
 
