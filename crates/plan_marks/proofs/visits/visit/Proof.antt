@@ -38,7 +38,7 @@ abbrev summed : tie.After-store → tie.After-lesser_of-sum
 summed c = c.before.before
 
 abbrev least_in : tie.After-store → tie.After-least_in-lowest
-least_in c = (summed c).before.before
+least_in c = (summed c).before.before.before
 
 abbrev lowered : tie.After-first_row-first → tie.Else-not-store
 lowered c = c.before.before.before
