@@ -15,7 +15,7 @@ abbrev begins : tie.After-begin-begun → tie.Start
 begins c = c.before.before.before.before.before.before
 
 abbrev begun : tie.After-read_netlist → tie.After-begin-begun
-begun c = c.before.before.before.before.before
+begun c = c.before.before.before.before
 
 -- Where nothing is refused the entry has passed.
 fitting : (c : tie.After-begin-begun) → let a = (begins c).args in NetlistFits c.begin-begun.result a.net.now a.netlist.now

@@ -5,7 +5,7 @@ use Rattle.budget_call.proofs.hand_value.Statement.{statement}
 use Rattle.budget_call.proofs.hand_value.Tie as tie
 
 abbrev read : tie.After-cost_at-offer → tie.After-leaf_place-place
-read c = c.before.before
+read c = c.before.before.before
 
 returns : tie.Need-returns-then-number-lt-NEVER
 returns c =

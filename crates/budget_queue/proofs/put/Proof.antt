@@ -13,7 +13,7 @@ abbrev decreases_loop : tie.decreases-loop-at
 decreases_loop queue₀ leaf cost key₀ at₀ queue key at = at
 
 abbrev began : tie.After-key_of-key invariant_loop decreases_loop → tie.Start invariant_loop decreases_loop
-began c = c.before.before.before.before
+began c = c.before.before.before
 
 loop-holds : tie.Need-loop-at-init invariant_loop decreases_loop
 loop-holds c =

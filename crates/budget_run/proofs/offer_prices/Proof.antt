@@ -15,7 +15,7 @@ decreases_loop prices queue₀ leaf₀ queue leaf = Size.leaves - leaf
 -- ---- places
 
 abbrev placed : tie.After-put invariant_loop decreases_loop → tie.After-leaf_place-place invariant_loop decreases_loop
-placed c = c.before.before.before
+placed c = c.before.before.before.before
 
 abbrev looping : tie.After-leaf_place-place invariant_loop decreases_loop → tie.In-loop-leaf invariant_loop decreases_loop
 looping c = c.before

@@ -5,16 +5,16 @@ use Rattle.budget_run.proofs.one_step.Statement.{statement}
 use Rattle.budget_run.proofs.one_step.Tie as tie
 
 abbrev began : tie.After-front-best → tie.Start
-began c = c.before.before.before.before
+began c = c.before.before.before
 
 abbrev placed : tie.After-put → tie.After-leaf_place-place
-placed c = c.before.before
+placed c = c.before.before.before
 
 abbrev fronted : tie.After-leaf_place-place → tie.After-front-best
 fronted c = c.before.before
 
 abbrev stored : tie.After-refresh_readers → tie.After-put
-stored c = c.before.before.before
+stored c = c.before.before
 
 pub one_step_spec : {M : Type 1} → statement M
 one_step_spec =

@@ -32,7 +32,7 @@ abbrev started : tie.After-offer_prices invariant_loop decreases_loop → tie.Af
 started c = c.before.before.before.before
 
 abbrev priced : tie.After-refresh_all invariant_loop decreases_loop → tie.After-offer_prices invariant_loop decreases_loop
-priced c = c.before.before.before.before
+priced c = c.before.before.before
 
 abbrev looping : tie.After-one_step-cost invariant_loop decreases_loop → tie.In-loop-steps invariant_loop decreases_loop
 looping c = c.before.before.before.before

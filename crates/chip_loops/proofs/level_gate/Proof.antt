@@ -7,13 +7,13 @@ use Rattle.chip_loops.proofs.level_gate.Tie as tie
 -- ---- the places of the code that the answers speak of
 
 abbrev reads : tie.After-is_marked → tie.After-line_of-line
-reads c = c.before.before
+reads c = c.before
 
 abbrev starts : tie.After-is_marked → tie.Start
 starts c = (reads c).before.before.before
 
 abbrev asks : tie.After-pins_marked → tie.Else-is_marked
-asks c = c.before.before
+asks c = c.before
 
 line-of_requires : tie.Need-line_of-line-requires
 line-of_requires c κs = (c.requires, omega arith)

@@ -13,7 +13,7 @@ decreases_loop fd buffer₀ at₀ buffer at = length buffer₀ - at
 -- ---- places: a turn's beginning, and what the read's answer meant
 
 abbrev turn : tie.After-next-filling invariant_loop decreases_loop → tie.At-loop-loaded invariant_loop decreases_loop
-turn c = c.before.before.before.before.before.before
+turn c = c.before.before.before.before.before
 
 returns : tie.Need-returns-in-Done invariant_loop decreases_loop
 returns c =

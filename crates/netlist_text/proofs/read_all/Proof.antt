@@ -13,7 +13,7 @@ abbrev reads : tie.After-slice_known-2-1 → tie.After-read_lines-lines
 reads c = c.before.before
 
 abbrev accepted : tie.After-declare → tie.After-slice_known-2-1
-accepted c = c.before.before.before
+accepted c = c.before.before
 
 returns : tie.Need-returns-in-Refused
 returns c cells lib =

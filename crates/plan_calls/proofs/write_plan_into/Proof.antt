@@ -27,7 +27,7 @@ abbrev calculates : tie.After-slice_known-in-Unrefused-2-1 → tie.After-calcula
 calculates c = c.before.before.before.before
 
 abbrev unrefused : tie.After-calculate_plan-arg-1 → tie.After-slice_known-6-1
-unrefused c = c.before.before.before.before.before
+unrefused c = c.before.before
 
 module _ (s : tie.Start) where
   abbrev given : Given

@@ -27,7 +27,7 @@ decreases_loop kind library netlist links clock numbers₀ marks₀ awake₀ gat
 -- ---- places
 
 abbrev counted : tie.After-next_awake-gate invariant_loop decreases_loop → tie.After-count-gates invariant_loop decreases_loop
-counted c = c.before.before
+counted c = c.before
 
 abbrev began : tie.After-next_awake-gate invariant_loop decreases_loop → tie.Start invariant_loop decreases_loop
 began c = (counted c).before.before.before

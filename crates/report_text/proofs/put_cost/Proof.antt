@@ -7,7 +7,7 @@ use Rattle.report_text.proofs.put_cost.Statement.{statement}
 use Rattle.report_text.proofs.put_cost.Tie as tie
 
 abbrev not-never : tie.After-put_bytes-then-x-eq-OVER → tie.Then-x-eq-OVER
-not-never c = c.before.before.before
+not-never c = c.before.before.before.before
 
 returns : tie.Need-returns-then-x-ge-NEVER
 unfolding cost_bytes pick bytes

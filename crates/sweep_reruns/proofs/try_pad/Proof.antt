@@ -15,7 +15,7 @@ abbrev counted : tie.After-wide-l → tie.After-count-gates
 counted c = c.before
 
 abbrev widened : tie.After-wake_driver → tie.After-wide-l
-widened c = c.before.before
+widened c = c.before.before.before
 
 abbrev woken : tie.After-run → tie.After-wake_driver
 woken c = c.before.before.before

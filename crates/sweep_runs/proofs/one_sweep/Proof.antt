@@ -22,7 +22,7 @@ decreases_loop role kind library netlist links numbers₀ awake₀ gates changed
 -- ---- places
 
 abbrev counted : tie.After-next_awake-turn invariant_loop decreases_loop → tie.After-count-gates invariant_loop decreases_loop
-counted c = c.before.before
+counted c = c.before
 
 abbrev began : tie.After-next_awake-turn invariant_loop decreases_loop → tie.Start invariant_loop decreases_loop
 began c = (counted c).before.before.before.before

@@ -37,7 +37,7 @@ abbrev began : tie.In-loop-i invariant_loop decreases_loop → tie.Start invaria
 began c = begins (lined c).before
 
 abbrev looping : tie.After-column_costs invariant_loop decreases_loop → tie.In-loop-i invariant_loop decreases_loop
-looping c = c.before.before.before.before
+looping c = c.before.before.before
 
 abbrev gathered : tie.After-visit_in_turn-renewed invariant_loop decreases_loop → tie.After-column_costs invariant_loop decreases_loop
 gathered c = c.before.before.before.before

@@ -14,7 +14,7 @@ abbrev left : tie.After-wide → tie.After-left_by-left
 left c = c.before.before
 
 abbrev tried : tie.After-left_by-left → tie.After-try_pad-count
-tried c = c.before.before
+tried c = c.before
 
 returns : tie.Need-returns
 returns c cells ss s said free =

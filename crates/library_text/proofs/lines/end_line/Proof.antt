@@ -11,7 +11,7 @@ use Rattle.library_text.proofs.lines.end_line.Statement.{statement}
 use Rattle.library_text.proofs.lines.end_line.Tie as tie
 
 abbrev cut : tie.After-same → tie.After-field-f
-cut c = c.before.before.before.before
+cut c = c.before.before.before.before.before
 
 abbrev begun : tie.After-same → tie.Start
 begun c = (cut c).before.before.before

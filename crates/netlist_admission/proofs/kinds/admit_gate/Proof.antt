@@ -15,10 +15,10 @@ abbrev begun : tie.Else-cause-ne0 → tie.Start
 begun c = c.before.before.before.before
 
 abbrev uncaused : tie.After-word → tie.Else-cause-ne0
-uncaused c = c.before.before.before
+uncaused c = c.before.before
 
 abbrev undriven : tie.After-word-g → tie.Else-word-ne0
-undriven c = c.before.before
+undriven c = c.before
 
 abbrev counted : tie.After-store_gate → tie.After-word-g
 counted c = c.before.before

@@ -13,7 +13,7 @@ abbrev begun : tie.Else-line_bad → tie.Start
 begun c = c.before.before.before
 
 abbrev in-range : tie.After-word → tie.Else-line_bad
-in-range c = c.before.before
+in-range c = c.before
 
 abbrev stored : tie.After-mention → tie.After-put
 stored c = c.before.before.before.before

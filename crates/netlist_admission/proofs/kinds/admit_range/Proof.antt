@@ -19,10 +19,10 @@ told r table d e b l n = rw (n, d, e, b, l)
 -- ---- the places of the code that the answers speak of
 
 abbrev read : tie.After-word-again → tie.After-word-unmarked
-read c = c.before.before
+read c = c.before
 
 abbrev begun : tie.After-word-unmarked → tie.Start
-begun c = c.before.before.before
+begun c = c.before.before
 
 abbrev asked : tie.After-lowest-cause → tie.After-word-again
 asked c = c.before.before.before

@@ -14,19 +14,19 @@ abbrev begun : tie.After-field-f → tie.Start
 begun c = c.before.before.before
 
 abbrev cut : tie.After-same → tie.After-after-at
-cut c = c.before.before
+cut c = c.before.before.before
 
 abbrev no_input : tie.After-same-2 → tie.Else-same
-no_input c = c.before.before
+no_input c = c.before.before.before
 
 abbrev no_output : tie.After-same-3 → tie.Else-same-2
-no_output c = c.before.before
+no_output c = c.before.before.before
 
 abbrev no_gate_lem : tie.After-same-4 → tie.Else-same-3
-no_gate_lem c = c.before.before.before
+no_gate_lem c = c.before.before.before.before
 
 abbrev no_open : tie.After-same-5 → tie.Else-opens
-no_open c = c.before.before.before
+no_open c = c.before.before.before.before
 
 abbrev first : tie.After-same-4 → tie.After-after-at
 first c = cut (no_input (no_output (no_gate_lem c).before).before).before

@@ -10,7 +10,7 @@ abbrev begins : tie.After-calculate-counts → tie.Start
 begins c = c.before.before.before.before.before.before
 
 abbrev calculated : tie.After-conclude_plan-arg-1 → tie.After-calculate-counts
-calculated c = c.before.before.before.before
+calculated c = c.before.before.before
 
 conclude-plan_requires : tie.Need-conclude_plan-requires
 conclude-plan_requires c κs =

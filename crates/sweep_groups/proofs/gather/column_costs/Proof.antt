@@ -7,7 +7,7 @@ use Rattle.sweep_groups.proofs.gather.column_costs.Statement.{statement}
 use Rattle.sweep_groups.proofs.gather.column_costs.Tie as tie
 
 abbrev began : tie.After-observing_place → tie.Start
-began c = c.before.before.before.before.before.before.before
+began c = c.before.before.before.before.before.before.before.before
 
 place_inside : (c : tie.After-observing_place) → c.observing_place.result < Size.numbers
 place_inside c =

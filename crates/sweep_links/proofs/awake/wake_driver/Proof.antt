@@ -7,7 +7,7 @@ use Rattle.sweep_links.proofs.awake.wake_driver.Statement.{statement}
 use Rattle.sweep_links.proofs.awake.wake_driver.Tie as tie
 
 abbrev starts : tie.After-wake-arg-1 → tie.Start
-starts c = c.before.before.before.before
+starts c = c.before.before.before.before.before
 
 inside : tie.Need-overflow_sub-gates
 inside c =

@@ -16,10 +16,10 @@ decreases_loop awake₀ links line pin₀ awake pin = pin
 -- ---- the places of the code that the answers speak of
 
 abbrev starts : tie.At-loop-pin invariant_loop decreases_loop → tie.Start invariant_loop decreases_loop
-starts c = c.before.before.before
+starts c = c.before.before.before.before
 
 abbrev turns : tie.After-place_of-pin-in-loop-pin invariant_loop decreases_loop → tie.At-loop-pin invariant_loop decreases_loop
-turns c = c.before.before.before.before.before
+turns c = c.before.before.before.before.before.before
 
 -- ---- the walk over the netlist that is known of
 

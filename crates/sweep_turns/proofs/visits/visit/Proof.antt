@@ -7,7 +7,7 @@ use Rattle.sweep_turns.proofs.visits.visit.Statement.{statement}
 use Rattle.sweep_turns.proofs.visits.visit.Tie as tie
 
 abbrev began : tie.After-lowest_already → tie.Start
-began c = c.before.before.before.before.before
+began c = c.before.before.before.before.before.before
 
 abbrev summed : tie.After-store → tie.After-least_of-least
 summed c = c.before.before.before.before
