@@ -13,7 +13,6 @@ ghost use Rattle.analysis_records.specs.Outcome.{RecordsPromised};
 use analysis_records::{Record, analyse_records};
 use demands::Answer;
 use files::{FILE_BYTES, Loaded};
-use libc::STDOUT_FILENO;
 use reading::Refusal;
 
 // One entry below the published size, and one byte above what a text may have.
