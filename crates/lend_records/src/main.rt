@@ -40,7 +40,7 @@ const NETLIST_ROOM: usize = sizes::NETLIST + 3;
 
 const NUMBERS_ROOM: usize = sizes::NUMBERS + 3;
 
-// The first `count` of the records are lent. By hand, since it makes a slice of records.
+// The first `count` of the records are lent.
 fn lend(
     lib: &[u8],
     records: [Record; MOST],
