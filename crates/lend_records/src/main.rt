@@ -293,7 +293,14 @@ fn print_gate(rt: &impl Print, netlist: &[u32], n: usize) {
 
 // Of an accepted list: the report's length, what stands behind it and past each published size, the last gate, and
 // the last line's numbers.
-fn print_accepted(rt: &impl Print, library: &[u32], netlist: &[u32], numbers: &[u32], report: &[u8], length: usize) {
+fn print_accepted(
+    rt: &impl Print,
+    library: &[u32],
+    netlist: &[u32],
+    numbers: &[u32],
+    report: &[u8],
+    length: usize,
+) {
     files::print(rt, b"accepted,");
     print_number(rt, length as u64);
     print_table(rt, library, sizes::LIBRARY);
@@ -308,7 +315,14 @@ fn print_accepted(rt: &impl Print, library: &[u32], netlist: &[u32], numbers: &[
 }
 
 // Of a refused one: its refusal, and what the whole of each table and of the report is.
-fn print_refused(rt: &impl Print, library: &[u32], netlist: &[u32], numbers: &[u32], report: &[u8], r: Refusal) {
+fn print_refused(
+    rt: &impl Print,
+    library: &[u32],
+    netlist: &[u32],
+    numbers: &[u32],
+    report: &[u8],
+    r: Refusal,
+) {
     print_refusal(rt, r);
     files::print(rt, b"left");
     print_table(rt, library, 0);
@@ -319,7 +333,13 @@ fn print_refused(rt: &impl Print, library: &[u32], netlist: &[u32], numbers: &[u
 }
 
 // Lends tables with entries past their published sizes, and all that is lent filled before.
-fn lend_filled(rt: &impl Print, lib: &[u8], records: [Record; MOST], count: usize, numbers: &mut [u32])
+fn lend_filled(
+    rt: &impl Print,
+    lib: &[u8],
+    records: [Record; MOST],
+    count: usize,
+    numbers: &mut [u32],
+)
     requires { count ≤ 2 * Size.lines + 1 }
 {
     let mut library = [BEFORE; LIBRARY_ROOM];
@@ -410,7 +430,11 @@ fn main(rt: HostRuntime) {
     // 11: line 0, line 1,001, pin 1,001
     lend_all(&rt, latch, 6);
     lend_all(&rt, latch_with(mark(1, sizes::LINES as u32 + 1)), 6);
-    lend_all(&rt, latch_with(gate(0, 5, 1, sizes::LINES as u32 + 1, 0)), 6);
+    lend_all(
+        &rt,
+        latch_with(gate(0, 5, 1, sizes::LINES as u32 + 1, 0)),
+        6,
+    );
     // the largest number in each field: 10, 10, 10, 10, then 11, 11, 11, and 12
     lend_all(&rt, latch_with(mark(LARGEST, 5)), 6);
     lend_all(
