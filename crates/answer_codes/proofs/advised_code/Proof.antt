@@ -9,20 +9,17 @@ use Rattle.answer_codes.proofs.advised_code.Tie as tie
 refusal_code_requires : tie.Need-refusal_code-requires
 unfolding advised_read
 refusal_code_requires c κs =
-    let q = c.in-Refused.advised2.given in
-    code_line advice_line _ q.0.0 (ap advised_read q.1) c.requires
+    code_line advice_line _ c.in-Refused.r (ap advised_read c.in-Refused.is) c.requires
 
 returns : tie.Need-returns-in-Found
 unfolding advised_read
 returns c =
-    let q = c.in-Found.advised.given in
-    c.line_number.ensures ∙ code_accepted advice_line _ q.0.0 (ap advised_read q.1)
+    c.line_number.ensures ∙ code_accepted advice_line _ c.in-Found.found (ap advised_read c.in-Found.is)
 
 returns_2 : tie.Need-returns-in-Refused
 unfolding advised_read
 returns_2 c =
-    let q = c.in-Refused.advised2.given in
-    code_refused advice_line _ q.0.0 (ap advised_read q.1) _ c.refusal_code.ensures
+    code_refused advice_line _ c.in-Refused.r (ap advised_read c.in-Refused.is) _ c.refusal_code.ensures
 
 pub advised_code_spec : {M : Type 1} → statement M
 advised_code_spec =

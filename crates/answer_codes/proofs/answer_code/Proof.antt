@@ -9,20 +9,17 @@ use Rattle.answer_codes.proofs.answer_code.Tie as tie
 refusal_code_requires : tie.Need-refusal_code-requires
 unfolding answer_read
 refusal_code_requires c κs =
-    let q = c.in-Refused.answer2.given in
-    code_line (λ (s : Summary). s.length) _ q.0.0 (ap answer_read q.1) c.requires
+    code_line (λ (s : Summary). s.length) _ c.in-Refused.r (ap answer_read c.in-Refused.is) c.requires
 
 returns : tie.Need-returns-in-Accepted
 unfolding answer_read
 returns c =
-    let q = c.in-Accepted.answer.given in
-    code_accepted (λ (s : Summary). s.length) _ q.0.0 (ap answer_read q.1)
+    code_accepted (λ (s : Summary). s.length) _ c.in-Accepted.s (ap answer_read c.in-Accepted.is)
 
 returns_2 : tie.Need-returns-in-Refused
 unfolding answer_read
 returns_2 c =
-    let q = c.in-Refused.answer2.given in
-    code_refused (λ (s : Summary). s.length) _ q.0.0 (ap answer_read q.1) _ c.refusal_code.ensures
+    code_refused (λ (s : Summary). s.length) _ c.in-Refused.r (ap answer_read c.in-Refused.is) _ c.refusal_code.ensures
 
 pub answer_code_spec : {M : Type 1} → statement M
 answer_code_spec = tie.close (tie.spec (λ c. search rules) (λ c. search rules) refusal_code_requires returns returns_2)

@@ -10,8 +10,7 @@ use Rattle.answer_codes.proofs.change_code.Tie as tie
 refusal_code_requires : tie.Need-refusal_code-requires
 unfolding changed_read
 refusal_code_requires c κs =
-    let q = c.in-Refused.changed.given in
-    code_line (λ on. pick on 1 0) _ q.0.0 (ap changed_read q.1) c.requires
+    code_line (λ on. pick on 1 0) _ c.in-Refused.r (ap changed_read c.in-Refused.is) c.requires
 
 returns : tie.Need-returns-in-WentOn
 returns c = code_on _ (search rules)
@@ -22,8 +21,7 @@ returns_2 c = code_again _ (search rules)
 returns_3 : tie.Need-returns-in-Refused
 unfolding changed_read
 returns_3 c =
-    let q = c.in-Refused.changed.given in
-    code_refused (λ on. pick on 1 0) _ q.0.0 (ap changed_read q.1) _ c.refusal_code.ensures
+    code_refused (λ on. pick on 1 0) _ c.in-Refused.r (ap changed_read c.in-Refused.is) _ c.refusal_code.ensures
 
 pub change_code_spec : {M : Type 1} → statement M
 change_code_spec =

@@ -8,8 +8,7 @@ use Rattle.answer_codes.proofs.pads_code.Tie as tie
 refusal_code_requires : tie.Need-refusal_code-requires
 unfolding pads_read
 refusal_code_requires c κs =
-    let q = c.in-Refused.pads2.given in
-    c.requires q.0.0.number q.0.0.line (ap pads_read q.1)
+    c.requires c.in-Refused.r.number c.in-Refused.r.line (ap pads_read c.in-Refused.is)
 
 returns : tie.Need-returns-in-Count
 unfolding pads_read code_of

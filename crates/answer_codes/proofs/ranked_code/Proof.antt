@@ -8,8 +8,7 @@ use Rattle.answer_codes.proofs.ranked_code.Tie as tie
 refusal_code_requires : tie.Need-refusal_code-requires
 unfolding ranked_read
 refusal_code_requires c κs =
-    let q = c.in-Refused.ranked2.given in
-    c.requires q.0.0.number q.0.0.line (ap ranked_read q.1)
+    c.requires c.in-Refused.r.number c.in-Refused.r.line (ap ranked_read c.in-Refused.is)
 
 returns : tie.Need-returns-in-Lines
 unfolding ranked_read code_of

@@ -8,8 +8,7 @@ use Rattle.answer_codes.proofs.steps_code.Tie as tie
 refusal_code_requires : tie.Need-refusal_code-requires
 unfolding steps_read
 refusal_code_requires c κs =
-    let q = c.in-Refused.steps2.given in
-    c.requires q.0.0.number q.0.0.line (ap steps_read q.1)
+    c.requires c.in-Refused.r.number c.in-Refused.r.line (ap steps_read c.in-Refused.is)
 
 returns : tie.Need-returns-in-Made
 unfolding steps_read code_of

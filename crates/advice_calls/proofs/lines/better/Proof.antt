@@ -12,14 +12,12 @@ returns c = rw c.in-NoneAllowed.is refl
 returns_2 : tie.Need-returns-then-x-y
 unfolding before pick
 returns_2 c =
-    let q = c.in-Pad.found.given in
-    rw (q.1, le-leb c.args.x q.0.1.0 (omega (arith, c.if-x-y.true))) refl
+    rw (c.in-Pad.is, le-leb c.args.x c.in-Pad.y (omega (arith, c.if-x-y.true))) refl
 
 returns_3 : tie.Need-returns-else-x-y
 unfolding before pick
 returns_3 c =
-    let q = c.in-Pad.found.given in
-    rw (q.1, lt-leb c.args.x q.0.1.0 (omega (arith, c.if-x-y.false))) refl
+    rw (c.in-Pad.is, lt-leb c.args.x c.in-Pad.y (omega (arith, c.if-x-y.false))) refl
 
 pub better_spec : {M : Type 1} → statement M
 better_spec = tie.close (tie.spec (λ c. search rules) (λ c. search rules) returns returns_2 returns_3)
