@@ -42,7 +42,7 @@ unfolding by_role pick
 group_few c = omega (arith, c.visit_group.ensures, (began (lined c.before)).requires.1)
 
 abbrev group_at : tie.After-visit_group → ℕ
-group_at c = (celled (lined c.before)).cell_place-cell.result + Size.groups_at + c.visit-group.result * Size.group_words
+group_at c = (celled (lined c.before)).cell_place-cell.result + Size.groups_at + c.visit_group.result * Size.group_words
 
 group_stands : (c : tie.After-visit_group)
     → let a = (began (lined c.before)).args in

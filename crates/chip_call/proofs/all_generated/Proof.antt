@@ -1,5 +1,5 @@
 -- `all_generated` goes on while each cell is generated.
-use Rattle.common_laws.proofs.Base.{◌≡◌, refl, sym, ap, ◌∙◌, ◌-◌, ◌≤◌, arith, length}
+use Rattle.common_laws.proofs.Base.{◌≡◌, refl, sym, ap, ◌∙◌, ◌-◌, ◌≤◌, arith, length, not}
 use Rattle.sizes.specs.Sizes as Size
 use Rattle.netlist_table.specs.Gates.{each_of, gate_at, gates_held}
 use Rattle.netlist_table.proofs.HeldGates.{gates-start}
@@ -45,7 +45,7 @@ returns c =
     let n = l.count-gates.result in
     let a = (starts l.before).args in
     sym (sym l.loop-gate.invariant.4
-    ∙ generated_stop a.library.now a.netlist.now n l.loop-gate.gate (omega arith) k.cell_of.ensures j.judge.ensures.answer c.if-not-judge.true)
+    ∙ generated_stop a.library.now a.netlist.now n l.loop-gate.gate (omega arith) k.cell_of.ensures j.judge.ensures.answer (ap not c.if-not-judge.true))
 
 loop_again : tie.Need-loop-gate-preserved invariant_loop decreases_loop
 loop_again c =
@@ -58,7 +58,7 @@ loop_again c =
       l.loop-gate.invariant.1,
       j.judge.auto.known ∙ l.loop-gate.invariant.2,
       j.judge.ensures.still,
-      generated-on a.library.now a.netlist.now n l.loop-gate.gate (omega arith) k.cell_of.ensures j.judge.ensures.answer c.if-not-judge.false
+      generated-on a.library.now a.netlist.now n l.loop-gate.gate (omega arith) k.cell_of.ensures j.judge.ensures.answer (ap not c.if-not-judge.false)
           ∙ l.loop-gate.invariant.4,
     )
 

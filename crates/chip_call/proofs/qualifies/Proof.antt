@@ -1,4 +1,5 @@
 -- `qualifies` puts the three answers together.
+use Rattle.common_laws.proofs.Base.{ap, not}
 use Rattle.netlist_table.specs.Gates.{gates_held}
 use Rattle.chip_loops.specs.Marks.{read_once}
 use Rattle.chip_call.specs.Qualified.{all_generated, qualifying}
@@ -17,7 +18,7 @@ returns c =
     let a = (starts w).args in
     qualified a.library.now a.netlist.now 0
     (rw (← w.without_loops.ensures)
-    (comes-looped w.without_loops.result (all_generated a.library.now (gates_held a.netlist.now)) (read_once a.netlist.now) c.if-not-without_loops.true))
+    (comes-looped w.without_loops.result (all_generated a.library.now (gates_held a.netlist.now)) (read_once a.netlist.now) (ap not c.if-not-without_loops.true)))
 
 returns_2 : tie.Need-returns-then-not-all_generated
 unfolding qualifying
@@ -27,7 +28,7 @@ returns_2 c =
     let a = (starts w).args in
     qualified a.library.now a.netlist.now 0
     (rw (← w.without_loops.ensures, ← g.all_generated.ensures)
-    (comes_unbuilt w.without_loops.result g.all_generated.result (read_once a.netlist.now) g.if-not-without_loops.false c.if-not-all_generated.true))
+    (comes_unbuilt w.without_loops.result g.all_generated.result (read_once a.netlist.now) (ap not g.if-not-without_loops.false) (ap not c.if-not-all_generated.true)))
 
 returns_3 : tie.Need-returns-then-read_once
 unfolding qualifying
@@ -38,7 +39,7 @@ returns_3 c =
     let a = (starts w).args in
     qualified a.library.now a.netlist.now 2
     (rw (← w.without_loops.ensures, ← g.all_generated.ensures, ← o.read_once.ensures)
-    (comes-both w.without_loops.result g.all_generated.result o.read_once.result g.if-not-without_loops.false o.if-not-all_generated.false c.if-read_once.true))
+    (comes-both w.without_loops.result g.all_generated.result o.read_once.result (ap not g.if-not-without_loops.false) (ap not o.if-not-all_generated.false) c.if-read_once.true))
 
 returns_4 : tie.Need-returns-else-read_once
 unfolding qualifying
@@ -49,7 +50,7 @@ returns_4 c =
     let a = (starts w).args in
     qualified a.library.now a.netlist.now 1
     (rw (← w.without_loops.ensures, ← g.all_generated.ensures, ← o.read_once.ensures)
-    (comes_first w.without_loops.result g.all_generated.result o.read_once.result g.if-not-without_loops.false o.if-not-all_generated.false c.if-read_once.false))
+    (comes_first w.without_loops.result g.all_generated.result o.read_once.result (ap not g.if-not-without_loops.false) (ap not o.if-not-all_generated.false) c.if-read_once.false))
 
 pub qualifies_spec : {M : Type 1} → statement M
 qualifies_spec = tie.close (tie.spec (λ c κs. tt) returns (λ c κs. tt) returns_2 (λ c κs. tt) returns_3 returns_4)

@@ -25,18 +25,18 @@ turns c = c.before.before.before.before
 wake_one_requires : tie.Need-wake_one-top-requires invariant_loop decreases_loop
 wake_one_requires c κs =
     let t = c.before.before.before in
-    let more = one_more_lem t.loop-top.top t.loop-top.false t.loop-top-test.true in
+    let more = one_more_lem t.loop-top.top t.loop-top.left t.loop-top-test.true in
     (more.0, more.1)
 
 sub-left : tie.Need-overflow_sub-left invariant_loop decreases_loop
 sub-left c =
     let t = turns c.before.before.before.before.before.before in
-    (one_more_lem t.loop-top.top t.loop-top.false t.loop-top-test.true).2
+    (one_more_lem t.loop-top.top t.loop-top.left t.loop-top-test.true).2
 
 loop-less : tie.Need-loop-top-smaller invariant_loop decreases_loop
 loop-less c =
     let t = turns c.before.before.before.before.before.before in
-    omega (arith, (one_more_lem t.loop-top.top t.loop-top.false t.loop-top-test.true).2)
+    omega (arith, (one_more_lem t.loop-top.top t.loop-top.left t.loop-top-test.true).2)
 
 loop_again : tie.Need-loop-top-preserved invariant_loop decreases_loop
 loop_again c =

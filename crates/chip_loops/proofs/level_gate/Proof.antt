@@ -1,5 +1,5 @@
 -- `level_gate` marks the line of a gate that is ready.
-use Rattle.common_laws.proofs.Base.{refl, ap, ◌∙◌, arith, length, length-set}
+use Rattle.common_laws.proofs.Base.{refl, ap, ◌∙◌, arith, length, length-set, not}
 use Rattle.chip_loops.proofs.Steps.{levelled-before, not-ready, levels}
 use Rattle.chip_loops.proofs.level_gate.Statement.{statement}
 use Rattle.chip_loops.proofs.level_gate.Tie as tie
@@ -22,7 +22,7 @@ returns : tie.Need-returns-then-is_marked
 returns c =
     let m = c.before in
     let a = (starts m).args in
-    let line = (reads m).Line-of.ensures in
+    let line = (reads m).line_of-line.ensures in
     levelled-before a.marks.now a.netlist.now a.gate line m.is_marked.ensures c.if-is_marked.true
 
 pins-marked_requires : tie.Need-pins_marked-requires
@@ -33,9 +33,9 @@ returns_2 c =
     let p = c.before in
     let m = (asks p).before in
     let a = (starts m).args in
-    let line = (reads m).Line-of.ensures in
+    let line = (reads m).line_of-line.ensures in
     not-ready a.marks.now a.netlist.now a.gate line m.is_marked.ensures p.pins_marked.ensures (asks p).if-is_marked.false
-    c.if-not-pins_marked.true
+    (ap not c.if-not-pins_marked.true)
 
 same-length_3 : tie.Need-shape_of-marks
 same-length_3 c = ap length c.put.ensures ∙ simp length-set
@@ -46,9 +46,9 @@ returns_3 c =
     let p = e.before in
     let m = (asks p).before in
     let a = (starts m).args in
-    let line = (reads m).Line-of.ensures in
+    let line = (reads m).line_of-line.ensures in
     levels a.marks.now a.netlist.now a.gate line m.is_marked.ensures p.pins_marked.ensures (asks p).if-is_marked.false
-    e.if-not-pins_marked.false c.put.ensures
+    (ap not e.if-not-pins_marked.false) c.put.ensures
 
 pub level_gate_spec : {M : Type 1} → statement M
 level_gate_spec =

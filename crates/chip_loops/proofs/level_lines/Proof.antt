@@ -1,5 +1,5 @@
 -- `level_lines` has so many passes left, or the last one levelled nothing.
-use Rattle.common_laws.proofs.Base.{◌≡◌, refl, ap, ◌∙◌, ◌≤◌, arith, length}
+use Rattle.common_laws.proofs.Base.{◌≡◌, refl, ap, ◌∙◌, ◌≤◌, arith, length, not}
 use Rattle.netlist_table.specs.Gates.{gates_held}
 use Rattle.chip_loops.specs.Marks.{passes, most_passes}
 use Rattle.chip_loops.proofs.Steps.{passed-size, passes-end, passes-next}
@@ -25,21 +25,21 @@ returns : tie.Need-returns-then-not-pass_over invariant_loop decreases_loop
 returns c =
     let p = c.before.before.before in
     let l = (turns p).loop-left in
-    passes-end p.pass_over.ensures l.false c.if-not-pass_over.true ∙ l.invariant.2
+    passes-end p.pass_over.ensures l.left (ap not c.if-not-pass_over.true) ∙ l.invariant.2
 
 loop_again : tie.Need-loop-left-preserved invariant_loop decreases_loop
 loop_again c =
     let p = c.before.before.before in
     let l = (turns p).loop-left in
     let passed = p.pass_over.ensures in
-    (omega arith, passed-size passed ∙ l.invariant.1, passes-next passed l.false (omega arith) ∙ l.invariant.2)
+    (omega arith, passed-size passed ∙ l.invariant.1, passes-next passed l.left (omega arith) ∙ l.invariant.2)
 
 returns_2 : tie.Need-returns invariant_loop decreases_loop
 unfolding passes
 returns_2 c =
     let l = c.loop-left in
     let gs = gates_held c.args.netlist.now in
-    let none : 0 ≡ l.false = omega arith in
+    let none : 0 ≡ l.left = omega arith in
     ap (λ n. passes n gs l.marks) none ∙ l.invariant.2
 
 pub level_lines_spec : {M : Type 1} → statement M

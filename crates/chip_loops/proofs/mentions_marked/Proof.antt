@@ -26,7 +26,7 @@ returns c =
     let a = l.args in
     let said = ap not c.mentioned.ensures in
     let next = mentions-next a.marks.now (mention_at a.netlist.now) Size.line_places l.loop-l.l (omega arith) said in
-    sym (l.loop-l.invariant.1 ∙ (next c.is_marked.ensures).stops c.if-not-levelled.true)
+    sym (l.loop-l.invariant.1 ∙ (next c.is_marked.ensures).stops (ap not c.if-not-levelled.true))
 
 loop_again : tie.Need-loop-l-preserved invariant_loop decreases_loop
 loop_again c =
@@ -35,7 +35,7 @@ loop_again c =
     let said = ap not c.mentioned.ensures in (
       omega arith,
       let next = mentions-next a.marks.now (mention_at a.netlist.now) Size.line_places l.loop-l.l (omega arith) said in
-          l.loop-l.invariant.1 ∙ (next c.is_marked.ensures).goes c.if-not-levelled.false,
+          l.loop-l.invariant.1 ∙ (next c.is_marked.ensures).goes (ap not c.if-not-levelled.false),
     )
 
 returns_2 : tie.Need-returns invariant_loop decreases_loop

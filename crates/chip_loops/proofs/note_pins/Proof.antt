@@ -1,5 +1,5 @@
 -- `note_pins` has marked the lines of the pins below the one that it is at.
-use Rattle.common_laws.proofs.Base.{false, ◌≡◌, refl, sym, ap, ◌∙◌, ◌-◌, ◌≤◌, arith, length}
+use Rattle.common_laws.proofs.Base.{false, ◌≡◌, refl, sym, ap, ◌∙◌, ◌-◌, ◌≤◌, arith, length, not}
 use Rattle.sizes.specs.Sizes as Size
 use Rattle.reading.proofs.Laws.{clash}
 use Rattle.netlist_table.specs.Gates.{gate_line, each_of, present, pin_lines}
@@ -39,9 +39,9 @@ returns c =
     let n = c.before.before.before in
     let a = (starts n).args in
     let l = (turns n).loop-pin in
-    let line = n.Line-of.ensures in
+    let line = n.line_of-line.ensures in
     let stop = pins_stop (gate_line a.netlist.now a.gate) Size.gate_lines l.pin (omega arith) line
-    n.note_line.ensures c.if-not-note_line.true in
+    n.note_line.ensures (ap not c.if-not-note_line.true) in
     record {
       answers = sym (sym l.invariant.2 ∙ stop);
       leaves = λ t. clash false t refl;
@@ -53,9 +53,9 @@ loop_again c =
     let n = c.before.before.before in
     let a = (starts n).args in
     let l = (turns n).loop-pin in
-    let line = n.Line-of.ensures in
+    let line = n.line_of-line.ensures in
     let next = pins-go (gate_line a.netlist.now a.gate) Size.gate_lines l.pin (omega arith) line
-    n.note_line.ensures c.if-not-note_line.false in
+    n.note_line.ensures (ap not c.if-not-note_line.false) in
     (omega arith, n.note_line.ensures.size ∙ l.invariant.1, next.0 ∙ l.invariant.2, next.1 ∙ l.invariant.3)
 
 returns_2 : tie.Need-returns invariant_loop decreases_loop

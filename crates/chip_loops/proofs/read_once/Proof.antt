@@ -1,5 +1,5 @@
 -- `read_once` goes on while no line has a mark.
-use Rattle.common_laws.proofs.Base.{flat_map, ◌≡◌, refl, sym, ap, ◌∙◌, ◌-◌, ◌≤◌, arith, length}
+use Rattle.common_laws.proofs.Base.{flat_map, ◌≡◌, refl, sym, ap, ◌∙◌, ◌-◌, ◌≤◌, arith, length, not}
 use Rattle.sizes.specs.Sizes as Size
 use Rattle.netlist_table.specs.Gates.{each_of, gate_at}
 use Rattle.netlist_table.proofs.HeldGates.{gates-start, each-end}
@@ -39,7 +39,7 @@ returns c =
     let l = n.before.before.before in
     let table = (starts l.before).args.netlist.now in
     let stop = gates_stop table l.count-gates.result l.loop-gate.gate (omega arith) n.note_pins.ensures in
-    sym (sym l.loop-gate.invariant.3 ∙ stop c.if-not-note_pins.true)
+    sym (sym l.loop-gate.invariant.3 ∙ stop (ap not c.if-not-note_pins.true))
 
 loop_again : tie.Need-loop-gate-preserved invariant_loop decreases_loop
 loop_again c =
@@ -50,7 +50,7 @@ loop_again c =
       omega arith,
       l.loop-gate.invariant.1,
       n.note_pins.ensures.size ∙ l.loop-gate.invariant.2,
-      go c.if-not-note_pins.false ∙ l.loop-gate.invariant.3,
+      go (ap not c.if-not-note_pins.false) ∙ l.loop-gate.invariant.3,
     )
 
 returns_2 : tie.Need-returns invariant_loop decreases_loop

@@ -1,5 +1,5 @@
 -- `unlevelled_pin` goes on while the pins are marked.
-use Rattle.common_laws.proofs.Base.{◌≡◌, refl, sym, ap, ◌∙◌, ◌-◌, ◌≤◌, arith, eqb}
+use Rattle.common_laws.proofs.Base.{◌≡◌, refl, sym, ap, ◌∙◌, ◌-◌, ◌≤◌, arith, eqb, not}
 use Rattle.sizes.specs.Sizes as Size
 use Rattle.netlist_table.specs.Gates.{gate_line, each_of, present, pin_lines}
 use Rattle.netlist_table.proofs.HeldGates.{each-end}
@@ -25,8 +25,8 @@ returns c =
     let l = c.before.before.before.before in
     let a = l.args in
     let next = pins-next a.marks.now (gate_line a.netlist.now a.gate) Size.gate_lines l.loop-pin.pin (omega arith) in
-    pin-found (eqb c.Line-of.result 0) c.is_marked.result c.if-not-levelled.true
-    (l.loop-pin.invariant.1 ∙ (next c.Line-of.ensures c.is_marked.ensures).stops c.if-not-levelled.true)
+    pin-found (eqb c.line_of-line.result 0) c.is_marked.result (ap not c.if-not-levelled.true)
+    (l.loop-pin.invariant.1 ∙ (next c.line_of-line.ensures c.is_marked.ensures).stops (ap not c.if-not-levelled.true))
 
 loop_again : tie.Need-loop-pin-preserved invariant_loop decreases_loop
 loop_again c =
@@ -34,7 +34,7 @@ loop_again c =
     let a = l.args in (
       omega arith,
       let next = pins-next a.marks.now (gate_line a.netlist.now a.gate) Size.gate_lines l.loop-pin.pin (omega arith) in
-          l.loop-pin.invariant.1 ∙ (next c.Line-of.ensures c.is_marked.ensures).goes c.if-not-levelled.false,
+          l.loop-pin.invariant.1 ∙ (next c.line_of-line.ensures c.is_marked.ensures).goes (ap not c.if-not-levelled.false),
     )
 
 returns_2 : tie.Need-returns invariant_loop decreases_loop

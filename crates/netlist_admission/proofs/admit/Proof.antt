@@ -9,7 +9,7 @@ use Rattle.netlist_admission.proofs.admit.Tie as tie
 -- ---- the places of the code that the answers speak of
 
 abbrev given : tie.Else-not-form → RawStatement
-given c = c.before.before.before.args.s
+given c = c.args.s
 
 abbrev first : tie.After-slice_known-then-kind-eq-INPUT-1 → tie.Then-kind-eq-INPUT
 first c = c.before.before.before.before

@@ -15,7 +15,7 @@ abbrev decreases_loop : tie.decreases-loop-l
 decreases_loop table end found₀ l₀ found l = end + 1 - l
 
 abbrev table : tie.At-loop-l invariant_loop decreases_loop → List ℕ
-table l = l.before.before.before.args.table.now
+table l = l.args.table.now
 
 loop-holds : tie.Need-loop-l-init invariant_loop decreases_loop
 loop-holds c = (omega arith, omega arith, refl)

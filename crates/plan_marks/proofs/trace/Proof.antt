@@ -88,7 +88,7 @@ more : (c : tie.After-one_sweep-changed invariant_loop decreases_loop)
     → let l = looping c in
     let b = started l in
     let a = (began b).args in
-    let n = 2 * (counted b).count-gates.result + 1 - l.loop-left.false in
+    let n = 2 * (counted b).count-gates.result + 1 - l.loop-left.left in
     Stands a.kind a.library.now a.netlist.now (after a.kind a.library.now a.netlist.now (suc n)) c.one_sweep-changed.new.numbers c.one_sweep-changed.new.marks
     × ((after a.kind a.library.now a.netlist.now (suc n)).time ≡ l.loop-left.clock + 2 * get_or a.netlist.now 0 0)
 more c =
@@ -106,7 +106,7 @@ loop_again c =
     let i = l.loop-left.invariant in
     let m = more o in
     let t = o.one_sweep-changed.ensures.0 in
-    let n : 2 * (counted b).count-gates.result + 1 - (l.loop-left.false - 1) ≡ suc (2 * (counted b).count-gates.result + 1 - l.loop-left.false) = omega arith in
+    let n : 2 * (counted b).count-gates.result + 1 - (l.loop-left.left - 1) ≡ suc (2 * (counted b).count-gates.result + 1 - l.loop-left.left) = omega arith in
     (omega arith, omega (arith, few b), rw n (m.1 ∙ omega (arith, (counted b).count-gates.ensures)), rw n m.0, swept-length t.swept ∙ i.4, t.marks_long ∙ i.5, swept-bounded t.swept i.6, o.one_sweep-changed.ensures.1)
 
 returns : tie.Need-returns-then-not-changed invariant_loop decreases_loop
@@ -117,7 +117,7 @@ returns c k cells ss e h =
     let a = (began b).args in
     let i = l.loop-left.invariant in
     let t = o.one_sweep-changed.ensures.0 in
-    ends-early a.kind a.library.now a.netlist.now k cells ss e h (2 * (counted b).count-gates.result + 1 - l.loop-left.false) (l.loop-left.false - 1)
+    ends-early a.kind a.library.now a.netlist.now k cells ss e h (2 * (counted b).count-gates.result + 1 - l.loop-left.left) (l.loop-left.left - 1)
     (omega (arith, (counted b).count-gates.ensures)) _ _ _ _ (swept-length t.swept ∙ i.4) (swept-still c.if-not-changed.true t.swept) i.3 (more o).0
 
 returns_2 : tie.Need-returns invariant_loop decreases_loop
@@ -125,7 +125,7 @@ returns_2 c k cells ss e h =
     let b = c.before.before.before.before in
     let a = (began b).args in
     let l = c.loop-left in
-    let n : 2 * (counted b).count-gates.result + 1 - l.false ≡ 2 * get_or a.netlist.now 0 0 + 1 = omega (arith, (counted b).count-gates.ensures) in
+    let n : 2 * (counted b).count-gates.result + 1 - l.left ≡ 2 * get_or a.netlist.now 0 0 + 1 = omega (arith, (counted b).count-gates.ensures) in
     ends-all a.kind a.library.now a.netlist.now k cells ss e h _ _ (rw n at l.invariant.3)
 
 pub trace_spec : {M : Type 1} → statement M

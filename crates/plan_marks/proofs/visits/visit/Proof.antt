@@ -38,7 +38,7 @@ abbrev summed : tie.After-store → tie.After-lesser_of-sum
 summed c = c.before.before
 
 abbrev least_in : tie.After-store → tie.After-least_in-lowest
-least_in c = (summed c).before.before
+least_in c = (summed c).before.before.before
 
 abbrev lowered : tie.After-first_row-first → tie.Else-not-store
 lowered c = c.before.before.before
@@ -80,7 +80,7 @@ group_few c =
     omega (arith, c.visit_group.ensures, s.requires.0.links_fit.kind_fits, s.requires.2)
 
 abbrev group_at : tie.After-visit_group → ℕ
-group_at c = (celled (lined (gathered c))).cell_place-cell.result + Size.groups_at + c.visit-group.result * Size.group_words
+group_at c = (celled (lined (gathered c))).cell_place-cell.result + Size.groups_at + c.visit_group.result * Size.group_words
 
 group_stands : (c : tie.After-visit_group)
     → let a = (began (lined (gathered c))).args in

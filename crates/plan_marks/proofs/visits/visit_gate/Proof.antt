@@ -53,7 +53,7 @@ returns_2 c =
     let some = sym e.either.ensures ∙ x.if-not-either.false in
     let t = traced_gate a.kind a.library.now a.netlist.now a.gate (first v).visit-at_zero.ensures v.visit-at_one.ensures in
     let r = c.wake_readers.ensures a.netlist.now (get_or a.netlist.now 0 0) s.requires.fits.links_fit.linked.chained in
-    (rw some at t, gate-woken a.kind a.library.now a.netlist.now s.requires.fits.links_fit.needs a.gate s.requires.inside x.Line-of.ensures (first v).visit-at_zero.ensures.swept v.visit-at_one.ensures.swept r)
+    (rw some at t, gate-woken a.kind a.library.now a.netlist.now s.requires.fits.links_fit.needs a.gate s.requires.inside x.line_of.ensures (first v).visit-at_zero.ensures.swept v.visit-at_one.ensures.swept r)
 
 wake_readers_requires : tie.Need-wake_readers-requires
 wake_readers_requires c κs =
@@ -63,7 +63,7 @@ wake_readers_requires c κs =
       netlist = a.netlist.now;
       gates = get_or a.netlist.now 0 0;
       chained = s.requires.fits.links_fit.linked.chained;
-      inside = rw (c.Line-of.ensures, ← line_at a.netlist.now a.gate 0 (omega arith)) ((gate-fits s).lines.most 0 (omega arith));
+      inside = rw (c.line_of.ensures, ← line_at a.netlist.now a.gate 0 (omega arith)) ((gate-fits s).lines.most 0 (omega arith));
       size = s.requires.awake_size;
     }
 

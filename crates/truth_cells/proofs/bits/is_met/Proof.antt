@@ -26,7 +26,7 @@ returns c =
     let other = c.if-not-admits.true in
     sym
     (l.invariant.1
-    ∙ met-more l.i l.rest l.false (omega arith)
+    ∙ met-more l.i l.rest l.left (omega arith)
     ∙ rw (← p.power-four.ensures, ← q.power-two.ensures, ← a.admits.ensures, other) refl)
 
 loop_again : tie.Need-loop-i-preserved invariant_loop decreases_loop
@@ -38,7 +38,7 @@ loop_again c =
     let fitting = c.if-not-admits.false in (
       omega arith,
       l.invariant.1
-          ∙ met-more l.i l.rest l.false (omega arith)
+          ∙ met-more l.i l.rest l.left (omega arith)
           ∙ rw (← p.power-four.ensures, ← q.power-two.ensures, ← a.admits.ensures, fitting) refl,
     )
 
