@@ -42,7 +42,7 @@ read-lines_requires : tie.Need-read_lines-cells-requires
 read-lines_requires c κs =
     let k = c.before.before.before in
     let e = checked (clears k) in
-    (e.lib-short, subst NoCells (sym k.clear_lent.ensures) (cleared-none (now (begins (accepted (clears k))).args.library) e.library-long))
+    (e.lib-short, subst NoCells (sym k.clear_lent.ensures) (cleared-none ((begins (accepted (clears k))).args.library.now) e.library-long))
 
 -- What is read stands before what stood past the published size.
 filled : (c : tie.After-read_lines-cells)
@@ -52,7 +52,7 @@ filled c cells e =
     let k = empties c in
     c.read_lines-cells.ensures.1 cells e
     ∙ ap (λ (l : List ℕ). library_words cells ++ l)
-    (ap (drop Size.library) k.clear_lent.ensures ∙ cleared-past (now (begins (accepted (clears k))).args.library) (checked (clears k)).library-long)
+    (ap (drop Size.library) k.clear_lent.ensures ∙ cleared-past ((begins (accepted (clears k))).args.library.now) (checked (clears k)).library-long)
 
 returns : tie.Need-returns-in-Refused
 returns c =

@@ -36,20 +36,20 @@ loop_again c =
     let same = c.same_row.ensures in
     ⊎_elim
     (λ w. (
-      omega (arith, w.1),
+      omega (arith, w.found-is),
       omega arith,
       l.invariant.2
-          ∙ kept-found _ _ l.found _ l.other _ (omega arith) e.if-others-other.false (sym same ∙ w.0.taken)
-          ∙ rw w.1,
+          ∙ kept-found _ _ l.found _ l.other _ (omega arith) e.if-others-other.false (sym same ∙ w.if-same_row.true)
+          ∙ rw w.found-is,
     ))
     (λ w. (
-      omega (arith, w.1),
+      omega (arith, w.found-is),
       omega arith,
       l.invariant.2
-          ∙ kept-other _ _ l.found _ l.other _ (omega arith) e.if-others-other.false (sym same ∙ w.0.left)
-          ∙ rw w.1,
+          ∙ kept-other _ _ l.found _ l.other _ (omega arith) e.if-others-other.false (sym same ∙ w.if-same_row.false)
+          ∙ rw w.found-is,
     ))
-    c.if-same_row.branch
+    c.if-same_row.branch-raw
 
 returns_2 : tie.Need-returns invariant_loop decreases_loop
 returns_2 c = let l = c.loop-found in sym (l.invariant.2 ∙ kept-none _ _ l.found _ l.other _ (omega arith))

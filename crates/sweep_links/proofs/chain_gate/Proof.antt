@@ -42,10 +42,10 @@ loop_again c =
     let l = c.before.before.before.before in
     let s = begun l in
     let netlist = s.args.netlist.now in
-    let line = c.Line-of.result in
+    let line = c.line_of-line.result in
     let is : line ≡ pin_line netlist (l.loop-pin.pin + 1) =
-    c.Line-of.ensures.0 ∙ ap (λ (k : ℕ). get_or netlist k 0) (omega arith) in
-    let few = c.Line-of.ensures.1 in
+    c.line_of-line.ensures.0 ∙ ap (λ (k : ℕ). get_or netlist k 0) (omega arith) in
+    let few = c.line_of-line.ensures.1 in
     let inside : Size.next_at + (l.loop-pin.pin + 1) < length l.loop-pin.links = omega (arith, size l, s.requires.lines_stand.count) in (
       omega arith,
       omega arith,

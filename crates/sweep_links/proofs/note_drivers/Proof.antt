@@ -31,10 +31,10 @@ loop_again : tie.Need-loop-gate-preserved invariant_loop decreases_loop
 loop_again c =
     let l = c.before.before in
     let netlist = l.args.netlist.now in
-    let line = c.Line-of.result in
-    let few = c.Line-of.ensures.1 in
+    let line = c.line_of-line.result in
+    let few = c.line_of-line.ensures.1 in
     let is : line ≡ driven_line netlist (l.loop-gate.gate + 1) =
-    c.Line-of.ensures.0 ∙ ap (λ (k : ℕ). gate_line netlist k 0) (omega arith) in (
+    c.line_of-line.ensures.0 ∙ ap (λ (k : ℕ). gate_line netlist k 0) (omega arith) in (
       omega arith,
       put_first (driven_line netlist) l.loop-gate.gate Size.drivers_at l.loop-gate.links l.loop-gate.invariant.1 line is few
           (omega (arith, l.loop-gate.invariant.2.size, l.requires.size)),

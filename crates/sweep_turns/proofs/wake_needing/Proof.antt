@@ -1,5 +1,5 @@
 -- `wake_needing` wakes by the role those that read the line, or the one that drives it.
-use borrow.Author.Rules.{rules}
+use Rattle.common_laws.proofs.Base.{not, ap, rules}
 use Rattle.sweep_turns.proofs.Wakes.{none-woken, readers-woken, driver-woken}
 use Rattle.sweep_turns.proofs.wake_needing.Statement.{statement}
 use Rattle.sweep_turns.proofs.wake_needing.Tie as tie
@@ -8,7 +8,7 @@ pub wake_needing_spec : {M : Type 1} → statement M
 wake_needing_spec =
     tie.close
     (tie.spec
-    (λ c netlist chained driven once. none-woken {changed = c.args.changed} c.if-not-changed.true)
+    (λ c netlist chained driven once. none-woken {changed = c.args.changed} (ap not c.if-not-changed.true))
     (λ c κs. search rules)
     (λ c κs.
     let p = c.requires in

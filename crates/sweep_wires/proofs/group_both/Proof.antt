@@ -24,7 +24,7 @@ returns c =
     let a = l.args in
     let n = l.word-rows.ensures in
     sym (any_found (row_both a.library.now a.pins a.group) _ l.loop-row.row (rw n at l.loop-row-test.true)
-    (ap (both_values a.pins a.pins) (sym b.row_columns.ensures) ∙ sym b.Both-values.ensures ∙ c.if-both_values.true))
+    (ap (both_values a.pins a.pins) (sym b.row_columns.ensures) ∙ sym b.both_values.ensures ∙ c.if-both_values.true))
 
 loop_again : tie.Need-loop-row-preserved invariant_loop decreases_loop
 loop_again c =
@@ -33,7 +33,7 @@ loop_again c =
     let a = l.args in (
       omega arith,
       any_next (row_both a.library.now a.pins a.group) l.loop-row.row l.loop-row.invariant.1
-          (ap (both_values a.pins a.pins) (sym b.row_columns.ensures) ∙ sym b.Both-values.ensures ∙ c.if-both_values.false),
+          (ap (both_values a.pins a.pins) (sym b.row_columns.ensures) ∙ sym b.both_values.ensures ∙ c.if-both_values.false),
     )
 
 returns_2 : tie.Need-returns invariant_loop decreases_loop

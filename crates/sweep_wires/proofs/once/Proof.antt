@@ -26,11 +26,11 @@ next : (c : tie.After-kept-left invariant_loop decreases_loop)
     → let l = looping c.before in
     let a = l.args in
     let rest = l.loop-rest.rest in
-    l.loop-rest.false + c.kept-left.result + bits_of (λ j. not (asked_below a.lines.now a.pins a.columns (column_value j) j)) (columns_gone (bit_and rest (rest - 1)))
+    l.loop-rest.left + c.kept-left.result + bits_of (λ j. not (asked_below a.lines.now a.pins a.columns (column_value j) j)) (columns_gone (bit_and rest (rest - 1)))
     ≡ once_columns a.lines.now a.pins a.columns
 next c =
     let l = looping c.before in
-    bits-on l.loop-rest.invariant.0 l.loop-rest-test.true (low c.before) _ l.loop-rest.false l.loop-rest.invariant.1 c.kept-left.ensures
+    bits-on l.loop-rest.invariant.0 l.loop-rest-test.true (low c.before) _ l.loop-rest.left l.loop-rest.invariant.1 c.kept-left.ensures
 
 few : (c : tie.After-kept-left invariant_loop decreases_loop) → let a = (looping c.before).args in once_columns a.lines.now a.pins a.columns < 2 ^ 32
 unfolding once_columns
@@ -39,7 +39,7 @@ few c =
     bits_most _ s.args.columns 32 (omega arith) (row_word s.requires)
 
 returns : tie.Need-returns invariant_loop decreases_loop
-returns c = bits-end _ c.loop-rest.false (omega (arith, c.loop-rest-test.false)) c.loop-rest.invariant.1
+returns c = bits-end _ c.loop-rest.left (omega (arith, c.loop-rest-test.false)) c.loop-rest.invariant.1
 
 pub once_spec : {M : Type 1} → statement M
 once_spec =

@@ -1,5 +1,5 @@
 -- `number_of` meets its contract: each return is a case of the number, by the tests of the definition.
-use Rattle.common_laws.proofs.Base.{Bool, true, false, not, ◌&&◌, ◌||◌, ◌≡◌, leb, ltb, eqb}
+use Rattle.common_laws.proofs.Base.{Bool, true, false, not, ◌&&◌, ◌||◌, ◌≡◌, leb, ltb, eqb, le-leb, lt-leb}
 use Rattle.sizes.specs.Sizes as Size
 use Rattle.reading.specs.Choice.{pick}
 use Rattle.reading.specs.Numbers as No
@@ -52,13 +52,13 @@ returns_2 : tie.Need-returns-then-wrong
 returns_2 c = is_wrong _ _ c.if-bad.false c.if-wrong.true
 
 returns_3 : tie.Need-returns-then-high
-returns_3 c = is_high _ _ c.if-bad.false c.if-wrong.false c.if-high.true
+returns_3 c = is_high c.args.a c.args.p c.if-bad.false c.if-wrong.false (le-leb _ _ c.if-high.true)
 
 returns_4 : tie.Need-returns-then-low
-returns_4 c = is_low _ _ c.if-bad.false c.if-wrong.false c.if-high.false c.if-low.true
+returns_4 c = is_low c.args.a c.args.p c.if-bad.false c.if-wrong.false (lt-leb _ _ c.if-high.false) c.if-low.true
 
 returns_5 : tie.Need-returns
-returns_5 c = is_good _ _ c.if-bad.false c.if-wrong.false c.if-high.false c.if-low.false
+returns_5 c = is_good c.args.a c.args.p c.if-bad.false c.if-wrong.false (lt-leb _ _ c.if-high.false) c.if-low.false
 
 pub number_of_spec : {M : Type 1} → statement M
 number_of_spec = tie.close (tie.spec returns returns_2 returns_3 returns_4 returns_5)

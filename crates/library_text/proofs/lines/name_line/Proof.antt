@@ -55,12 +55,12 @@ module _ (c : tie.After-header_pins-header) where
       (field_nth _ _ _ 0 2 behind-second third.field-digits.ensures)
 
 -- The count of pins, where the header has one.
-valued : (c : tie.In-Value-2) → pins_of (fs c.before) ≡ some c.in-Value.pins
+valued : (c : tie.In-Value) → pins_of (fs c.before) ≡ some c.in-Value.pins
 unfolding numeral_read
 valued c = sym (told c.before) ∙ ap numeral_read c.in-Value.is
 
-abbrev headed : tie.After-header_number-number → tie.In-Value-2
-headed c = c.before.before.before
+abbrev headed : tie.After-header_number-number → tie.In-Value
+headed c = c.before
 
 -- The number that the header was given.
 numbered : (c : tie.After-header_number-number)

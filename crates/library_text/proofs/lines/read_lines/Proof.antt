@@ -57,7 +57,7 @@ module _ (c : tie.Else-at-l invariant_loop decreases_loop) where
       omega arith
 
 -- What the line leaves.
-left : (c : tie.After-read_line-s invariant_loop decreases_loop) → let l = (turn (cut c)).loop-at in let r = l.inv.3.reading in
+left : (c : tie.After-read_line-s invariant_loop decreases_loop) → let l = (turn (cut c)).loop-at in let r = l.invariant.3.reading in
     Leaves l.number (library_line l.number r.cells r.place (fields (here (cut c)))) c.read_line-s.result c.read_line-s.new.table (past (turn (cut c)))
 left c =
     let t = turn (cut c) in

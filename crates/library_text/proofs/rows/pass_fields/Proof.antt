@@ -48,7 +48,7 @@ loop_again c =
     let kept = rw field at pass.ensures.1 in
     rw (c.after-at.ensures, field) (
       rw told (field_small a l.p _ l.at _ l.invariant.0 on),
-      pass.auto.0 ∙ l.invariant.1,
+      pass.auto.table ∙ l.invariant.1,
       rw told (sym (passed-turn a l.p s l.at t.loop-at-test.true) ∙ l.invariant.2),
       rw (told, kept) (sym (stored-turn a l.p s l.at l.table t.loop-at-test.true) ∙ l.invariant.3),
     )

@@ -58,7 +58,7 @@ returns_2 c =
     let line = s.args.line.now in
     let from = field_next line _ 0 _ 0 (fields_from-start line) w.field-first.ensures asks.after-from.ensures in
     walk-read s.args.cell s.args.heading s.args.word s.args.pins s.requires.1 (fields line) (fields-some line) (sym (word-told w.before) ∙ w.if-not-is_word.false)
-    _ _ _ _ _ _ asks.asked_for-a.ensures from walk.pass_fields-p.ensures.0 walk.pass_fields-p.ensures.1 c.number_of_lem.ensures
+    _ _ _ _ _ _ asks.asked_for-a.ensures from walk.pass_fields-p.ensures.0 walk.pass_fields-p.ensures.1 c.number_of.ensures
 
 pub read_rows_spec : {M : Type 1} → statement M
 read_rows_spec =

@@ -83,8 +83,8 @@ returns_5 c cells lib =
     let d = told p.before in
     let f = (numbered d).before in
     let n = (named f).before in
-    let number = p.in-Value.number.given in
-    let l = number.0.0 in
+    let number = p.in-Value in
+    let l = number.l in
     let from = p.after.ensures ∙ ap (next_after (line n) f.after-next.result) d.field-f.ensures in
     let cell =
     d.find-cell.ensures
@@ -94,7 +94,7 @@ returns_5 c cells lib =
     rw
     (gate-lines cells (line n) (at n) (inside n).if-n-at.false (name-good (named f)) f.after-next.result (behind f)
     (numbered d).if-n-next.false l
-    (number-good d.decimal-number.ensures d.field-f.ensures number.1))
+    (number-good d.decimal-number.ensures d.field-f.ensures number.is))
     (rw (← from) (gathered-gate _ l _ p.pins_from-p.result _ p.pins_from-p.ensures refl refl cell refl refl refl refl))
 
 pub gate_from_spec : {M : Type 1} → statement M

@@ -29,11 +29,11 @@ begun c = c.before.before
 abbrev walking : tie.After-decimal-number invariant_loop decreases_loop → tie.In-loop-at invariant_loop decreases_loop
 walking c = c.before.before
 
-abbrev told : tie.In-Value-2 invariant_loop decreases_loop → tie.After-decimal-number invariant_loop decreases_loop
+abbrev told : tie.In-Value invariant_loop decreases_loop → tie.After-decimal-number invariant_loop decreases_loop
 told c = c.before
 
-abbrev numbered : tie.After-put invariant_loop decreases_loop → tie.In-Value-2 invariant_loop decreases_loop
-numbered c = c.before.before.before
+abbrev numbered : tie.After-put invariant_loop decreases_loop → tie.In-Value invariant_loop decreases_loop
+numbered c = c.before.before
 
 abbrev stored : tie.After-after-at invariant_loop decreases_loop → tie.After-put invariant_loop decreases_loop
 stored c = c.before.before.before
@@ -66,7 +66,7 @@ returns c =
     (number-bad d.decimal-number.ensures d.field-f.ensures c.in_default.is) refl
 
 slice_aggregate_put : tie.Need-slice_bounds-put-end invariant_loop decreases_loop
-slice_aggregate_put c = sym (whole (walking (told c.before.before)).before)
+slice_aggregate_put c = sym (whole (walking (told c.before)).before)
 
 add-count : tie.Need-overflow_add-count invariant_loop decreases_loop
 add-count c =
@@ -87,12 +87,12 @@ loop_again c =
     let w = walking d in
     let s = (begun w.before).args.line.now in
     let l = w.loop-at in
-    let number = n.in-Value.number.given in (
+    let number = n.in-Value in (
       omega (arith, next_after-within s l.at (part 44 s l.at) w.loop-at-test.true, behind c, l.invariant.0),
       rw (behind c)
-          (passed-more l.invariant.1 number.0.0 _ w.loop-at-test.true
-          (number-good d.decimal-number.ensures d.field-f.ensures number.1) refl
-          (λ ls h. pins-more ls number.0.0 _ _ h (stored c).put.ensures refl (ap (λ (b : Bool). l.bad || b) c.line_bad-bad.ensures))),
+          (passed-more l.invariant.1 number.l _ w.loop-at-test.true
+          (number-good d.decimal-number.ensures d.field-f.ensures number.is) refl
+          (λ ls h. pins-more ls number.l _ _ h (stored c).put.ensures refl (ap (λ (b : Bool). l.bad || b) c.line_bad-bad.ensures))),
     )
 
 returns_2 : tie.Need-returns invariant_loop decreases_loop

@@ -89,7 +89,7 @@ other-gate c = tested (cut (no_input (no_output c.before).before).before) (bytes
 
 -- What was answered of a word and of the rules.
 module _ (f : tie.After-after-at) (word : List ℕ) {d t b : Bool} where
-  ruled : d ≡ declaring (begun f.before).args.rules → t ≡ same_bytes f.before.field.result.now word → (d && t) ≡ b
+  ruled : d ≡ declaring (begun f.before).args.rules → t ≡ same_bytes f.before.field-f.result.now word → (d && t) ≡ b
       → (declaring (begun f.before).args.rules && same_bytes (part 44 (line f) 0) word) ≡ b
   ruled rules said e =
       ap (λ (x : Bool). x && same_bytes (part 44 (line f) 0) word) (sym rules)

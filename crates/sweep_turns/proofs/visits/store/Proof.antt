@@ -9,21 +9,21 @@ returns : tie.Need-returns-then-numbers-place
 returns c =
     let n = c.before.before in
     let a = n.args in
-    let e : n.number_of_lem.result ≡ at a.numbers.now a.place = sym c.if-numbers-place.true ∙ sym (at_getD a.numbers.now a.place 0 (omega arith)) in
-    rw (← n.number_of_lem.ensures)
+    let e : n.number_of-number.result ≡ at a.numbers.now a.place = sym c.if-numbers-place.true ∙ sym (at_getD a.numbers.now a.place 0 (omega arith)) in
+    rw (← n.number_of-number.ensures)
     (record {
       numbers = sym (ap (set a.numbers.now a.place) (sym c.if-numbers-place.true) ∙ set-get_or a.numbers.now a.place 0);
-      flag = rw (eq-eqb n.number_of_lem.result (at a.numbers.now a.place) e);
+      flag = rw (eq-eqb n.number_of-number.result (at a.numbers.now a.place) e);
     })
 
 returns_2 : tie.Need-returns
 returns_2 c =
     let n = c.before.before in
     let a = n.args in
-    rw (← n.number_of_lem.ensures)
+    rw (← n.number_of-number.ensures)
     (record {
       numbers = refl;
-      flag = rw (at_getD a.numbers.now a.place 0 (omega arith), ne_eqb n.number_of_lem.result (get_or a.numbers.now a.place 0) (λ e. c.if-numbers-place.false (sym e)));
+      flag = rw (at_getD a.numbers.now a.place 0 (omega arith), ne_eqb n.number_of-number.result (get_or a.numbers.now a.place 0) (λ e. c.if-numbers-place.false (sym e)));
     })
 
 pub store_spec : {M : Type 1} → statement M

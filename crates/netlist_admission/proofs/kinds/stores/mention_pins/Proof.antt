@@ -24,7 +24,7 @@ begun c = c.before.before.before
 loop-holds : tie.Need-loop-i-init invariant_loop decreases_loop
 loop-holds c =
     let a = c.args in
-    (omega arith, omega arith, c.kept-n.ensures, omega arith, refl, mention_start a.t2 a.table.now)
+    (omega arith, omega arith, c.kept-n.ensures, omega arith, refl, mention_start a.pins a.table.now)
 
 loop_again : tie.Need-loop-i-preserved invariant_loop decreases_loop
 loop_again c =
@@ -37,7 +37,7 @@ loop_again c =
       l.invariant.2,
       l.invariant.3,
       ap length last.mention.ensures ∙ simp length-set l.invariant.4,
-      last.mention.ensures ∙ rw l.invariant.5 (mention_step a.t2 l.i a.table.now (omega arith)),
+      last.mention.ensures ∙ rw l.invariant.5 (mention_step a.pins l.i a.table.now (omega arith)),
     )
 
 same_length : tie.Need-shape_of-table invariant_loop decreases_loop
