@@ -32,7 +32,7 @@ help:
 	@echo 'make fuzz      compares archive and second implementation on random calls: SECONDS=60 SEED='
 	@echo 'make bench     times the archive and the second implementation side by side'
 	@echo 'make tools     installs what some tests of scoap_pads need, by apt-get as root, and updates its lists first'
-	@echo 'make clean     removes target/, with all that was proved and built'
+	@echo 'make clean     removes target/ and crates/*/out/, with all that was proved and built'
 
 # What the other targets need, told where it is missing.
 need-rt:
@@ -43,8 +43,8 @@ need-cargo:
 	@command -v cargo >/dev/null || { echo 'cargo is not installed: it builds scoap_pads and the second implementation, which are in Rust'; exit 1; }
 
 programs: need-rt
-	@echo 'proving the programs and the crates below them, one line for each:'
-	@tools/told target/log/run.out check $(PROGRAMS) || { echo 'not proved: target/log/run.out has it whole'; exit 1; }
+	@echo 'proving the programs and the crates below them, one line for each that has changed:'
+	@tools/proved programs $(PROGRAMS)
 
 run: programs
 	@echo 'target/bin/scoap on examples/c17:'
@@ -63,11 +63,7 @@ check: need-rt need-cargo
 # The archive for C. It is proved and built again where a file of crates/ or the toolchain has changed.
 ARCHIVE = target/staticlib/libscoap_c.a
 archive: need-rt
-	@sum=$$({ rt version; sha256sum crates.txt; find crates -type f ! -path '*/must-fail/*' -print0 | LC_ALL=C sort -z | xargs -0 sha256sum; } | sha256sum); \
-	if [ -e $(ARCHIVE) ] && [ "$$sum" = "$$(cat $(ARCHIVE).sum 2>/dev/null)" ]; then exit 0; fi; \
-	echo 'proving the calls for C and the crates below them, one line for each:'; \
-	tools/told target/log/archive.out staticlib scoap_c || { echo 'not built: target/log/archive.out has it whole'; exit 1; }; \
-	echo "$$sum" >$(ARCHIVE).sum
+	@tools/proved archive
 
 # The archive as WebAssembly, and what JavaScript and TypeScript need around it.
 wasm: archive
@@ -95,7 +91,7 @@ pads: $(if $(LINES),large) wasm need-cargo
 	@echo 'Built: target/bin/scoap_pads'
 	@echo 'Next: target/bin/scoap_pads report examples/shift_register/c1.blif'
 
-# The same proofs at a larger size, in a copy of the tree under target/.
+# The same proofs at a larger size, in a copy of the tree; what is built of it stands under target/.
 large: need-rt
 	@large/build '$(LINES)'
 
@@ -126,4 +122,4 @@ tools:
 	apt-get install -y --no-install-recommends yosys berkeley-abc chromium chromium-driver curl
 
 clean:
-	rm -rf target
+	rm -rf target crates/*/out $(shell large/build --trees)
