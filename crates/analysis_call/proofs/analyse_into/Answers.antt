@@ -1,6 +1,6 @@
 -- `analyse_into`: the entry and both texts, then the end.
 use Rattle.demands.specs.Answer.{lent_of}
-use Rattle.demands.specs.Outcome.{Given, Lent, given_texts}
+use Rattle.demands.specs.Outcome.{given_texts}
 use Rattle.demands.proofs.Given.{texts-checked}
 use Rattle.analysis_texts.proofs.Reached.{texts-reached, texts-ready}
 use Rattle.analysis_call.proofs.Promise.{promised}

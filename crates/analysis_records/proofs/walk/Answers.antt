@@ -26,6 +26,8 @@ loop-i-preserved c = (
 )
 
 pub returns : goal.returns
-returns c =
-    (subst (λ (ys : List Record). Walked c.args.library.now c.args.progress c.args.table.now ys c.loop-i.progress c.loop-i.table)
-    (take_all c.loop-i.i c.args.records.now c.loop-i-test.false) c.loop-i.invariant.2, c.loop-i.invariant.1)
+returns c = (
+  subst (λ (ys : List Record). Walked c.args.library.now c.args.progress c.args.table.now ys c.loop-i.progress c.loop-i.table)
+      (take_all c.loop-i.i c.args.records.now c.loop-i-test.false) c.loop-i.invariant.2,
+  c.loop-i.invariant.1,
+)

@@ -1,9 +1,7 @@
 -- `ask`: what is lent read with the pad, CO and SO run again, and handed over.
-use Rattle.common_laws.proofs.Base.{false, ◌||◌, ◌≡◌, refl, sym, subst, ◌∙◌, ℕ, drop, rules}
-use Rattle.sizes.specs.Sizes as Size
+use Rattle.common_laws.proofs.Base.{false, refl, sym, subst, ◌∙◌, ℕ, rules}
 use Rattle.reading.specs.Refusal.{read}
-use Rattle.calculation.specs.Stored.{Ready}
-use Rattle.demands.specs.Outcome.{Given, given_texts}
+use Rattle.demands.specs.Outcome.{given_texts}
 use Rattle.demands.proofs.Given.{texts-checked}
 use Rattle.standing_calls.specs.Calls.{table_short, answer_short, pads_read}
 use Rattle.standing_table.specs.Parts.{PadRead}
@@ -39,7 +37,7 @@ returns-in-Accepted c =
 
 pub read_pad-checked-requires : goal.read_pad-checked-requires
 read_pad-checked-requires c =
-        (record { cells = refl; statements = refl }, (both_long c.args.standing.now c.args.answer.now (unfold table_short answer_short in c.if-short.false)).1)
+    (record { cells = refl; statements = refl }, (both_long c.args.standing.now c.args.answer.now (unfold table_short answer_short in c.if-short.false)).1)
 
 pub observe-observed-requires : goal.observe-observed-requires
 observe-observed-requires c =
@@ -47,6 +45,6 @@ observe-observed-requires c =
 
 pub hand_observed-requires : goal.hand_observed-requires
 hand_observed-requires c =
-        let b = both_long c.args.standing.now c.args.answer.now (unfold table_short answer_short in c.if-short.false) in
+    let b = both_long c.args.standing.now c.args.answer.now (unfold table_short answer_short in c.if-short.false) in
     let h = (ready (given_texts c.args.lib.now c.args.net.now) (texts-checked _ _) c.args.standing.now (both_long c.args.standing.now c.args.answer.now (unfold table_short answer_short in c.if-short.false)).0 c.args.line false _ _ (subst (PadRead (given_texts c.args.lib.now c.args.net.now) c.args.standing.now c.args.line false c.read_pad-checked.new.library c.read_pad-checked.new.netlist) (accepted_is c.read_pad-checked.result (search rules)) c.read_pad-checked.ensures)) in
     (anew-length h.cells h.statements c.args.standing.now _ c.observe-observed.result b.1 (c.observe-observed.ensures h.cells h.statements h.holds), b.2)

@@ -52,16 +52,26 @@ read_pad-checked-requires c =
 
 pub put_pad-requires : goal.put_pad-requires
 put_pad-requires c =
-        let table = c.args.standing.now in (
+    let table = c.args.standing.now in (
       ready (given_texts c.args.lib.now c.args.net.now) (texts-checked _ _) table (is_long c.args.standing.now c.if-standing-lt-STANDING.false) c.args.line _ _ _ (told (given_texts c.args.lib.now c.args.net.now) c.args.standing.now c.args.line c.args.count _ _ c.wide-pads.result _ _ (c.wide-pads.ensures ∙ c.word.ensures)
-    (accepted_is c.read_pad-checked.result (search rules)) c.read_pad-checked.ensures),
-      omega (arith, c.wide-pads.ensures, c.word.ensures, room (given_texts c.args.lib.now c.args.net.now) (texts-checked _ _) table (is_long c.args.standing.now c.if-standing-lt-STANDING.false) c.args.line _ _ _ (told (given_texts c.args.lib.now c.args.net.now) c.args.standing.now c.args.line c.args.count _ _ c.wide-pads.result _ _ (c.wide-pads.ensures ∙ c.word.ensures)
-    (accepted_is c.read_pad-checked.result (search rules)) c.read_pad-checked.ensures)),
+          (accepted_is c.read_pad-checked.result (search rules)) c.read_pad-checked.ensures),
+      omega (
+        arith,
+        c.wide-pads.ensures,
+        c.word.ensures,
+        room (given_texts c.args.lib.now c.args.net.now) (texts-checked _ _) table (is_long c.args.standing.now c.if-standing-lt-STANDING.false) c.args.line _ _ _ (told (given_texts c.args.lib.now c.args.net.now) c.args.standing.now c.args.line c.args.count _ _ c.wide-pads.result _ _ (c.wide-pads.ensures ∙ c.word.ensures)
+            (accepted_is c.read_pad-checked.result (search rules)) c.read_pad-checked.ensures),
+      ),
       in-range (given_texts c.args.lib.now c.args.net.now) (texts-checked _ _) table (is_long c.args.standing.now c.if-standing-lt-STANDING.false) c.args.line _ _ _ (told (given_texts c.args.lib.now c.args.net.now) c.args.standing.now c.args.line c.args.count _ _ c.wide-pads.result _ _ (c.wide-pads.ensures ∙ c.word.ensures)
-    (accepted_is c.read_pad-checked.result (search rules)) c.read_pad-checked.ensures),
+          (accepted_is c.read_pad-checked.result (search rules)) c.read_pad-checked.ensures),
     )
 
 pub overflow_add-result : goal.overflow_add-result
 overflow_add-result c =
-        omega (arith, c.wide-pads.ensures, c.word.ensures, room (given_texts c.args.lib.now c.args.net.now) (texts-checked _ _) c.args.standing.now (is_long c.args.standing.now c.if-standing-lt-STANDING.false) c.args.line _ _ _ (told (given_texts c.args.lib.now c.args.net.now) c.args.standing.now c.args.line c.args.count _ _ c.wide-pads.result _ _ (c.wide-pads.ensures ∙ c.word.ensures)
-    (accepted_is c.read_pad-checked.result (search rules)) c.read_pad-checked.ensures))
+    omega (
+      arith,
+      c.wide-pads.ensures,
+      c.word.ensures,
+      room (given_texts c.args.lib.now c.args.net.now) (texts-checked _ _) c.args.standing.now (is_long c.args.standing.now c.if-standing-lt-STANDING.false) c.args.line _ _ _ (told (given_texts c.args.lib.now c.args.net.now) c.args.standing.now c.args.line c.args.count _ _ c.wide-pads.result _ _ (c.wide-pads.ensures ∙ c.word.ensures)
+          (accepted_is c.read_pad-checked.result (search rules)) c.read_pad-checked.ensures),
+    )

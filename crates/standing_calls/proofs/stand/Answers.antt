@@ -1,7 +1,7 @@
 -- `stand`: the analysis, and its numbers and counts laid into the standing table.
 use Rattle.common_laws.proofs.Base.{refl, arith, rules}
 use Rattle.demands.specs.Answer.{answer_read}
-use Rattle.demands.specs.Outcome.{Given, given_texts}
+use Rattle.demands.specs.Outcome.{given_texts}
 use Rattle.demands.proofs.Given.{texts-checked}
 use Rattle.demands.specs.Own.{own_tables}
 use Rattle.standing_calls.proofs.Analysis.{stand-short, told-refused, told-accepted}

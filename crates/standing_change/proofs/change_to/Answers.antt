@@ -47,4 +47,4 @@ returns-in-Accepted c x cs h k =
 
 pub grown_at-requires : goal.grown_at-requires
 grown_at-requires c =
-        (record { cells = c.requires.0.state.cells; holds = some_cells _ _ _ _ c.requires.0.state c.requires.0.is }, c.requires.1)
+    (record { cells = c.requires.0.state.cells; holds = some_cells _ _ _ _ c.requires.0.state c.requires.0.is }, c.requires.1)

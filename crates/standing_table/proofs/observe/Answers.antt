@@ -1,5 +1,5 @@
 -- `observe` lends the numbers of the standing table.
-use Rattle.common_laws.proofs.Base.{List, sym, subst, ℕ, ◌≤◌, arith, length}
+use Rattle.common_laws.proofs.Base.{List, sym, subst, ℕ, arith}
 use Rattle.sizes.specs.Sizes as Size
 use Rattle.calculation.specs.Stored.{Ready}
 use Rattle.sweep_reruns.specs.Kept.{ObservedAnew}
@@ -17,8 +17,8 @@ returns c cells ss h =
 
 pub slice_bounds-observe_anew-count : goal.slice_bounds-observe_anew-count
 slice_bounds-observe_anew-count c =
-    omega (arith, (ready-size c.args.standing.now c.requires.0))
+    omega (arith, ready-size c.args.standing.now c.requires.0)
 
 pub slice_bounds-observe_anew-start : goal.slice_bounds-observe_anew-start
 slice_bounds-observe_anew-start c =
-    omega (arith, (ready-size c.args.standing.now c.requires.0))
+    omega (arith, ready-size c.args.standing.now c.requires.0)

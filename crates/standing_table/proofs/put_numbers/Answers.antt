@@ -21,5 +21,5 @@ slice_bounds-hand_over-start c =
 
 pub hand_over-requires : goal.hand_over-requires
 hand_over-requires c =
-        let xs = c.args.standing.now in
+    let xs = c.args.standing.now in
     (c.requires.1, rw (part_is xs Size.standing_numbers) (omega (arith, length-drop Size.standing_numbers xs, c.requires.0)))

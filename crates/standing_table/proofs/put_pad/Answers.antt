@@ -1,6 +1,5 @@
 -- `put_pad` runs CO and SO again, and stores the pad, the counts and the numbers.
-use Rattle.common_laws.proofs.Base.{◌∙◌, ◌≤◌, arith, length, rules}
-use Rattle.sizes.specs.Sizes as Size
+use Rattle.common_laws.proofs.Base.{◌∙◌, arith, rules}
 use Rattle.standing_table.proofs.Slices.{ready-size}
 use Rattle.standing_table.proofs.Lengths.{anew-length}
 use Rattle.standing_table.proofs.StandingTable.{stores}
@@ -33,9 +32,9 @@ overflow_add-pads-2 c =
 
 pub put_standing-requires : goal.put_standing-requires
 put_standing-requires c =
-        let h = c.requires.0 in (
+    let h = c.requires.0 in (
       omega (arith, c.requires.1),
-      omega (arith, c.put.auto.table, (ready-size c.args.standing.now c.requires.0)),
+      omega (arith, c.put.auto.table, ready-size c.args.standing.now c.requires.0),
       anew-length h.cells h.statements c.args.standing.now _ c.observe-observed.result (ready-size c.args.standing.now c.requires.0) (c.observe-observed.ensures h.cells h.statements h.holds),
     )
 

@@ -24,7 +24,7 @@ put-pin_requires : tie.Need-put_pin-top-requires invariant_loop decreases_loop
 put-pin_requires c κs =
     let s = c.before.before.before.before.before.before in
     let l = c.loop-i in (
-      rw c.line_of-line.ensures (s.requires.1.most s.args.gate l.i (omega arith) (omega arith)),
+      rw c.line_of.ensures (s.requires.1.most s.args.gate l.i (omega arith) (omega arith)),
       omega (arith, l.invariant.2.few, s.requires.0),
       s.requires.2,
       l.invariant.2.long ∙ s.requires.3,
@@ -37,7 +37,7 @@ loop_again c =
     let l = c.loop-i in (
       omega arith,
       omega arith,
-      pins-on l.invariant.2 (s.requires.1.most s.args.gate l.i (omega arith) (omega arith)) (rw c.line_of-line.ensures at c.put_pin-top.ensures),
+      pins-on l.invariant.2 (s.requires.1.most s.args.gate l.i (omega arith) (omega arith)) (rw c.line_of.ensures at c.put_pin-top.ensures),
     )
 
 returns : tie.Need-returns invariant_loop decreases_loop

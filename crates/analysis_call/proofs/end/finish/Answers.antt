@@ -1,7 +1,6 @@
 -- `finish` tells a refusal, or makes the numbers.
 use Rattle.common_laws.proofs.Base.{rules}
 use Rattle.demands.specs.Answer.{lent_of}
-use Rattle.demands.specs.Outcome.{Lent}
 use Rattle.analysis_call.proofs.EndLaws.{finished_entry, finished_later, finished_made, finished_long}
 use Rattle.analysis_call.proofs.end.finish.Goals as goal
 

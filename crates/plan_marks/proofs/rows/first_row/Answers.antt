@@ -2,7 +2,7 @@
 use Rattle.common_laws.proofs.Base.{sym, ◌∙◌, arith}
 use Rattle.plan_marks.proofs.RowsLaws.{sought_none, sought_here, sought_later, sought_past, sought_all}
 use Rattle.plan_marks.proofs.rows.first_row.Goals as goal
-use Rattle.plan_marks.proofs.rows.first_row.Goals.{then-is_way, else-is_way}
+use Rattle.plan_marks.proofs.rows.first_row.Goals.{then-is_way+else-not-is_lower, else-is_way}
 
 pub offset_bounds-library-group : goal.offset_bounds-library-group
 offset_bounds-library-group c = let f = c.requires.0.sum_fits.group_fits in omega arith
@@ -67,7 +67,7 @@ loop-row-preserved c =
     let f = c.requires.0.sum_fits.group_fits in
     let inside = rw c.wide-rows.ensures at c.loop-row-test.true in
     elim c.if-is_way.branch [
-      | then-is_way w ↦ sought_later k inside f w.read_sum-sum.ensures c.requires.1 w.is_lower.ensures w.if-not-is_lower.false
+      | then-is_way+else-not-is_lower w ↦ sought_later k inside f w.read_sum-sum.ensures c.requires.1 w.is_lower.ensures w.if-not-is_lower.false
       | else-is_way w ↦ sought_past k inside f c.is_way.ensures w.if-is_way.false
     ]
 

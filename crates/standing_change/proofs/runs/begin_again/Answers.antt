@@ -1,5 +1,5 @@
 -- `begin_again` calculates from the start, and lays what that comes to.
-use Rattle.common_laws.proofs.Base.{subst, ℕ, ◌≤◌, arith, length, length-replicate}
+use Rattle.common_laws.proofs.Base.{subst, ℕ, arith, length-replicate}
 use Rattle.sizes.specs.Sizes as Size
 use Rattle.calculation.specs.Calculation.{Analysed}
 use Rattle.standing_table.proofs.Slices.{ready-size}
@@ -16,7 +16,7 @@ pub put_kept-requires : goal.put_kept-requires
 put_kept-requires c =
     let h = c.requires.0 in (
       c.requires.1,
-      (ready-size c.args.standing.now c.requires.0),
+      ready-size c.args.standing.now c.requires.0,
       begun-length h.cells h.statements _ c.calculate-counts.result (c.calculate-counts.ensures h.cells h.statements h.holds) h.holds.sound,
     )
 

@@ -1,6 +1,5 @@
 -- `go_on_from` runs from the numbers that stand, and lays what the runs come to.
-use Rattle.common_laws.proofs.Base.{subst, ◌≤◌, length, rules}
-use Rattle.sizes.specs.Sizes as Size
+use Rattle.common_laws.proofs.Base.{subst, rules}
 use Rattle.calculation.specs.Calculation.{Analysed}
 use Rattle.standing_table.proofs.Slices.{ready-size}
 use Rattle.standing_change.specs.RunParts.{Stores}
@@ -11,7 +10,7 @@ pub put_kept-requires : goal.put_kept-requires
 put_kept-requires c =
     let h = c.requires.0 in (
       c.requires.1,
-      (ready-size c.args.standing.now c.requires.0),
+      ready-size c.args.standing.now c.requires.0,
       gone-length c.args.standing.now (ready-size c.args.standing.now c.requires.0) h.cells h.statements _ c.runs_from-counts.result (c.runs_from-counts.ensures h.cells h.statements h.holds),
     )
 

@@ -9,7 +9,7 @@ use Rattle.standing_table.proofs.Pads.{judged-many, judged-marked, judged-refuse
 use Rattle.standing_table.proofs.texts.mark_pads.Goals as goal
 
 -- The pads, as many as the table counts.
-module _ (lib net table net' : List ℕ) (cells : List Cell) (ss : List Statement) where
+module _ (lib table net' : List ℕ) (cells : List Cell) (ss : List Statement) where
   abbrev Tried : ℕ → Bool → Type 0
   Tried n b = PadsTried lib cells ss (take n (drop Size.pads_at table)) net' b
 
@@ -25,13 +25,13 @@ returns-then-count-gt-PADS c cells ss h =
 pub returns-then-place_pads : goal.returns-then-place_pads
 unfolding verdict_read
 returns-then-place_pads c cells ss h =
-    judged-marked c.args.library.now cells ss c.args.standing.now _ c.requires (omega (arith, c.wide-count.ensures, c.word.ensures, c.if-count-gt-PADS.false)) (counted _ _ _ _ cells ss _ _ _ (c.wide-count.ensures ∙ c.word.ensures) c.if-place_pads.true (c.place_pads.ensures cells ss h))
+    judged-marked c.args.library.now cells ss c.args.standing.now _ c.requires (omega (arith, c.wide-count.ensures, c.word.ensures, c.if-count-gt-PADS.false)) (counted c.args.library.now c.args.standing.now c.place_pads.new.netlist cells ss c.wide-count.result _ _ (c.wide-count.ensures ∙ c.word.ensures) c.if-place_pads.true (c.place_pads.ensures cells ss h))
 
 pub returns-else-place_pads : goal.returns-else-place_pads
 unfolding verdict_read
 returns-else-place_pads c cells ss h =
     rw (c.refusal-else-place_pads.ensures.0, c.refusal-else-place_pads.ensures.1)
-    (judged-refused c.args.library.now cells ss c.args.standing.now _ c.requires (omega (arith, c.wide-count.ensures, c.word.ensures, c.if-count-gt-PADS.false)) (counted _ _ _ _ cells ss _ _ _ (c.wide-count.ensures ∙ c.word.ensures) c.if-place_pads.false (c.place_pads.ensures cells ss h)))
+    (judged-refused c.args.library.now cells ss c.args.standing.now _ c.requires (omega (arith, c.wide-count.ensures, c.word.ensures, c.if-count-gt-PADS.false)) (counted c.args.library.now c.args.standing.now c.place_pads.new.netlist cells ss c.wide-count.result _ _ (c.wide-count.ensures ∙ c.word.ensures) c.if-place_pads.false (c.place_pads.ensures cells ss h)))
 
 pub place_pads-requires : goal.place_pads-requires
 place_pads-requires c =

@@ -1,5 +1,5 @@
 -- `place_pads` marks one pad after the other.
-use Rattle.common_laws.proofs.Base.{Bool, true, List, ◌≡◌, refl, sym, subst, ◌∙◌, ℕ, ◌+◌, add-one, arith, length, get_or, take, drop, length-drop, get_or-drop}
+use Rattle.common_laws.proofs.Base.{Bool, true, List, ◌≡◌, refl, sym, subst, ◌∙◌, ℕ, ◌+◌, add-one, arith, get_or, take, drop, length-drop, get_or-drop}
 use Rattle.sizes.specs.Sizes as Size
 use Rattle.library_table.specs.Cells.{Cell}
 use Rattle.netlist_table.specs.Netlist.{Statement}
@@ -27,16 +27,15 @@ returns-then-not-place c cells ss h =
     (c.place.ensures cells (padded ss (take c.loop-i.i (drop Size.pads_at c.args.standing.now))) ((c.loop-i.invariant.2 cells ss h).holds refl)))
 
 pub loop-i-preserved : goal.loop-i-preserved
-loop-i-preserved c =
-    (
-      omega (arith, c.loop-i-test.true),
-      c.place.auto.netlist ∙ c.loop-i.invariant.1,
-      λ cells ss h.
-          rw (add-one c.loop-i.i)
-          (tried-next c.args.library.now cells ss (drop Size.pads_at c.args.standing.now) c.loop-i.i (omega (arith, length-drop Size.pads_at c.args.standing.now, c.requires.1, c.requires.0, c.loop-i-test.true)) c.loop-i.netlist _
-          (c.loop-i.invariant.2 cells ss h) (tried c.args.library.now c.args.standing.now c.place.new.netlist cells ss c.loop-i.i c.wide.result _ _ (c.wide.ensures ∙ c.word.ensures) c.if-not-place.false
-    (c.place.ensures cells (padded ss (take c.loop-i.i (drop Size.pads_at c.args.standing.now))) ((c.loop-i.invariant.2 cells ss h).holds refl)))),
-    )
+loop-i-preserved c = (
+  omega (arith, c.loop-i-test.true),
+  c.place.auto.netlist ∙ c.loop-i.invariant.1,
+  λ cells ss h.
+      rw (add-one c.loop-i.i)
+      (tried-next c.args.library.now cells ss (drop Size.pads_at c.args.standing.now) c.loop-i.i (omega (arith, length-drop Size.pads_at c.args.standing.now, c.requires.1, c.requires.0, c.loop-i-test.true)) c.loop-i.netlist _
+      (c.loop-i.invariant.2 cells ss h) (tried c.args.library.now c.args.standing.now c.place.new.netlist cells ss c.loop-i.i c.wide.result _ _ (c.wide.ensures ∙ c.word.ensures) c.if-not-place.false
+      (c.place.ensures cells (padded ss (take c.loop-i.i (drop Size.pads_at c.args.standing.now))) ((c.loop-i.invariant.2 cells ss h).holds refl)))),
+)
 
 pub returns : goal.returns
 returns c cells ss h =

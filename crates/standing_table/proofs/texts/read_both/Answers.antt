@@ -1,9 +1,6 @@
 -- `read_both` tells how far the reading came as a verdict.
-use Rattle.common_laws.proofs.Base.{false, rules}
-use Rattle.demands.specs.Outcome.{Given, given_texts}
+use Rattle.common_laws.proofs.Base.{rules}
 use Rattle.demands.proofs.Given.{texts-checked}
-use Rattle.analysis_texts.specs.Progress.{Reached}
-use Rattle.standing_table.specs.Held.{entered}
 use Rattle.standing_table.proofs.TextsLaws.{both-reached, told-entry, told_later, told-read}
 use Rattle.standing_table.proofs.texts.read_both.Goals as goal
 

@@ -1,7 +1,7 @@
 -- `read_held`: both texts, and the pads.
 use Rattle.common_laws.proofs.Base.{subst, rules}
 use Rattle.reading.specs.Verdict.{verdict_read}
-use Rattle.demands.specs.Outcome.{Given, given_texts}
+use Rattle.demands.specs.Outcome.{given_texts}
 use Rattle.standing_table.specs.Parts.{TextsRead}
 use Rattle.standing_table.proofs.TextsLaws.{held_kept, held-judged, accepted_is}
 use Rattle.standing_table.proofs.texts.read_held.Goals as goal

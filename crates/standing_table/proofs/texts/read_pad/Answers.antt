@@ -1,7 +1,7 @@
 -- `read_pad`: what stands, and one pad more.
 use Rattle.common_laws.proofs.Base.{subst, rules}
 use Rattle.reading.specs.Verdict.{verdict_read}
-use Rattle.demands.specs.Outcome.{Given, given_texts}
+use Rattle.demands.specs.Outcome.{given_texts}
 use Rattle.standing_table.specs.Parts.{HeldRead}
 use Rattle.standing_table.proofs.TextsLaws.{pad-kept, pad-judged, accepted_is}
 use Rattle.standing_table.proofs.texts.read_pad.Goals as goal
