@@ -28,14 +28,14 @@ with-line_requires c κs =
     let a = (began l).args in
     let p = mention_at a.netlist.now in
     let f = cost_at a.numbers.now in
-    (omega arith, l.loop-l.invariant.0, omega (arith, nevers-few p f l.loop-l.l l.loop-l.false l.loop-l.invariant.1), omega (arith, overs-few p f l.loop-l.l l.loop-l.false l.loop-l.invariant.1))
+    (omega arith, l.loop-l.invariant.0, omega (arith, nevers-few p f l.loop-l.l l.loop-l.left l.loop-l.invariant.1), omega (arith, overs-few p f l.loop-l.l l.loop-l.left l.loop-l.invariant.1))
 
 loop_again : tie.Need-loop-l-preserved invariant_loop decreases_loop
 loop_again c =
     let l = c.before.before in
     let a = (began l).args in (
       omega arith,
-      left-next (mention_at a.netlist.now) (cost_at a.numbers.now) l.loop-l.l l.loop-l.false l.loop-l.invariant.1 (omega arith) l.loop-l.invariant.0
+      left-next (mention_at a.netlist.now) (cost_at a.numbers.now) l.loop-l.l l.loop-l.left l.loop-l.invariant.1 (omega arith) l.loop-l.invariant.0
           c.with_line-left.result c.with_line-left.ensures,
     )
 
@@ -43,7 +43,7 @@ returns : tie.Need-returns invariant_loop decreases_loop
 returns c =
     let l = c.before in
     let a = (began l).args in
-    left-ends a.netlist.now (cost_at a.numbers.now) l.loop-l.l l.loop-l.false c.loop-l-test.false l.loop-l.invariant.1
+    left-ends a.netlist.now (cost_at a.numbers.now) l.loop-l.l l.loop-l.left c.loop-l-test.false l.loop-l.invariant.1
 
 pub left_by_spec : {M : Type 1} → statement M
 left_by_spec =
