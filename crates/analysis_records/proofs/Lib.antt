@@ -1,7 +1,4 @@
-mod Lent
 pub mod Call
 mod Laws
 pub mod Same
-mod Shared
-mod Tested
 mod RecordLaws

@@ -26,7 +26,7 @@ module _ (library netlist links numbers : List ℕ) (g e : ℕ) (fits : GateRead
   gate-fits = fits.ready.tables_fit.gates g fits.inside
 
   pub least_fits_lem : (wired : Bool) (costs : List ℕ) → length costs ≡ Size.columns → LeastFits wired 0 library group pins costs
-  least_fits_lem = Group.least_fits 0 (omega arith) library netlist g e gate-fits value lines pins group lines_are pins-are group_is
+  least_fits_lem = Group.least_fits_lem 0 (omega arith) library netlist g e gate-fits value lines pins group lines_are pins-are group_is
 
   pub gather-fits : (costs : List ℕ) → length costs ≡ Size.columns → GatherFits true 0 0 lines pins numbers costs
   gather-fits costs size =

@@ -5,7 +5,6 @@ use Rattle.sizes.specs.Sizes as Size
 use Rattle.reading.specs.Refusal.{Read, read}
 use Rattle.reading.specs.Choice.{pick}
 use Rattle.reading.proofs.Laws.{by_test, and_left, and_right}
-use Rattle.plans.specs.Sweep.{at}
 use Rattle.plans.proofs.Laws.{at_getD}
 use Rattle.library_table.specs.Cells.{Cell}
 use Rattle.netlist_table.specs.Netlist.{Statement, member, mentioned, is_output, lines_where}
@@ -78,6 +77,7 @@ module _ (p : ℕ → Bool) where
 module _ (f : ℕ → ℕ) where
   largest-most : (ls : List ℕ) (m : ℕ) → List-as-Memᴰ m ls → f m ≤ largest (map f ls)
   unfolding largest
+  largest-most [] m i = elim i [ ]
   largest-most (l ∷ ls) m (List-Memᴰ-head e) = rw e (omega arith)
   largest-most (l ∷ ls) m (List-Memᴰ-tail i) = omega (arith, largest-most ls m i)
 

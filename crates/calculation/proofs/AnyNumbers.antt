@@ -3,7 +3,7 @@
 use Rattle.common_laws.proofs.Base.{List, map, Memᴰ-map, ◌≡◌, refl, ◌∙◌, ap, ℕ, ◌+◌, ◌*◌, arith, le_trans, le_of_eq, length, get_or, length-map}
 use Rattle.sizes.specs.Sizes as Size
 use Rattle.plans.specs.System.{Visit}
-use Rattle.plans.specs.Sweep.{at, lower, Settles, run, Bounded}
+use Rattle.plans.specs.Sweep.{lower, Settles, run, Bounded}
 use Rattle.plans.specs.Stages.{run_stage, Stages, Stages.ended, Stages.stage}
 use Rattle.plans.specs.Statements.{SettlesWithin}
 use Rattle.plans.specs.Continued.{all_by_lower}

@@ -1,9 +1,8 @@
 -- The calculation at whatever prices within the ranges. A plan is one at any prices, and where no input costs more neither
 -- does the plan; the runs of SC and SO look at no number that has to do with prices.
 use Rattle.common_laws.proofs.Base.{true, List, List-as-Memᴰ, ◌≡◌, refl, sym, ◌∙◌, ℕ, ◌≤◌, le_refl, le_antisymm, arith}
-use Rattle.sizes.specs.Sizes as Size
 use Rattle.plans.specs.System.{Visit}
-use Rattle.plans.specs.Sweep.{at, Rule, renew, lower, Settles, Visited}
+use Rattle.plans.specs.Sweep.{Rule, renew, lower, Settles, Visited}
 use Rattle.plans.specs.Stages.{Stages, Stages.ended, Stages.stage}
 use Rattle.plans.specs.Continued.{Alike, Looks, Reads}
 use Rattle.plans.proofs.Laws.{stands-least, Stores, lower-stores, renew-stores, lower-reads, renew-reads, alike-settles, settles-once, settles-length, settles-other}
@@ -12,7 +11,7 @@ use Rattle.netlist_table.specs.Netlist.{Gate, Statement, gates_of, is_input, low
 use Rattle.calculation.specs.declared.Counts.{Counts}
 use Rattle.calculation.specs.Nodes.{Kind, combinational, sequential, Purpose, set, observe, node}
 use Rattle.calculation.specs.Prices.{Pricing, input_cost, Figures, WithinRanges}
-use Rattle.calculation.specs.Ways.{asked, purpose_of, visit, setting_visits, observing_visits}
+use Rattle.calculation.specs.Ways.{asked, purpose_of, setting_visits, observing_visits}
 use Rattle.calculation.specs.Acceptance.{BothSound}
 use Rattle.calculation.specs.Calculation.{start_at, stages, analysed_at}
 use Rattle.calculation.specs.Settled.{in_order}

@@ -1,24 +1,23 @@
 -- A pad, and its line as the only output: what falls with the pad, and what falls at no prices within the ranges. No code cites
 -- this page yet: request E3 is to (D198).
-use Rattle.common_laws.proofs.Base.{Bool, true, false, ◌||◌, or-false, or-true, List, [], ◌∷◌, ◌++◌, flat_map, ◌⊎◌, inl, inr, ⊎_elim, ◌≡◌, refl, sym, ◌∙◌, ap, subst, ℕ, ◌≤◌, ◌<◌}
+use Rattle.common_laws.proofs.Base.{Bool, true, false, ◌||◌, or-true, List, [], ◌∷◌, ◌++◌, flat_map, inl, inr, ⊎_elim, ◌≡◌, refl, sym, ◌∙◌, ap, ℕ, ◌≤◌}
 use Rattle.common_laws.proofs.Base.{min, le_refl, le_antisymm, le_of_eq, arith, eqb, ltb, lt-ltb, le-ltb, ltb-true, ltb-false}
 use Rattle.reading.specs.Choice.{pick}
 use Rattle.reading.specs.Each.{Each}
 use Rattle.reading.proofs.Laws.{by_test, clash, each_map, or_left, or_right, or_cases}
 use Rattle.plans.proofs.Laws.{stands-none-less}
 use Rattle.library_table.specs.Cells.{Cell}
-use Rattle.netlist_table.specs.Netlist.{Gate, Range, Statement, mark, gate, priced, input, output, opened, member, lines_of, lines_marked, lines_claimed, lines_ranged, gates_in, ranges_in, gates_of, ranges_of, mentioned, mentioned_lines, is_marked, is_input, is_output, marked_lines, claimed_lines, ranged_lines, some_range, some_line, of_range, low_price, high_price, has_range}
-use Rattle.netlist_table.specs.Sound.{InRange, LinesInRange, GateSound, RangeSound, Apart, Sound}
+use Rattle.netlist_table.specs.Netlist.{Statement, mark, gate, priced, input, output, opened, member, lines_of, lines_marked, lines_claimed, lines_ranged, gates_in, ranges_in, gates_of, ranges_of, mentioned, mentioned_lines, is_marked, is_input, is_output, marked_lines, claimed_lines, ranged_lines, some_range, some_line, low_price, high_price, has_range}
+use Rattle.netlist_table.specs.Sound.{InRange, LinesInRange, RangeSound, Apart}
 use Rattle.netlist_table.proofs.Causes.{member-append}
-use Rattle.netlist_table.proofs.Pad.{pad-gates, pad-inputs, pad-outputs, pad-prices}
+use Rattle.netlist_table.proofs.Pad.{pad-gates, pad-inputs, pad-outputs}
 use Rattle.calculation.specs.Nodes.{Kind, combinational, sequential, observe}
 use Rattle.calculation.specs.Prices.{Pricing, Figures, WithinRanges, input_cost}
 use Rattle.calculation.specs.Acceptance.{BothSound}
-use Rattle.calculation.specs.Added.{OutputsAdded, OutputsParted}
-use Rattle.calculation.specs.LinePlans.{Plan, cost_at}
+use Rattle.calculation.specs.Added.{OutputsParted}
+use Rattle.calculation.specs.LinePlans.{cost_at}
 use Rattle.calculation.specs.Pads.{takes_none}
 use Rattle.calculation.specs.Advice.{with_pad}
-use Rattle.calculation.specs.Between.{number_at, Between}
 use Rattle.calculation.specs.Effects.{unmarked, alone, seen_at, may_fall, falls_at, PadLesser, Untouched, NeverFalls, FallsJust}
 use Rattle.calculation.proofs.Prices.{within-ends, within-figures, low-within, high-within}
 use Rattle.calculation.proofs.Exactness.{exact}

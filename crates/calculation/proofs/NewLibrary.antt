@@ -1,7 +1,6 @@
 -- Another library under a standing analysis: whatever asks, commits and changes of library leave is a standing analysis.
 -- Document 02, K14.
 use Rattle.common_laws.proofs.Base.{true, List, [], ◌∷◌, ◌++◌, ◌≡◌, refl, sym, ◌∙◌, ap, ℕ, zero, suc, ◌<◌, le_of_eq, le_trans, le_antisymm, arith, length, get_or}
-use Rattle.sizes.specs.Sizes as Size
 use Rattle.reading.specs.Choice.{pick}
 use Rattle.reading.specs.Refusal.{Read, refused, read}
 use Rattle.reading.proofs.Laws.{by_test}
@@ -70,6 +69,7 @@ first_stays {vs} {xs} {ys} ss zs counts a b e =
     (λ n. le_antisymm ((settles_under a).below n) (le_trans (le_of_eq (ap (λ (t : List ℕ). at t n) (sym e))) ((lowered_under ss ys zs counts b).below n)))
 
 unmoved_runs : (ss : List Stage) (xs zs counts : List ℕ) → Stages (all_by_lower ss) xs counts zs → zs ≡ xs → (i : ℕ) → i < length ss → get_or counts i 0 ≡ 1
+unmoved_runs [] xs zs counts _ e i h = elim h [ ]
 unmoved_runs (s ∷ ss) xs zs counts (stage a b) e zero h = one-sweep a (first_stays ss zs _ a b e)
 unmoved_runs (s ∷ ss) xs zs counts (stage a b) e (suc i) h = unmoved_runs ss _ zs _ b (e ∙ sym (first_stays ss zs _ a b e)) i (omega arith)
 

@@ -1,7 +1,7 @@
 -- Outputs of two netlists together: a plan that observes goes to one output, which is one of the first or one of the second. So
 -- each CO and SO is the lesser of the two, at any prices.
-use Rattle.common_laws.proofs.Base.{Bool, true, false, List, [], ◌∷◌, ◌++◌, List-as-Memᴰ, List-Memᴰ-head, List-Memᴰ-tail, cons≢nil, ◌⊎◌, inl, inr, ⊎_elim, ◌≡◌, refl, sym, ◌∙◌, ap}
-use Rattle.common_laws.proofs.Base.{subst, ℕ, zero, suc, ◌+◌, ◌≤◌, min, le_of_eq}
+use Rattle.common_laws.proofs.Base.{true, List, [], ◌∷◌, ◌++◌, List-as-Memᴰ, List-Memᴰ-head, List-Memᴰ-tail, cons≢nil, ◌⊎◌, inl, inr, ⊎_elim, ◌≡◌, refl, sym, ◌∙◌, ap}
+use Rattle.common_laws.proofs.Base.{ℕ, zero, suc, ◌+◌, ◌≤◌, min, le_of_eq}
 use Rattle.reading.specs.Choice.{pick}
 use Rattle.reading.proofs.Laws.{by_test}
 use Rattle.plans.proofs.Laws.{stands-lesser}

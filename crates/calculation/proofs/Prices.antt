@@ -5,7 +5,6 @@ use Rattle.sizes.specs.Sizes as Size
 use Rattle.reading.specs.Choice.{pick}
 use Rattle.reading.specs.Each.{Each}
 use Rattle.reading.proofs.Laws.{by_test, clash, each_member, or_right}
-use Rattle.cost.specs.Cost.{most}
 use Rattle.library_table.specs.Cells.{Cell}
 use Rattle.netlist_table.specs.Netlist.{Range, Statement, member, is_input, has_range, ranges_of, of_range, low_price, high_price}
 use Rattle.netlist_table.specs.Sound.{RangeSound, Apart}
@@ -25,12 +24,14 @@ none_of f x (r ∷ rs) l h =
 
 listed-line : (r : Range) (rs : List Range) → List-as-Memᴰ r rs → member r.line (range_lines rs) ≡ true
 unfolding range_lines member
+listed-line r [] i = elim i [ ]
 listed-line r (q ∷ rs) (List-Memᴰ-head e) = rw (eq-eqb q.line r.line (ap (λ (x : Range). x.line) (sym e)))
 listed-line r (q ∷ rs) (List-Memᴰ-tail m) = rw (listed-line r rs m) (or-true (eqb q.line r.line))
 
 -- A line has one range at most.
 own_of : (f : Range → ℕ) (x : ℕ) (rs : List Range) → Apart (range_lines rs) → (r : Range) → List-as-Memᴰ r rs → of_range f x rs r.line ≡ f r
 unfolding of_range range_lines Apart pick
+own_of f x [] a r i = elim i [ ]
 own_of f x (q ∷ rs) a r (List-Memᴰ-head e) = rw (eq-eqb q.line r.line (ap (λ (y : Range). y.line) (sym e))) (ap f (sym e))
 own_of f x (q ∷ rs) a r (List-Memᴰ-tail m) =
     let other : q.line ≡ r.line → ⊥ = λ e. clash (member q.line (range_lines rs)) (rw e (listed-line r rs m)) a.0 in

@@ -1,6 +1,6 @@
 -- Rows added to cells: the numbers that stand are a start of the runs with the new rows, which come to the numbers of a new
 -- analysis, within document 01's bounds.
-use Rattle.common_laws.proofs.Base.{List, ◌∷◌, List-as-Memᴰ, List-Memᴰ-head, List-Memᴰ-tail, Memᴰ-map, Memᴰ-of-map, some, ◌≡◌, refl, sym, ◌∙◌, ap, ℕ, arith, length}
+use Rattle.common_laws.proofs.Base.{List, [], ◌∷◌, List-as-Memᴰ, List-Memᴰ-head, List-Memᴰ-tail, Memᴰ-map, Memᴰ-of-map, some, ◌≡◌, refl, sym, ◌∙◌, ap, ℕ, arith, length}
 use Rattle.cost.specs.Cost.{capped}
 use Rattle.plans.specs.System.{Way, Visit, Offers}
 use Rattle.plans.specs.Exact.{first}
@@ -53,6 +53,7 @@ module _ (c d : Cell) (added : RowsAdded c d) where
 
 -- A line has one driver.
 same-gate : (gs : List Gate) → DrivenOnce gs → (g h : Gate) → List-as-Memᴰ g gs → List-as-Memᴰ h gs → g.line ≡ h.line → g ≡ h
+same-gate [] once g h i _ q = elim i [ ]
 same-gate (x ∷ gs) once g h (List-Memᴰ-head e) (List-Memᴰ-head f) q = e ∙ sym f
 same-gate (x ∷ gs) once g h (List-Memᴰ-head e) (List-Memᴰ-tail j) q = absurd (once.0 h j (ap (λ (t : Gate). t.line) (sym e) ∙ q))
 same-gate (x ∷ gs) once g h (List-Memᴰ-tail i) (List-Memᴰ-head f) q = absurd (once.0 g i (ap (λ (t : Gate). t.line) (sym f) ∙ sym q))

@@ -1,26 +1,25 @@
 -- Where the effect of more outputs spreads: a line's CO or SO falls only behind one that falls, back from a new output.
-use Rattle.common_laws.proofs.Base.{Bool, true, false, List, [], ◌∷◌, List-as-Memᴰ, cons≢nil, ◌⊎◌, inl, inr, ⊎_elim, ◌≡◌, refl, sym, ◌∙◌, ap, ℕ, ◌+◌, ◌≤◌, ◌<◌, dec_lt, le_refl}
+use Rattle.common_laws.proofs.Base.{true, List, ◌∷◌, List-as-Memᴰ, cons≢nil, ◌⊎◌, inl, inr, ⊎_elim, ◌≡◌, sym, ◌∙◌, ℕ, ◌+◌, ◌≤◌, ◌<◌, dec_lt, le_refl}
 use Rattle.common_laws.proofs.Base.{le_of_eq, arith}
 use Rattle.reading.proofs.Laws.{by_test}
-use Rattle.cost.specs.Cost.{never, capped}
+use Rattle.cost.specs.Cost.{capped}
 use Rattle.plans.specs.Exact.{AttainedBy}
 use Rattle.plans.proofs.Laws.{stands-attained, stands-below, stands-least, stands-none-less}
 use Rattle.library_table.specs.Cells.{Row, Cell, Column, pin}
 use Rattle.library_table.specs.Cells as C
-use Rattle.netlist_table.specs.Netlist.{Gate, Statement, gates_of, is_input, is_output}
+use Rattle.netlist_table.specs.Netlist.{Gate, Statement, gates_of, is_output}
 use Rattle.netlist_table.specs.Sound.{InRange}
 use Rattle.netlist_table.proofs.Laws.{gate-sound}
 use Rattle.calculation.specs.Nodes.{Kind, Purpose, set, observe, node}
 use Rattle.calculation.specs.Prices.{Pricing, Figures}
-use Rattle.calculation.specs.Ways.{cell_of, pin_line, asked, setting, observing, group_of, asks}
+use Rattle.calculation.specs.Ways.{cell_of, asked}
 use Rattle.calculation.specs.Acceptance.{BothSound}
 use Rattle.calculation.specs.Added.{OutputsAdded}
 use Rattle.calculation.specs.LinePlans.{Plan, Plan.input, Plan.row, Plan.output, Plan.through, Plans, Plans.done, Plans.also, cost_at, costs_at, ExactAt}
-use Rattle.calculation.specs.Between.{number_at}
 use Rattle.calculation.specs.Effects.{seen_at, Spread, FallsSpread}
 use Rattle.calculation.specs.Effects as E
 use Rattle.calculation.proofs.Exactness.{exact, entry-bounded}
-use Rattle.calculation.proofs.Parted.{Fine, fine, Carried, carry, LastSees, asks-last, Observes, sets}
+use Rattle.calculation.proofs.Parted.{Fine, carry, LastSees, asks-last, Observes, sets}
 
 -- ---- sums by the order of costs
 

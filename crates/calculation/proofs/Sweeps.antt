@@ -82,6 +82,7 @@ Apiece (v ∷ vs) = (Visited vs v.node → ⊥) × Apiece vs
 
 -- The condition of `plans` from this one.
 pub apiece_once : (vs : List Visit) → Apiece vs → Once vs
+apiece_once [] a u v i _ q = elim i [ ]
 apiece_once (w ∷ vs) a u v (List-Memᴰ-head e) (List-Memᴰ-head f) q = rw (e, f)
 apiece_once (w ∷ vs) a u v (List-Memᴰ-head e) (List-Memᴰ-tail m) q =
     absurd (a.0 (record { visit = v; listed = m; same = sym q ∙ ap (λ (t : Visit). t.node) e }))

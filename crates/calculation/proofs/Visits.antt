@@ -4,7 +4,7 @@ use Rattle.common_laws.proofs.Base.{Memᴰ-append-left, Memᴰ-append-right, Mem
 use Rattle.common_laws.proofs.Base.{arith, length, get_or}
 use Rattle.reading.specs.Choice.{pick}
 use Rattle.plans.specs.System.{Way, Visit, Offers}
-use Rattle.library_table.specs.Cells.{Row, Group, Cell, Column, pin, output, observe, bit_of, pin_columns, setting_columns, observing_columns, bit, named}
+use Rattle.library_table.specs.Cells.{Row, Group, Cell, Column, pin, output, observe, bit_of, pin_columns, setting_columns, observing_columns, bit}
 use Rattle.library_table.proofs.Columns.{named_from, named_listed}
 use Rattle.netlist_table.specs.Netlist.{Gate}
 use Rattle.calculation.specs.Nodes.{Kind, node}
@@ -45,6 +45,7 @@ getD_listed (x ∷ xs) zero d h = List-Memᴰ-head refl
 getD_listed (x ∷ xs) (suc i) d h = List-Memᴰ-tail (getD_listed xs i d (omega arith))
 
 pub listed_at : {A : Type 0} (d x : A) (xs : List A) → List-as-Memᴰ x xs → (i : ℕ) × (i < length xs) × (get_or xs i d ≡ x)
+listed_at d x [] i = elim i [ ]
 listed_at d x (y ∷ xs) (List-Memᴰ-head e) = (0, omega arith, sym e)
 listed_at d x (y ∷ xs) (List-Memᴰ-tail m) =
     let t : (i : ℕ) × (i < length xs) × (get_or xs i d ≡ x) = listed_at d x xs m in
@@ -75,6 +76,7 @@ observes-has c (observing i) h = h
 pub value_from : (c : Cell) (role : Role) → List-as-Memᴰ role value_roles → Sets c role
 unfolding value_roles
 value_from c role (List-Memᴰ-head e) = rw e (omega arith)
+value_from c role (List-Memᴰ-tail (List-Memᴰ-tail i)) = elim i [ ]
 value_from c role (List-Memᴰ-tail (List-Memᴰ-head e)) = rw e (omega arith)
 
 value-listed : (c : Cell) (role : Role) → Sets c role → List-as-Memᴰ role value_roles
@@ -160,6 +162,7 @@ module _ (k : Kind) (cells : List Cell) where
 
   pub setting-listed : (gs : List Gate) (g : Gate) (role : Role) → List-as-Memᴰ g gs → Sets (cell_of cells g) role → List-as-Memᴰ (visit k cells g role) (setting_visits k cells gs)
   unfolding setting_visits
+  setting-listed [] g role i s = elim i [ ]
   setting-listed (h ∷ gs) g role (List-Memᴰ-head q) s =
       Memᴰ-append-left {s = gate_visits k cells h value_roles} (setting_visits k cells gs)
       (rw (← q) (gate-listed value_roles g role (value-listed (cell_of cells g) role s)))
@@ -167,6 +170,7 @@ module _ (k : Kind) (cells : List Cell) where
 
   pub observing-listed : (gs : List Gate) (g : Gate) (role : Role) → List-as-Memᴰ g gs → Observes (cell_of cells g) role → List-as-Memᴰ (visit k cells g role) (observing_visits k cells gs)
   unfolding observing_visits
+  observing-listed [] g role i s = elim i [ ]
   observing-listed (h ∷ gs) g role (List-Memᴰ-head q) s =
       Memᴰ-append-right (observing_visits k cells gs)
       (rw (← q) (gate-listed (pin_roles (cell_of cells g).pins 1) g role (pin-listed (cell_of cells g) role s)))
@@ -220,6 +224,7 @@ module _ (g : Gate) (c : Cell) (role : Role) where
 
   pub usable-listed : (rs : Group) (r : Row) → List-as-Memᴰ r rs → is_way g c role r ≡ true → List-as-Memᴰ r (usable g c role rs)
   unfolding usable pick
+  usable-listed [] r i h = elim i [ ]
   usable-listed (x ∷ rs) r (List-Memᴰ-head q) h = rw (ap (is_way g c role) (sym q) ∙ h) (List-Memᴰ-head q)
   usable-listed (x ∷ rs) r (List-Memᴰ-tail m) h = side (is_way g c role x) (usable-listed rs r m h)
     where
@@ -296,6 +301,7 @@ columns_named n (observing i) c m = ⊎_elim (pins_named n n (omega arith) (obse
     last : List-as-Memᴰ c (output 1 ∷ output 0 ∷ observe ∷ []) → MayName n (observing i) c
     last (List-Memᴰ-head e) = rw e (omega arith)
     last (List-Memᴰ-tail (List-Memᴰ-head e)) = rw e (omega arith)
+    last (List-Memᴰ-tail (List-Memᴰ-tail (List-Memᴰ-tail i))) = elim i [ ]
     last (List-Memᴰ-tail (List-Memᴰ-tail (List-Memᴰ-head e))) = rw e tt
 
 -- What is asked for once is asked for.

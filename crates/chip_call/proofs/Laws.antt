@@ -86,6 +86,7 @@ module _ (cells : List Cell) (ss : List Statement) (sound : BothSound cells ss) 
   all_told (x ∷ gs) h e g (List-Memᴰ-head q) =
       rw q (generated-told no_cell cells rest sound.library x.cell h.0.known (and_left _ (all_generated library gs) e))
   all_told (x ∷ gs) h e g (List-Memᴰ-tail m) = all_told gs h.1 (and_right (generated_at library x.cell) _ e) g m
+  all_told [] h e g m = elim m [ ]
 
   all-tells : (bits : ℕ → List Bool) (gs : List Gate) → Each (GateSound cells) gs
       → ((g : Gate) → List-as-Memᴰ g gs → Generated (cell_of cells g) (bits g.cell)) → all_generated library gs ≡ true

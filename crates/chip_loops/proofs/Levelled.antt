@@ -53,6 +53,7 @@ pass-levels (h ∷ gs) marks g (List-Memᴰ-tail m) t room =
     pass-levels gs (level marks h) g m
     (listed-all (level marks h) g.pins (λ l i. level-keeps l marks h (all_listed marks g.pins t l i)))
     (rw (level-size marks h) room)
+pass-levels [] marks g m t room = elim m [ ]
 
 -- ---- passes come to an end: each that levels a line leaves fewer without a mark
 

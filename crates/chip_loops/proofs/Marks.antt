@@ -48,6 +48,7 @@ module _ (marks : List ℕ) where
   unfolding all_marked
   all_listed (k ∷ ls) t l (List-Memᴰ-head e) = rw e (and_left (marked marks k) (all_marked marks ls) t)
   all_listed (k ∷ ls) t l (List-Memᴰ-tail m) = all_listed ls (and_right (marked marks k) (all_marked marks ls) t) l m
+  all_listed [] t l m = elim m [ ]
 
   pub listed-all : (ls : List ℕ) → ((l : ℕ) → List-as-Memᴰ l ls → marked marks l ≡ true) → all_marked marks ls ≡ true
   unfolding all_marked
@@ -81,6 +82,7 @@ module _ (p : ℕ → Bool) where
       go true t (List-Memᴰ-head e) rest = rw e t
       go true t (List-Memᴰ-tail i) rest = rest i
       go false t i rest = rest i
+  listed-where zero first l m = elim m [ ]
 
 -- ---- marking a list
 
@@ -94,6 +96,7 @@ unfolding mark_each
 each-marked marks (k ∷ ls) l (List-Memᴰ-head e) h =
     each_keeps (set marks k 1) ls l (rw e (set-marked marks k (rw (← e) h)))
 each-marked marks (k ∷ ls) l (List-Memᴰ-tail m) h = each-marked (set marks k 1) ls l m (simp length-set h)
+each-marked marks [] l m h = elim m [ ]
 
 pub each-size : (marks ls : List ℕ) → length (mark_each marks ls) ≡ length marks
 unfolding mark_each

@@ -69,6 +69,7 @@ feeds_up k l f = go f.gate (subst (λ (gs : List Gate). List-as-Memᴰ f.gate gs
     go : (g : Gate) → List-as-Memᴰ g (inverter ∷ both ∷ []) → g.line ≡ l → List-as-Memᴰ k g.pins → k < l
     go g (List-Memᴰ-head q) e i = below 2 (1 ∷ []) (unfold Each in (omega arith, tt)) (rw q at e) (rw q at i)
     go g (List-Memᴰ-tail (List-Memᴰ-head q)) e i = below 3 (1 ∷ 2 ∷ []) (unfold Each in (omega arith, (omega arith, tt))) (rw q at e) (rw q at i)
+    go g (List-Memᴰ-tail (List-Memᴰ-tail m)) e i = elim m [ ]
 
 leads-up : {k l : ℕ} → Leads statements k l → k < l
 leads-up {k} {l} (last f) = feeds_up k l f
@@ -93,6 +94,7 @@ made : (g : Gate) → List-as-Memᴰ g (inverter ∷ both ∷ []) → Generated 
 unfolding Ways.cell_of cells bits_at not_bits and_bits cell_of
 made g (List-Memᴰ-head q) = rw q (record { few = omega arith; size = refl; cc = refl; co = refl; sc = refl; so = refl })
 made g (List-Memᴰ-tail (List-Memᴰ-head q)) = rw q (record { few = omega arith; size = refl; cc = refl; co = refl; sc = refl; so = refl })
+made g (List-Memᴰ-tail (List-Memᴰ-tail m)) = elim m [ ]
 
 pub qualifies : Qualifies cells statements
 qualifies =

@@ -25,6 +25,7 @@ unfolding all_pins flat_map
 pin-read (x ∷ gs) g k (List-Memᴰ-head e) i =
     member-left k x.pins (all_pins gs) (subst (λ (t : Gate). member k t.pins ≡ true) e (member-listed k g.pins i))
 pin-read (x ∷ gs) g k (List-Memᴰ-tail m) i = member_right k x.pins (all_pins gs) (pin-read gs g k m i)
+pin-read [] g k m i = elim m [ ]
 
 -- Two gates that read one line are one.
 same_reader : (gs : List Gate) → Apart (all_pins gs) → (g h : Gate) (k : ℕ) → List-as-Memᴰ g gs → List-as-Memᴰ h gs
@@ -36,12 +37,14 @@ same_reader (x ∷ gs) a g h k (List-Memᴰ-head d) (List-Memᴰ-tail n) i j =
 same_reader (x ∷ gs) a g h k (List-Memᴰ-tail m) (List-Memᴰ-head e) i j =
     apart-both k x.pins (all_pins gs) a (subst (λ (t : Gate). member k t.pins ≡ true) e (member-listed k h.pins j)) (pin-read gs g k m i)
 same_reader (x ∷ gs) a g h k (List-Memᴰ-tail m) (List-Memᴰ-tail n) i j = same_reader gs (apart-right x.pins (all_pins gs) a) g h k m n i j
+same_reader [] a g h k m _ i j = elim m [ ]
 
 -- A gate's pins read different lines.
 gate-apart : (gs : List Gate) → Apart (all_pins gs) → (g : Gate) → List-as-Memᴰ g gs → Apart g.pins
 unfolding all_pins flat_map
 gate-apart (x ∷ gs) a g (List-Memᴰ-head e) = subst (λ (t : Gate). Apart t.pins) (sym e) (apart-left x.pins (all_pins gs) a)
 gate-apart (x ∷ gs) a g (List-Memᴰ-tail m) = gate-apart gs (apart-right x.pins (all_pins gs) a) g m
+gate-apart [] a g m = elim m [ ]
 
 -- The gate's pins i and j are different lines where i and j are different.
 apart-places : (xs : List ℕ) → Apart xs → (i j : ℕ) → i < length xs → j < length xs → get_or xs i 0 ≡ get_or xs j 0 → i ≡ j

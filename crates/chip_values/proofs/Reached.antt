@@ -46,6 +46,7 @@ Asked g lower left c = (any_asks g lower (asked g c) ≡ true) ⊎ ((d : Column)
 
 once-asked : (g : Gate) (lower cs : List Column) (c : Column) → List-as-Memᴰ c cs → Asked g lower (once g lower cs) c
 unfolding once pick
+once-asked g lower [] c m = elim m [ ]
 once-asked g lower (x ∷ cs) c (List-Memᴰ-head e) = here (any_asks g lower (asked g x)) refl
   where
     here : (b : Bool) → any_asks g lower (asked g x) ≡ b → Asked g lower (pick b (once g (x ∷ lower) cs) (x ∷ once g (x ∷ lower) cs)) c

@@ -1,5 +1,5 @@
 -- What the rows of a generated cell tell of its truth table: the fact of crate `truth_tables`, by the columns that a row names.
-use Rattle.common_laws.proofs.Base.{Bool, true, false, List, ◌∷◌, map, List-as-Memᴰ, List-Memᴰ-head, Memᴰ-map, Memᴰ-of-map, List-Memᴰ-append-cases, ⊎_elim, Option, none, some, ◌≡◌}
+use Rattle.common_laws.proofs.Base.{Bool, true, false, List, ◌∷◌, map, List-as-Memᴰ, List-Memᴰ-head, List-Memᴰ-tail, Memᴰ-map, Memᴰ-of-map, List-Memᴰ-append-cases, ⊎_elim, Option, none, some, ◌≡◌}
 use Rattle.common_laws.proofs.Base.{refl, sym, subst, ap, ◌∙◌, ℕ, zero, suc, ◌+◌, ◌*◌, ◌-◌, ◌≤◌, ◌<◌, arith, length, get_or, eqb-true}
 use Rattle.reading.proofs.Laws.{clash}
 use Rattle.library_table.specs.Cells.{Row, Cell, pin, bit_of, bit, setting_columns}
@@ -22,6 +22,7 @@ use Rattle.chip_values.proofs.CellRows.{Met, Tells}
 term_length : (n : ℕ) (t : Term) → List-as-Memᴰ t (terms n) → length t ≡ n
 unfolding terms
 term_length zero t (List-Memᴰ-head e) = ap length e
+term_length zero t (List-Memᴰ-tail m) = elim m [ ]
 term_length (suc n) t m =
     ⊎_elim (behind (some false) (term_length n))
     (λ k. ⊎_elim (behind (some true) (term_length n)) (behind none (term_length n)) (List-Memᴰ-append-cases (map (λ (q : Term). some true ∷ q) (terms n)) k))

@@ -31,6 +31,7 @@ same-gate (x ∷ gs) d g h (List-Memᴰ-head a) (List-Memᴰ-head b) e = a ∙ s
 same-gate (x ∷ gs) d g h (List-Memᴰ-head a) (List-Memᴰ-tail b) e = absurd (d.0 h b (ap (λ (t : Gate). t.line) (sym a) ∙ e))
 same-gate (x ∷ gs) d g h (List-Memᴰ-tail a) (List-Memᴰ-head b) e = absurd (d.0 g a (ap (λ (t : Gate). t.line) (sym b) ∙ sym e))
 same-gate (x ∷ gs) d g h (List-Memᴰ-tail a) (List-Memᴰ-tail b) e = same-gate gs d.1 g h a b e
+same-gate [] d g h m _ e = elim m [ ]
 
 same_map : {A B : Type 0} (v w : A → B) (xs : List A) → ((x : A) → List-as-Memᴰ x xs → v x ≡ w x) → map v xs ≡ map w xs
 same_map v w [] h = refl

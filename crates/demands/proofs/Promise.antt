@@ -1,5 +1,5 @@
 -- A call that answers and leaves what the outcome says keeps its promise: the three demands follow.
-use Rattle.common_laws.proofs.Base.{Bool, true, false, List, ◌++◌, ◌≡◌, refl, sym, ap, subst, ◌∙◌, ℕ, zero, suc, ◌+◌, ◌≤◌, ◌<◌, arith, length, get_or, take, drop, replicate}
+use Rattle.common_laws.proofs.Base.{Bool, true, false, List, ◌++◌, ◌≡◌, refl, sym, ap, subst, ◌∙◌, ℕ, zero, suc, ◌+◌, ◌≤◌, ◌<◌, arith, length, get_or, drop, replicate}
 use Rattle.common_laws.proofs.Base.{length-replicate, get_or-replicate, take_at, drop_at}
 use Rattle.sizes.specs.Places.{line_place}
 use Rattle.sizes.specs.Sizes as Size

@@ -1,8 +1,6 @@
 -- What a read's answer means, from the tests that the code makes of it.
-use Rattle.common_laws.proofs.Base.{Bool, true, false, true≢false, ◌||◌, List, ◌≡◌, refl, ℕ, ◌+◌, ◌-◌, ◌≤◌, ◌<◌, min, arith, ltb-true, eqb-false, eqb, length}
-use lib.IntN.{ℤ, pos, negsuc}
-use lib.Signed.{lt_z}
-use Rattle.io.specs.Counts.{clamp_len}
+use Rattle.common_laws.proofs.Base.{Bool, true, false, ◌||◌, List, ◌≡◌, refl, ℕ, ◌+◌, ◌-◌, ◌≤◌, ◌<◌, min, arith, eqb-false, eqb, length}
+use Rattle.std.specs.Prelude.{Result, Ok, Err}
 use Rattle.reading.specs.Choice.{pick}
 use Rattle.reading.proofs.Laws.{or_left, or_right}
 use Rattle.files.specs.declared.Filling.TheVariants.{More, Done}
@@ -10,39 +8,38 @@ use Rattle.files.specs.declared.Loaded.{Loaded}
 use Rattle.files.specs.declared.Loaded.TheVariants.{Bytes, Unreadable}
 use Rattle.files.specs.Loads.{Within, next_of}
 
-module _ (size at : ℕ) where
-  pub failed : (got : ℤ) → lt_z got (pos 0) ≡ true → Done Unreadable ≡ next_of size at got
-  unfolding next_of
-  failed (pos k) e = absurd (omega (arith, ltb-true k 0 e))
-  failed (negsuc k) e = refl
+pub failed : {E : Type 0} (size at : ℕ) (e : E) → Done Unreadable ≡ next_of size at (Err e)
+unfolding next_of
+failed size at e = refl
 
-  pub went : (got : ℤ) → lt_z got (pos 0) ≡ false → (n : ℕ) → n ≡ clamp_len got (size - at)
-      → pick (eqb (at + n) at || eqb (at + n) size) (Done (Bytes (at + n))) (More (at + n)) ≡ next_of size at got
-  unfolding next_of
-  went (pos k) e n is = rw is refl
-  went (negsuc k) e n is = absurd (true≢false e)
+pub went : {E : Type 0} (size at : ℕ) (got : Result ℕ E) (k n : ℕ) → got ≡ Ok k → n ≡ min k (size - at)
+    → pick (eqb (at + n) at || eqb (at + n) size) (Done (Bytes (at + n))) (More (at + n)) ≡ next_of size at got
+unfolding next_of
+went size at got k n read is = rw (read, is) refl
 
-  module _ (within : at ≤ size) where
-    filled_more : (t : Bool) (end n : ℕ) → (eqb end at || eqb end size) ≡ t → at ≤ end → end ≤ size → pick t (Done (Bytes end)) (More end) ≡ More n → (at < n) × (n < size)
-    unfolding pick
-    filled_more true end n h a b e = absurd (let z : ◌≡◌ {A = ℕ} 0 1 = cc in omega arith)
-    filled_more false end n h a b e =
-        let same : end ≡ n = cc in
-        let p = eqb-false end at (or_left (eqb end at) (eqb end size) h) in
-        let q = eqb-false end size (or_right (eqb end at) (eqb end size) h) in
-        (omega arith, omega arith)
+filled_more : (size at : ℕ) (t : Bool) (end n : ℕ) → (eqb end at || eqb end size) ≡ t → at ≤ end → end ≤ size
+    → pick t (Done (Bytes end)) (More end) ≡ More n → (at < n) × (n < size)
+unfolding pick
+filled_more size at true end n h a b e = cc
+filled_more size at false end n h a b e =
+    let same : end ≡ n = cc in
+    let p = eqb-false end at (or_left (eqb end at) (eqb end size) h) in
+    let q = eqb-false end size (or_right (eqb end at) (eqb end size) h) in
+    (omega arith, omega arith)
 
-    pub more : (got : ℤ) (n : ℕ) → next_of size at got ≡ More n → (at < n) × (n < size)
-    unfolding next_of
-    more (pos k) n e = filled_more _ (at + min k (size - at)) n refl (omega arith) (omega arith) e
-    more (negsuc k) n e = absurd (let z : ◌≡◌ {A = ℕ} 0 1 = cc in omega arith)
+pub more : {E : Type 0} (size at : ℕ) → at ≤ size → (got : Result ℕ E) (n : ℕ) → next_of size at got ≡ More n → (at < n) × (n < size)
+unfolding next_of
+more size at within (Ok k) n e = filled_more size at _ (at + min k (size - at)) n refl (omega arith) (omega arith) e
+more size at within (Err x) n e = cc
 
-    filled_done : (t : Bool) (end : ℕ) (l : Loaded) → end ≤ size → pick t (Done (Bytes end)) (More end) ≡ Done l → (buffer : List ℕ) → size ≡ length buffer → Within l buffer
-    unfolding pick
-    filled_done true end l h e buffer is = let same : Bytes end ≡ l = cc in rw (← same) (omega arith)
-    filled_done false end l h e buffer is = absurd (let z : ◌≡◌ {A = ℕ} 0 1 = cc in omega arith)
+filled_done : (t : Bool) (end : ℕ) (l : Loaded) (buffer : List ℕ) → end ≤ length buffer
+    → pick t (Done (Bytes end)) (More end) ≡ Done l → Within l buffer
+unfolding pick
+filled_done true end l buffer h e = let same : Bytes end ≡ l = cc in rw (← same) h
+filled_done false end l buffer h e = cc
 
-    pub done : (got : ℤ) (l : Loaded) → next_of size at got ≡ Done l → (buffer : List ℕ) → size ≡ length buffer → Within l buffer
-    unfolding next_of
-    done (pos k) l e buffer is = filled_done _ (at + min k (size - at)) l (omega arith) e buffer is
-    done (negsuc k) l e buffer is = let same : Unreadable ≡ l = cc in rw (← same) tt
+pub done : {E : Type 0} (size at : ℕ) → at ≤ size → (got : Result ℕ E) (l : Loaded) → next_of size at got ≡ Done l
+    → (buffer : List ℕ) → size ≡ length buffer → Within l buffer
+unfolding next_of
+done size at within (Ok k) l e buffer is = filled_done _ (at + min k (size - at)) l buffer (omega arith) e
+done size at within (Err x) l e buffer is = let same : Unreadable ≡ l = cc in rw (← same) tt

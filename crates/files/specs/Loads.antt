@@ -1,7 +1,7 @@
 -- How much of a buffer reading a file has filled, and what one read's answer means. The library's contracts tell of a read how
 -- many bytes it answers and of the bytes nothing, and every answer may come of some file; so no more can be said of a whole
 -- file than that its bytes are within the buffer, and that a file that fills it is too long; tests do the rest (tests/files).
-use Rattle.std.specs.Prelude.{◌||◌, List, ◌≡◌, ℕ, ◌+◌, ◌-◌, ◌≤◌, ◌<◌, min, eqb, ℤ, pos, negsuc, length}
+use Rattle.std.specs.Prelude.{◌||◌, List, ◌≡◌, ℕ, ◌+◌, ◌-◌, ◌≤◌, ◌<◌, min, eqb, length, Result, Ok, Err}
 use Rattle.sizes.specs.Sizes as Size
 use Rattle.reading.specs.Choice.{pick}
 use Rattle.files.specs.declared.Filling.{Filling}
@@ -28,11 +28,11 @@ pub record Seen (l : Loaded) (buffer : List ℕ) : Type 0 where
   pub within : Within l buffer
   pub long : LongIfFilled l buffer
 
--- What a read's answer means, into a buffer of so many bytes from a place on. A negative one is an error: "when a file can't be
--- read it prints `unreadable`". No byte is the file's end. Else so many bytes more are there; a full buffer is a file that is
--- as long, or longer, and a longer one is not unreadable.
-unfoldable pub next_of : ℕ → ℕ → ℤ → Filling
-next_of size at (negsuc k) = Done Unreadable
-next_of size at (pos k) =
+-- What a read's answer means, into a buffer of so many bytes from a place on. An error: "when a file can't be read it prints
+-- `unreadable`". No byte is the file's end. Else so many bytes more are there; a full buffer is a file that is as long, or
+-- longer, and a longer one is not unreadable.
+unfoldable pub next_of : {E : Type 0} → ℕ → ℕ → Result ℕ E → Filling
+next_of size at (Err e) = Done Unreadable
+next_of size at (Ok k) =
     let end = at + min k (size - at) in
     pick (eqb end at || eqb end size) (Done (Bytes end)) (More end)

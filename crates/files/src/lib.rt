@@ -11,7 +11,10 @@ ghost use Rattle.writer.specs.Put.{Put};
 ghost use Rattle.files.specs.Loads.{Within, Seen, next_of};
 ghost use Rattle.files.specs.Output.{unreadable};
 
-use libc::STDOUT_FILENO;
+use std::fs::File;
+use std::io;
+use std::io::Read;
+use std::rt::Files;
 
 // One byte more than a text may have.
 pub const FILE_BYTES: usize = sizes::TEXT_BYTES + 1;
@@ -29,25 +32,26 @@ enum Filling {
     Done(Loaded),
 }
 
-pub fn load(path: &[u8], buffer: &mut [u8; FILE_BYTES]) -> Loaded
+// The name is one of a file that `rt` finds; one that is not UTF-8 finds none.
+pub fn load(rt: &impl Files, path: &[u8], buffer: &mut [u8; FILE_BYTES]) -> Loaded
     ensures { Seen result buffer.new }
 {
-    let fd = os::open_read(path);
-    if fd < 0 {
+    let Ok(name) = str::from_utf8(path) else {
         return Loaded::Unreadable;
-    }
-    let loaded = fill(fd, buffer);
-    libc::close(fd);
-    loaded
+    };
+    let Ok(mut file) = File::open(rt, name) else {
+        return Loaded::Unreadable;
+    };
+    fill(&mut file, buffer)
 }
 
 // Reads until a read fails, the file ends or the buffer is full.
-fn fill(fd: i32, buffer: &mut [u8]) -> Loaded
+fn fill(file: &mut impl Read, buffer: &mut [u8]) -> Loaded
     ensures { Within result buffer.new }
 {
     let mut at = 0;
     loop {
-        let got = libc::read(fd, &mut buffer[at..]);
+        let got = file.read(&mut buffer[at..]);
         let filling = next(buffer, at, got);
         match filling {
             Filling::Done(loaded) => return loaded,
@@ -57,14 +61,15 @@ fn fill(fd: i32, buffer: &mut [u8]) -> Loaded
 }
 
 // What a read's answer means, that was to fill the buffer from a place on.
-fn next(buffer: &[u8], at: usize, got: isize) -> Filling
+fn next(buffer: &[u8], at: usize, got: io::Result<usize>) -> Filling
     requires { at ≤ length buffer.now }
     ensures { result ≡ next_of (length buffer.now) at got }
 {
-    if got < 0 {
+    let Ok(count) = got else {
         return Filling::Done(Loaded::Unreadable);
-    }
-    let end = at + io::count(got, &buffer[at..]);
+    };
+    let rest = buffer.len() - at;
+    let end = at + count.min(rest);
     if (end == at) | (end == buffer.len()) {
         Filling::Done(Loaded::Bytes(end))
     } else {
@@ -90,6 +95,7 @@ pub fn put_unreadable(output: &mut [u8]) -> usize
     writer::bytes::put_bytes(output, 0, b"unreadable\n")
 }
 
-pub fn print(bytes: &[u8]) {
-    io::write_all(STDOUT_FILENO, bytes);
+// A write that fails ends the printing, and nothing is said of it: a program always ends with status 0.
+pub fn print(rt: &impl Print, bytes: &[u8]) {
+    let _ = rt.write_all(bytes);
 }

@@ -13,7 +13,6 @@ ghost use Rattle.analysis_records.specs.Outcome.{RecordsPromised};
 use analysis_records::{Record, analyse_records};
 use demands::Answer;
 use files::{FILE_BYTES, Loaded};
-use libc::STDOUT_FILENO;
 use reading::Refusal;
 
 // One entry below the published size, and one byte above what a text may have.
@@ -41,7 +40,7 @@ const NETLIST_ROOM: usize = sizes::NETLIST + 3;
 
 const NUMBERS_ROOM: usize = sizes::NUMBERS + 3;
 
-// The first `count` of the records are lent. By hand, since it makes a slice of records.
+// The first `count` of the records are lent.
 fn lend(
     lib: &[u8],
     records: [Record; MOST],
@@ -62,6 +61,7 @@ fn lend(
 
 // Lends the records with a library and a netlist table of the published sizes.
 fn lend_with(
+    rt: &impl Print,
     lib: &[u8],
     records: [Record; MOST],
     count: usize,
@@ -82,73 +82,74 @@ fn lend_with(
         report,
     );
     match answer {
-        Answer::Accepted(s) => files::print(files::front(report, s.length)),
-        Answer::Refused(r) => print_refusal(r),
+        Answer::Accepted(s) => files::print(rt, files::front(report, s.length)),
+        Answer::Refused(r) => print_refusal(rt, r),
     }
 }
 
-fn print_refusal(r: Refusal) {
+fn print_refusal(rt: &impl Print, r: Refusal) {
     let mut text = [0u8; REFUSAL_BYTES];
     let length = writer::put_refusal(&mut text, 0, r);
-    files::print(files::front(&text, length));
+    files::print(rt, files::front(&text, length));
 }
 
-fn lend_all(records: [Record; MOST], count: usize)
+fn lend_all(rt: &impl Print, records: [Record; MOST], count: usize)
     requires { count ≤ 2 * Size.lines + 1 }
 {
     let mut numbers = [0u32; sizes::NUMBERS];
     let mut report = [0u8; 512];
     let lib = b"Name,NAND2,2\nCC,13,21,M,5\nCO,203,211\nSC,12,20,M,4\nSO,202,210\nEnd\n";
-    lend_with(lib, records, count, &mut numbers, &mut report);
+    lend_with(rt, lib, records, count, &mut numbers, &mut report);
 }
 
 // With a report buffer of 8 bytes.
-fn lend_short(records: [Record; MOST], count: usize)
+fn lend_short(rt: &impl Print, records: [Record; MOST], count: usize)
     requires { count ≤ 2 * Size.lines + 1 }
 {
     let mut numbers = [0u32; sizes::NUMBERS];
     let mut report = [0u8; 8];
     let lib = b"Name,NAND2,2\nCC,13,21,M,5\nCO,203,211\nSC,12,20,M,4\nSO,202,210\nEnd\n";
-    lend_with(lib, records, count, &mut numbers, &mut report);
+    lend_with(rt, lib, records, count, &mut numbers, &mut report);
 }
 
 // With a numbers table below its published size.
-fn lend_small(records: [Record; MOST], count: usize)
+fn lend_small(rt: &impl Print, records: [Record; MOST], count: usize)
     requires { count ≤ 2 * Size.lines + 1 }
 {
     let mut numbers = [0u32; NUMBERS_SHORT];
     let mut report = [0u8; 512];
     let lib = b"Name,NAND2,2\nCC,13,21,M,5\nCO,203,211\nSC,12,20,M,4\nSO,202,210\nEnd\n";
-    lend_with(lib, records, count, &mut numbers, &mut report);
+    lend_with(rt, lib, records, count, &mut numbers, &mut report);
 }
 
 // With a library text of one byte too many.
-fn lend_long(records: [Record; MOST], count: usize)
+fn lend_long(rt: &impl Print, records: [Record; MOST], count: usize)
     requires { count ≤ 2 * Size.lines + 1 }
 {
     let mut numbers = [0u32; sizes::NUMBERS];
     let mut report = [0u8; 512];
     let lib = [10u8; TEXT_LONG];
-    lend_with(&lib, records, count, &mut numbers, &mut report);
+    lend_with(rt, &lib, records, count, &mut numbers, &mut report);
 }
 
 // With a library of one cell that has no pins.
-fn lend_tie(records: [Record; MOST], count: usize)
+fn lend_tie(rt: &impl Print, records: [Record; MOST], count: usize)
     requires { count ≤ 2 * Size.lines + 1 }
 {
     let mut numbers = [0u32; sizes::NUMBERS];
     let mut report = [0u8; 512];
     let lib = b"Name,TIE1,0\nCC,Z,1\nCO\nSC,Z,0\nSO\nEnd\n";
-    lend_with(lib, records, count, &mut numbers, &mut report);
+    lend_with(rt, lib, records, count, &mut numbers, &mut report);
 }
 
 // With a library text that ends within an entry.
-fn lend_broken(records: [Record; MOST], count: usize)
+fn lend_broken(rt: &impl Print, records: [Record; MOST], count: usize)
     requires { count ≤ 2 * Size.lines + 1 }
 {
     let mut numbers = [0u32; sizes::NUMBERS];
     let mut report = [0u8; 512];
     lend_with(
+        rt,
         b"Name,NAND2,2\nCC,13,21,M,5\n",
         records,
         count,
@@ -247,73 +248,98 @@ fn bytes_are(buffer: &[u8], from: usize, value: u8) -> bool {
 }
 
 // Says of lent memory whether it is as it was before the call, or zero.
-fn print_left(kept: bool, zero: bool) {
+fn print_left(rt: &impl Print, kept: bool, zero: bool) {
     if kept {
-        files::print(b",kept");
+        files::print(rt, b",kept");
     } else if zero {
-        files::print(b",zero");
+        files::print(rt, b",zero");
     } else {
-        files::print(b",other");
+        files::print(rt, b",other");
     }
 }
 
-fn print_table(table: &[u32], from: usize) {
-    print_left(all_are(table, from, BEFORE), all_are(table, from, 0));
+fn print_table(rt: &impl Print, table: &[u32], from: usize) {
+    print_left(rt, all_are(table, from, BEFORE), all_are(table, from, 0));
 }
 
-fn print_buffer(buffer: &[u8], from: usize) {
-    print_left(bytes_are(buffer, from, 7), bytes_are(buffer, from, 0));
+fn print_buffer(rt: &impl Print, buffer: &[u8], from: usize) {
+    print_left(rt, bytes_are(buffer, from, 7), bytes_are(buffer, from, 0));
+}
+
+// A number in decimal. As in `files::print`, nothing is said of a write that fails.
+fn print_number(rt: &impl Print, n: u64) {
+    let _ = rt.print(n);
 }
 
 // The numbers of a table from a place up to another.
-fn print_words(table: &[u32], from: usize, to: usize) {
+fn print_words(rt: &impl Print, table: &[u32], from: usize, to: usize) {
     let mut i = from;
     while i < to {
-        files::print(b",");
-        io::print_decimal(STDOUT_FILENO, table::word(table, i) as u64);
+        files::print(rt, b",");
+        print_number(rt, table::word(table, i) as u64);
         i += 1;
     }
 }
 
 // The numbers of the n-th gate, where there may be such a one.
-fn print_gate(netlist: &[u32], n: usize) {
+fn print_gate(rt: &impl Print, netlist: &[u32], n: usize) {
     if 0 < n {
         if n <= sizes::GATES {
             let at = sizes::GATES_AT + (n - 1) * sizes::GATE_WORDS;
-            print_words(netlist, at, at + sizes::GATE_WORDS);
+            print_words(rt, netlist, at, at + sizes::GATE_WORDS);
         }
     }
 }
 
 // Of an accepted list: the report's length, what stands behind it and past each published size, the last gate, and
 // the last line's numbers.
-fn print_accepted(library: &[u32], netlist: &[u32], numbers: &[u32], report: &[u8], length: usize) {
-    files::print(b"accepted,");
-    io::print_decimal(STDOUT_FILENO, length as u64);
-    print_table(library, sizes::LIBRARY);
-    print_table(netlist, sizes::NETLIST);
-    print_table(numbers, sizes::NUMBERS);
-    print_buffer(report, length);
-    files::print(b"\ngate");
-    print_gate(netlist, table::word(netlist, 0) as usize);
-    files::print(b"\nnumbers");
-    print_words(numbers, sizes::NUMBERS - 6, sizes::NUMBERS);
-    files::print(b"\n");
+fn print_accepted(
+    rt: &impl Print,
+    library: &[u32],
+    netlist: &[u32],
+    numbers: &[u32],
+    report: &[u8],
+    length: usize,
+) {
+    files::print(rt, b"accepted,");
+    print_number(rt, length as u64);
+    print_table(rt, library, sizes::LIBRARY);
+    print_table(rt, netlist, sizes::NETLIST);
+    print_table(rt, numbers, sizes::NUMBERS);
+    print_buffer(rt, report, length);
+    files::print(rt, b"\ngate");
+    print_gate(rt, netlist, table::word(netlist, 0) as usize);
+    files::print(rt, b"\nnumbers");
+    print_words(rt, numbers, sizes::NUMBERS - 6, sizes::NUMBERS);
+    files::print(rt, b"\n");
 }
 
 // Of a refused one: its refusal, and what the whole of each table and of the report is.
-fn print_refused(library: &[u32], netlist: &[u32], numbers: &[u32], report: &[u8], r: Refusal) {
-    print_refusal(r);
-    files::print(b"left");
-    print_table(library, 0);
-    print_table(netlist, 0);
-    print_table(numbers, 0);
-    print_buffer(report, 0);
-    files::print(b"\n");
+fn print_refused(
+    rt: &impl Print,
+    library: &[u32],
+    netlist: &[u32],
+    numbers: &[u32],
+    report: &[u8],
+    r: Refusal,
+) {
+    print_refusal(rt, r);
+    files::print(rt, b"left");
+    print_table(rt, library, 0);
+    print_table(rt, netlist, 0);
+    print_table(rt, numbers, 0);
+    print_buffer(rt, report, 0);
+    files::print(rt, b"\n");
 }
 
 // Lends tables with entries past their published sizes, and all that is lent filled before.
-fn lend_filled(lib: &[u8], records: [Record; MOST], count: usize, numbers: &mut [u32])
+fn lend_filled(
+    rt: &impl Print,
+    lib: &[u8],
+    records: [Record; MOST],
+    count: usize,
+    numbers: &mut [u32],
+)
     requires { count ≤ 2 * Size.lines + 1 }
 {
     let mut library = [BEFORE; LIBRARY_ROOM];
@@ -329,58 +355,59 @@ fn lend_filled(lib: &[u8], records: [Record; MOST], count: usize, numbers: &mut 
         &mut report,
     );
     match answer {
-        Answer::Accepted(s) => print_accepted(&library, &netlist, numbers, &report, s.length),
-        Answer::Refused(r) => print_refused(&library, &netlist, numbers, &report, r),
+        Answer::Accepted(s) => print_accepted(rt, &library, &netlist, numbers, &report, s.length),
+        Answer::Refused(r) => print_refused(rt, &library, &netlist, numbers, &report, r),
     }
 }
 
-fn lend_roomy(lib: &[u8], records: [Record; MOST], count: usize)
+fn lend_roomy(rt: &impl Print, lib: &[u8], records: [Record; MOST], count: usize)
     requires { count ≤ 2 * Size.lines + 1 }
 {
     let mut numbers = [BEFORE; NUMBERS_ROOM];
-    lend_filled(lib, records, count, &mut numbers);
+    lend_filled(rt, lib, records, count, &mut numbers);
 }
 
 // With a numbers table below its published size.
-fn lend_roomless(lib: &[u8], records: [Record; MOST], count: usize)
+fn lend_roomless(rt: &impl Print, lib: &[u8], records: [Record; MOST], count: usize)
     requires { count ≤ 2 * Size.lines + 1 }
 {
     let mut numbers = [BEFORE; NUMBERS_SHORT];
-    lend_filled(lib, records, count, &mut numbers);
+    lend_filled(rt, lib, records, count, &mut numbers);
 }
 
 // The long lists, against a library of 32 cells.
-fn lend_full(lib: &[u8]) {
+fn lend_full(rt: &impl Print, lib: &[u8]) {
     let full = full_with(mark(1, sizes::LINES as u32));
-    lend_roomy(lib, full, GOOD);
+    lend_roomy(rt, lib, full, GOOD);
     // one bad record behind 2,000 good ones: 15, 14, 11, 10
-    lend_roomy(lib, full, MOST);
-    lend_roomy(lib, full_with(driver(9)), MOST);
-    lend_roomy(lib, full_with(mark(0, 0)), MOST);
-    lend_roomy(lib, full_with(mark(4, 1)), MOST);
+    lend_roomy(rt, lib, full, MOST);
+    lend_roomy(rt, lib, full_with(driver(9)), MOST);
+    lend_roomy(rt, lib, full_with(mark(0, 0)), MOST);
+    lend_roomy(rt, lib, full_with(mark(4, 1)), MOST);
     // 1: nothing is read
-    lend_roomless(lib, full, GOOD);
+    lend_roomless(rt, lib, full, GOOD);
 }
 
-fn lend_loaded(loaded: Loaded, lib: &[u8; FILE_BYTES]) {
+fn lend_loaded(rt: &impl Print, loaded: Loaded, lib: &[u8; FILE_BYTES]) {
     match loaded {
-        Loaded::Bytes(n) => lend_full(files::front(lib, n)),
-        Loaded::Unreadable => files::print(b"unreadable\n"),
+        Loaded::Bytes(n) => lend_full(rt, files::front(lib, n)),
+        Loaded::Unreadable => files::print(rt, b"unreadable\n"),
     }
 }
 
-fn main() {
+fn main(rt: HostRuntime) {
     let latch = latch_with(mark(0, 0));
-    lend_all(latch, 5);
-    lend_all(latch, 0);
-    lend_tie(tied(), 2);
+    lend_all(&rt, latch, 5);
+    lend_all(&rt, latch, 0);
+    lend_tie(&rt, tied(), 2);
     // 1, 2 and 3
-    lend_small(latch, 5);
-    lend_long(latch, 5);
-    lend_broken(latch, 5);
+    lend_small(&rt, latch, 5);
+    lend_long(&rt, latch, 5);
+    lend_broken(&rt, latch, 5);
     // 10: an unknown kind, an unused cell, an unused pin, a pin after a 0
-    lend_all(latch_with(mark(4, 1)), 6);
+    lend_all(&rt, latch_with(mark(4, 1)), 6);
     lend_all(
+        &rt,
         latch_with(Record {
             kind: 0,
             cell: 1,
@@ -390,6 +417,7 @@ fn main() {
         6,
     );
     lend_all(
+        &rt,
         latch_with(Record {
             kind: 1,
             cell: 0,
@@ -398,14 +426,19 @@ fn main() {
         }),
         6,
     );
-    lend_all(latch_with(gate(0, 5, 1, 0, 2)), 6);
+    lend_all(&rt, latch_with(gate(0, 5, 1, 0, 2)), 6);
     // 11: line 0, line 1,001, pin 1,001
-    lend_all(latch, 6);
-    lend_all(latch_with(mark(1, sizes::LINES as u32 + 1)), 6);
-    lend_all(latch_with(gate(0, 5, 1, sizes::LINES as u32 + 1, 0)), 6);
-    // the largest number in each field: 10, 10, 10, 10, then 11, 11, 11, and 12
-    lend_all(latch_with(mark(LARGEST, 5)), 6);
+    lend_all(&rt, latch, 6);
+    lend_all(&rt, latch_with(mark(1, sizes::LINES as u32 + 1)), 6);
     lend_all(
+        &rt,
+        latch_with(gate(0, 5, 1, sizes::LINES as u32 + 1, 0)),
+        6,
+    );
+    // the largest number in each field: 10, 10, 10, 10, then 11, 11, 11, and 12
+    lend_all(&rt, latch_with(mark(LARGEST, 5)), 6);
+    lend_all(
+        &rt,
         latch_with(Record {
             kind: 0,
             cell: LARGEST,
@@ -415,6 +448,7 @@ fn main() {
         6,
     );
     lend_all(
+        &rt,
         latch_with(Record {
             kind: 1,
             cell: 0,
@@ -423,22 +457,22 @@ fn main() {
         }),
         6,
     );
-    lend_all(latch_with(gate(0, 5, 1, 0, LARGEST)), 6);
-    lend_all(latch_with(mark(0, LARGEST)), 6);
-    lend_all(latch_with(gate(0, LARGEST, 1, 2, 0)), 6);
-    lend_all(latch_with(gate(LARGEST, 5, 1, LARGEST, 0)), 6);
-    lend_all(latch_with(gate(LARGEST, 5, 1, 2, 0)), 6);
+    lend_all(&rt, latch_with(gate(0, 5, 1, 0, LARGEST)), 6);
+    lend_all(&rt, latch_with(mark(0, LARGEST)), 6);
+    lend_all(&rt, latch_with(gate(0, LARGEST, 1, 2, 0)), 6);
+    lend_all(&rt, latch_with(gate(LARGEST, 5, 1, LARGEST, 0)), 6);
+    lend_all(&rt, latch_with(gate(LARGEST, 5, 1, 2, 0)), 6);
     // 12 to 15, and 17
-    lend_all(latch_with(gate(1, 5, 1, 2, 0)), 6);
-    lend_all(latch_with(gate(0, 5, 1, 0, 0)), 6);
-    lend_all(latch_with(mark(0, 4)), 6);
-    lend_all(latch_with(mark(1, 3)), 6);
-    lend_short(latch, 5);
+    lend_all(&rt, latch_with(gate(1, 5, 1, 2, 0)), 6);
+    lend_all(&rt, latch_with(gate(0, 5, 1, 0, 0)), 6);
+    lend_all(&rt, latch_with(mark(0, 4)), 6);
+    lend_all(&rt, latch_with(mark(1, 3)), 6);
+    lend_short(&rt, latch, 5);
     // an open line; 14, where it has a driver; 20, where an output is marked that has none
-    lend_all(latch_with(mark(3, 5)), 6);
-    lend_all(latch_with(mark(3, 4)), 6);
-    lend_all(latch_with(mark(1, 5)), 6);
+    lend_all(&rt, latch_with(mark(3, 5)), 6);
+    lend_all(&rt, latch_with(mark(3, 4)), 6);
+    lend_all(&rt, latch_with(mark(1, 5)), 6);
     let mut lib = [0u8; FILE_BYTES];
-    let loaded = files::load(b"lib.txt", &mut lib);
-    lend_loaded(loaded, &lib);
+    let loaded = files::load(&rt, b"lib.txt", &mut lib);
+    lend_loaded(&rt, loaded, &lib);
 }

@@ -12,3 +12,4 @@ module _ {A : Type 0} (p : A → Bool) where
   unfolding any_of
   any-member {x} {xs = y ∷ xs} (List-Memᴰ-head e) h = rw (sym (ap p e) ∙ h) refl
   any-member {x} {xs = y ∷ xs} (List-Memᴰ-tail m) h = rw (any-member m h) (or-true (p y))
+  any-member {x} {xs = []} m h = elim m [ ]

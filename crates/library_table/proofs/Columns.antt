@@ -36,6 +36,7 @@ named_listed n (d ∷ cs) x c h (List-Memᴰ-tail m) = side (bit x (bit_of n d))
     side : (b : Bool) → List-as-Memᴰ c (named n cs x) → List-as-Memᴰ c (pick b (d ∷ named n cs x) (named n cs x))
     side true i = List-Memᴰ-tail i
     side false i = i
+named_listed n [] x c h m = elim m [ ]
 
 -- ---- the columns of pins
 

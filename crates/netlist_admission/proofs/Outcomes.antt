@@ -1,6 +1,6 @@
 -- What checking and admitting one statement answers and leaves, for each way through the code.
 use Rattle.common_laws.proofs.Base.{Bool, true, false, not, ◌||◌, List, [], ◌∷◌, ◌++◌, Option, some, ◌≡◌, refl, sym, ap, ◌∙◌, ℕ, zero, suc, ◌+◌, ◌%◌, ◌≤◌, ◌<◌, min}
-use Rattle.common_laws.proofs.Base.{not-suc-le-zero, le_of_suc-le-suc, arith, eqb, length, get_or, set, take, take_all, needs, eq-eqb, ne_eqb, eqb-true, leb-false, not-true}
+use Rattle.common_laws.proofs.Base.{not-suc-le-zero, le_of_suc-le-suc, arith, eqb, length, get_or, set, take, take_all, rules, eq-eqb, ne_eqb, eqb-true, leb-false, not-true}
 use Rattle.common_laws.proofs.Base.{not-false}
 use Rattle.sizes.specs.Places.{driver_place, mention_place, range_place}
 use Rattle.sizes.specs.Sizes as Size
@@ -131,7 +131,7 @@ module _ (r : Range) (table : List ℕ) where
   flags-none : 0 ≡ lowest (range_flags r table)
       → (line_bad r.line ≡ false) × ((bounds_bad r.low r.high || not (eqb (get_or table (range_place r.line) 0) 0)) ≡ false)
   unfolding range_flags Each
-  flags-none e = let none = lowest-none (range_flags r table) (search needs) (sym e) in (none.0, none.1.1.0)
+  flags-none e = let none = lowest-none (range_flags r table) (search rules) (sym e) in (none.0, none.1.1.0)
 
   -- Where none holds the bounds are good.
   pub range-fits : 0 ≡ lowest (range_flags r table) → (1 ≤ r.low) × (r.low ≤ r.high) × (r.high ≤ Size.most_price)
@@ -183,7 +183,7 @@ record Whole (cells : List Cell) (g : Gate) : Type 0 where
 gate_whole : (cells : List Cell) (g : Gate) → gate_cause cells g ≡ 0 → Whole cells g
 unfolding gate_cause lines_of unknown_cell count_differs Each
 gate_whole cells g h =
-    let none = lowest-none _ (search needs) h in
+    let none = lowest-none _ (search rules) h in
     record {
       lines = none.0;
       known = leb-false (length cells) g.cell none.1.0;

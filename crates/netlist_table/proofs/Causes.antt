@@ -1,6 +1,6 @@
 -- Why a statement is refused, as the tests of the code have it, and what the statements behind one more say.
 use Rattle.common_laws.proofs.Base.{Bool, true, false, not, ◌||◌, or-false, or-true, or_assoc, List, [], ◌∷◌, ◌++◌, append-nil, flat_map, ◌⊎◌, ⊎_elim, ◌≡◌, refl, sym, ap, ◌∙◌, ℕ}
-use Rattle.common_laws.proofs.Base.{zero, suc, ◌+◌, ◌*◌, ◌≤◌, ◌<◌, not-suc-le-zero, le_of_suc-le-suc, needs, arith, le-leb, lt-leb, leb-true, leb-false, ltb-false, ne_eqb, leb}
+use Rattle.common_laws.proofs.Base.{zero, suc, ◌+◌, ◌*◌, ◌≤◌, ◌<◌, not-suc-le-zero, le_of_suc-le-suc, rules, arith, le-leb, lt-leb, leb-true, leb-false, ltb-false, ne_eqb, leb}
 use Rattle.common_laws.proofs.Base.{ltb, eqb, length, get_or}
 use Rattle.common_laws.proofs.Lists.{flatMap_append}
 use Rattle.sizes.specs.Sizes as Size
@@ -199,7 +199,7 @@ bounds-fit low high e =
 
 pub causes-counted : (cells : List Cell) (ss : List Statement) (s : Statement) → Each Counted (causes cells ss s)
 unfolding causes Each
-causes-counted cells ss s = search needs
+causes-counted cells ss s = search rules
 
 module _ (cells : List Cell) (ss : List Statement) where
   pub mark_cause : (m : Mark) (l : ℕ)
@@ -225,7 +225,7 @@ module _ (cells : List Cell) (ss : List Statement) where
       ∷ (No.not_input, not_input ss (gate g))
       ∷ (No.range_bad, range_bad ss (gate g))
       ∷ [])
-      (search needs)
+      (search rules)
       ∙ rw (or-false (member g.line (claimed_lines ss)))
 
   pub range_cause : (r : Range) → lowest (causes cells ss (priced r))

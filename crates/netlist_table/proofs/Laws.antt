@@ -45,6 +45,7 @@ pub member-listed : (l : ℕ) (ks : List ℕ) → List-as-Memᴰ l ks → member
 unfolding member
 member-listed l (k ∷ ks) (List-Memᴰ-head e) = rw (eq-eqb k l (sym e))
 member-listed l (k ∷ ks) (List-Memᴰ-tail m) = rw (member-listed l ks m) (or-true (eqb k l))
+member-listed l [] m = elim m [ ]
 
 module _ (cells : List Cell) where
   -- So the statements of a list that is admitted to its end have them, of texts and of records alike.

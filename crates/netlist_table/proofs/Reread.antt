@@ -89,6 +89,8 @@ admitted-lines cells others line ss ts us vs (v ∷ xs) (w ∷ ys) (more f r) h 
     q)
     ps)
     p
+admitted-lines cells others line ss ts us vs [] (w ∷ ys) e h p q = elim e [ ]
+admitted-lines cells others line ss ts us vs (v ∷ xs) [] e h p q = elim e [ ]
 
 alike-here : (s t : Statement) → s ≡ t → Alike s t
 alike-here s t e = record { mentions = ap lines_of (sym e); marks = ap (lines_marked output) (sym e) }

@@ -31,7 +31,7 @@ module _ (kind : ℕ) (library netlist links numbers marks : List ℕ) (fits : F
   gate-fits = fits.links_fit.tables_fit.gates g inside
 
   pub lines_fit_lem : LinesFit lines pins
-  lines_fit_lem = Group.lines_fit kind fits.links_fit.kind_fits library netlist g e gate-fits value lines pins group lines_are pins-are group_is
+  lines_fit_lem = Group.lines_fit_lem kind fits.links_fit.kind_fits library netlist g e gate-fits value lines pins group lines_are pins-are group_is
 
   few-columns : role_columns 0 pins ≤ Size.columns
   few-columns = Group.few-columns kind fits.links_fit.kind_fits library netlist g e gate-fits value lines pins group lines_are pins-are group_is
@@ -43,7 +43,7 @@ module _ (kind : ℕ) (library netlist links numbers marks : List ℕ) (fits : F
   rows-room = rows_fit.room
 
   pub least_fits_lem : (wired : Bool) (costs : List ℕ) → length costs ≡ Size.columns → LeastFits wired kind library group pins costs
-  least_fits_lem = Group.least_fits kind fits.links_fit.kind_fits library netlist g e gate-fits value lines pins group lines_are pins-are group_is
+  least_fits_lem = Group.least_fits_lem kind fits.links_fit.kind_fits library netlist g e gate-fits value lines pins group lines_are pins-are group_is
 
   pub gather-fits : (costs : List ℕ) → length costs ≡ Size.columns → GatherFits true 0 kind lines pins numbers costs
   gather-fits costs size = Group.gather-fits kind fits.links_fit.kind_fits library netlist g e gate-fits value lines pins group lines_are pins-are group_is numbers costs fits.size size

@@ -58,6 +58,7 @@ one-driver (x ∷ gs) once g h (List-Memᴰ-head a) (List-Memᴰ-head b) q = a �
 one-driver (x ∷ gs) once g h (List-Memᴰ-head a) (List-Memᴰ-tail j) q = absurd (once.0 h j (ap (λ (y : Gate). y.line) (sym a) ∙ q))
 one-driver (x ∷ gs) once g h (List-Memᴰ-tail i) (List-Memᴰ-head b) q = absurd (once.0 g i (ap (λ (y : Gate). y.line) (sym b) ∙ sym q))
 one-driver (x ∷ gs) once g h (List-Memᴰ-tail i) (List-Memᴰ-tail j) q = one-driver gs once.1 g h i j q
+one-driver [] once g h m _ q = elim m [ ]
 
 -- The role in which a gate sets a line to a value.
 value_of : Purpose → ℕ

@@ -1,5 +1,5 @@
 -- Runs on tables that are alike at the nodes that the run looks at, and what they remember.
-use Rattle.common_laws.proofs.Base.{List, [], ◌∷◌, List-as-Memᴰ, List-Memᴰ-head, List-Memᴰ-tail, none, ◌≡◌, refl, sym, ◌∙◌, ap, ap₂, ℕ, zero, suc, ◌≤◌, ◌<◌, ℕ_discrete, dec_lt, arith}
+use Rattle.common_laws.proofs.Base.{List, [], ◌∷◌, List-as-Memᴰ, List-Memᴰ-head, List-Memᴰ-tail, none, ◌≡◌, refl, sym, ◌∙◌, ap, ap₂, ℕ, zero, suc, ◌<◌, ℕ_discrete, dec_lt, arith}
 use Rattle.common_laws.proofs.Base.{length, replicate, set_out}
 use Rattle.cost.specs.Cost.{lesser}
 use Rattle.plans.specs.System.{Way, Visit}
@@ -9,7 +9,7 @@ use Rattle.plans.specs.Continued.{Alike, Looks, Reads, AlikeSettles, AlikeTraces
 use Rattle.plans.specs.Trace.{first_place, mark_of, Trace, trace_visit, trace_sweep, trace_sweeps, untraced}
 use Rattle.plans.proofs.Numbers.{at_set_same, at_ext}
 use Rattle.plans.proofs.Lowered.{way_same, lower-here, lower-past}
-use Rattle.plans.proofs.Kept.{Stores, rule-length, rule-other, sweep-length, sweep-other, sweeps-length}
+use Rattle.plans.proofs.Kept.{Stores, rule-length, rule-other, sweep-length, sweep-other}
 
 least-same : (xs ys : List ℕ) (ws : List Way) → ((w : Way) → List-as-Memᴰ w ws → (n : ℕ) → List-as-Memᴰ n w.needs → at xs n ≡ at ys n) → least xs ws ≡ least ys ws
 unfolding least
@@ -54,15 +54,16 @@ module _ (rule : Rule) (stores : Stores rule) (reads : Reads rule) (P : ℕ → 
   sweep-alike : {xs ys : List ℕ} (vs : List Visit) → Looks P vs → Alike P xs ys → Alike P (sweep rule vs xs) (sweep rule vs ys)
   unfolding sweep
   sweep-alike [] l a = a
-  sweep-alike (v ∷ vs) l a =
-      sweep-alike vs
+  sweep-alike {xs} {ys} (v ∷ vs) l a =
+      sweep-alike {xs = rule xs v} {ys = rule ys v} vs
       (record { visits = λ u m. l.visits u (List-Memᴰ-tail m); needs = λ u m. l.needs u (List-Memᴰ-tail m) })
       (visit-alike v (l.visits v (List-Memᴰ-head refl)) (l.needs v (List-Memᴰ-head refl)) a)
 
   sweeps-alike : {xs ys : List ℕ} (vs : List Visit) → Looks P vs → (k : ℕ) → Alike P xs ys → Alike P (sweeps rule vs k xs) (sweeps rule vs k ys)
   unfolding sweeps
   sweeps-alike vs l zero a = a
-  sweeps-alike vs l (suc k) a = sweeps-alike vs l k (sweep-alike vs l a)
+  sweeps-alike {xs} {ys} vs l (suc k) a =
+      sweeps-alike {xs = sweep rule vs xs} {ys = sweep rule vs ys} vs l k (sweep-alike vs l a)
 
   alike_sym : {xs ys : List ℕ} → Alike P xs ys → Alike P ys xs
   alike_sym a = record { long = sym a.long; same = λ n p. sym (a.same n p) }

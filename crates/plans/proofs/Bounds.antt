@@ -42,6 +42,7 @@ mutual
 
 sweep-reaches : (vs : List Visit) (xs : List ℕ) → Inside vs xs → (v : Visit) (w : Way) → List-as-Memᴰ v vs → List-as-Memᴰ w v.ways → at (sweep lower vs xs) v.node ≤ way xs w
 unfolding sweep
+sweep-reaches [] xs inside v w m i = elim m [ ]
 sweep-reaches (u ∷ vs) xs inside v w (List-Memᴰ-head e) i =
     rw e
     (le_trans ((sweep_under vs (lower xs u)).below u.node)
@@ -252,6 +253,7 @@ module _
     Found us o c = Had Onward vs xs (without o us) o c
 
     all_pick : {us ns : List ℕ} {b : ℕ} (k : ℕ) → AllHad Onward vs xs us ns b → List-as-Memᴰ k ns → Had Onward vs xs us k b
+    all_pick k nil i = elim i [ ]
     all_pick k (cons c d p q h) (List-Memᴰ-head e) =
         rw e (had_mono Onward vs xs bounded p (λ j i. i) (le_trans (sum_left c d) h))
     all_pick k (cons c d p q h) (List-Memᴰ-tail i) =

@@ -21,6 +21,7 @@ use Rattle.plans.proofs.Comparison.{exact-attained, exact_below}
 
 sums-fixed : (xs ns : List ℕ) → sums xs ns < never → (n : ℕ) → List-as-Memᴰ n ns → Fixed xs n
 unfolding sums
+sums-fixed xs [] h n i = elim i [ ]
 sums-fixed xs (m ∷ ns) h n (List-Memᴰ-head e) = rw e (omega (arith, sum_left (at xs m) (sums xs ns)))
 sums-fixed xs (m ∷ ns) h n (List-Memᴰ-tail i) =
     sums-fixed xs ns (omega (arith, sum-right (at xs m) (sums xs ns))) n i
@@ -34,6 +35,7 @@ way-fixed xs w h = sums-fixed xs w.needs (omega (arith, sum-right (capped w.dept
 -- No offer is above the sum of a way.
 offered-below : (vs : List Visit) (xs : List ℕ) (n : ℕ) (v : Visit) (w : Way) → List-as-Memᴰ v vs → v.node ≡ n → List-as-Memᴰ w v.ways → offered vs xs n ≤ way xs w
 unfolding offered pick
+offered-below [] xs n v w m e i = elim m [ ]
 offered-below (u ∷ vs) xs n v w (List-Memᴰ-head q) e i =
     let t : eqb u.node n ≡ true = eq-eqb u.node n (rw q at e) in
     rw t
@@ -230,6 +232,7 @@ among-most xs (n ∷ ns) = test (dec_lt (at xs n) never) (among-most xs ns)
 
 -- Where that many are, each is.
 among-all : (xs ns : List ℕ) (n : ℕ) → List-as-Memᴰ n ns → length ns ≤ fixed_among xs ns → Fixed xs n
+among-all xs [] n i h = elim i [ ]
 among-all xs (m ∷ ns) n i h = test i (dec_lt (at xs m) never) (λ j. among-all xs ns n j)
   where
     test : List-as-Memᴰ n (m ∷ ns) → Dec (Fixed xs m) → (List-as-Memᴰ n ns → length ns ≤ fixed_among xs ns → Fixed xs n) → Fixed xs n
@@ -253,6 +256,7 @@ module _ (xs : List ℕ) (n a : ℕ) (inside : n < length xs) (unfixed : Fixed x
   among-other (m ∷ ns) h = among-step m ns (h m (List-Memᴰ-head refl)) 0 (among-other ns (λ j i. h j (List-Memᴰ-tail i)))
 
   among-set : (ns : List ℕ) → Ascending ns → List-as-Memᴰ n ns → fixed_among ys ns ≡ 1 + fixed_among xs ns
+  among-set [] asc i = elim i [ ]
   among-set (m ∷ ns) asc (List-Memᴰ-head e) =
       let f : Fixed ys m = rw (← e) (rw (at_set_same xs n a inside) below) in
       omega (
@@ -552,6 +556,7 @@ offered-none (v ∷ vs) xs n h =
 -- No offer is above the least of a visit ..
 offered-least : (vs : List Visit) (xs : List ℕ) (v : Visit) → List-as-Memᴰ v vs → offered vs xs v.node ≤ least xs v.ways
 unfolding offered pick
+offered-least [] xs v i = elim i [ ]
 offered-least (u ∷ vs) xs v (List-Memᴰ-head e) =
     rw (e, eq-eqb u.node u.node refl) (lesser-left (least xs u.ways) (offered vs xs u.node))
 offered-least (u ∷ vs) xs v (List-Memᴰ-tail i) =

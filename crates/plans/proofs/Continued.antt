@@ -6,7 +6,7 @@ use Rattle.cost.proofs.Laws.{sum_mono, capped-sum}
 use Rattle.plans.specs.System.{Way, Visit, System, Offers, Plan, Plan.priced, Plan.chosen, Plans, Plans.done, Plans.also, cost, costs}
 use Rattle.plans.specs.Sweep.{at, sums, way, least, Rule, lower, sweep, sweeps, Rests, Settles}
 use Rattle.plans.specs.Exact.{Attained}
-use Rattle.plans.specs.Stages.{Stage, all_visits, AllWithin, Stages, Stages.ended, Stages.stage}
+use Rattle.plans.specs.Stages.{Stages.ended, Stages.stage}
 use Rattle.plans.proofs.BothRules.{lowers_settle}
 use Rattle.plans.specs.Continued.{AllExact, ExactTable, StandingStart, StandingAbove, Continued, SettledStays, LowerStart, BetweenSettles, PadSettles, PadIdle, LoweredStages, LoweredUnder}
 use Rattle.plans.proofs.Numbers.{at_set_same, at_set_other, Under, under_refl, under_trans, under_antisym, under_set, at_ext}
@@ -103,12 +103,12 @@ lower_mono {xs} {ys} u v =
 pub sweep_mono : {xs ys : List ℕ} → Under ys xs → (vs : List Visit) → Under (sweep lower vs ys) (sweep lower vs xs)
 unfolding sweep
 sweep_mono u [] = u
-sweep_mono u (v ∷ vs) = sweep_mono (lower_mono u v) vs
+sweep_mono {xs} {ys} u (v ∷ vs) = sweep_mono {xs = lower xs v} {ys = lower ys v} (lower_mono u v) vs
 
 pub sweeps_mono : {xs ys : List ℕ} → Under ys xs → (vs : List Visit) (k : ℕ) → Under (sweeps lower vs k ys) (sweeps lower vs k xs)
 unfolding sweeps
 sweeps_mono u vs zero = u
-sweeps_mono u vs (suc k) = sweeps_mono (sweep_mono u vs) vs k
+sweeps_mono {xs} {ys} u vs (suc k) = sweeps_mono {xs = sweep lower vs xs} {ys = sweep lower vs ys} (sweep_mono u vs) vs k
 
 -- Numbers at rest under a table stay under all that its sweeps come to.
 rest_under : (vs : List Visit) {ys zs : List ℕ} (k : ℕ) → Rests lower vs zs → Under zs ys → Under zs (sweeps lower vs k ys)
@@ -161,6 +161,7 @@ pad-settles vs first old new tried n a k l m low s t r =
         place i (no e) d = rw (at_set_other old n a i e, at_set_other first n a i e) (fallen.below i)
 
 rests-visit : (vs : List Visit) (xs : List ℕ) → Rests lower vs xs → (v : Visit) → List-as-Memᴰ v vs → lower xs v ≡ xs
+rests-visit [] xs e v i = elim i [ ]
 rests-visit (u ∷ vs) xs e v (List-Memᴰ-head q) = rw q (rests-head u vs xs e)
 rests-visit (u ∷ vs) xs e v (List-Memᴰ-tail m) = rests-visit vs xs (rests-tail u vs xs e) v m
 

@@ -131,14 +131,15 @@ module _ {P : Type 0} (c : P → ℕ) (x : ℕ) (attained : AttainedBy P c x) (b
   Least k = ((p : P) × (c p ≡ k)) × ((p : P) → k ≤ c p)
 
   figure-stands : (k : ℕ) → k ≤ most → x ≡ k → Least k
+  unfolding capped
   figure-stands k h e = (from attained, below)
     where
       from : AttainedBy P c x → (p : P) × (c p ≡ k)
       from (inl f) = absurd (omega arith)
-      from (inr t) = (t.0, unfold capped in omega (arith, t.1))
+      from (inr t) = (t.0, omega (arith, t.1))
 
       below : (p : P) → k ≤ c p
-      below p = unfold capped in omega (arith, bound p)
+      below p = omega (arith, bound p)
 
   figure_only : (k : ℕ) → k ≤ most → Least k → x ≡ k
   unfolding capped

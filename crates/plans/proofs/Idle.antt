@@ -126,6 +126,7 @@ idle_stays xs ys v u h e = place (dec_lt v.node (length xs))
 -- Visits just made are idle.
 made-idle : (us : List Visit) (xs zs : List ℕ) → Under zs xs → ((v : Visit) → List-as-Memᴰ v us → Unmoved xs (sweep lower us zs) v) → Idles lower (sweep lower us zs) us
 unfolding sweep
+made-idle [] xs zs below h v i = elim i [ ]
 made-idle (u ∷ us) xs zs below h v (List-Memᴰ-head e) = rw e (place (dec_lt u.node (length zs)))
   where
     ys : List ℕ

@@ -3,7 +3,7 @@ use Rattle.common_laws.proofs.Base.{List, [], ◌∷◌, ◌++◌, List-Memᴰ-h
 use Rattle.common_laws.proofs.Base.{length-set, set_out}
 use Rattle.cost.specs.Cost.{never, lesser}
 use Rattle.plans.specs.System.{Visit}
-use Rattle.plans.specs.Sweep.{at, least, Rule, renew, lower, sweep, sweeps, Settles, same, Inside, Bounded, Visited}
+use Rattle.plans.specs.Sweep.{at, least, Rule, renew, lower, sweep, sweeps, Settles, Inside, Bounded, Visited}
 use Rattle.plans.proofs.Numbers.{at_set_same, at_set_other}
 use Rattle.plans.proofs.Lowered.{lesser-bound, least-bound}
 

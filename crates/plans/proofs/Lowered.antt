@@ -66,6 +66,7 @@ least-bound xs (w ∷ ws) = lesser-bound (way xs w) (least xs ws)
 -- The least is no more than any of them, and is one of them where it is not never.
 pub least-below : (xs : List ℕ) (ws : List Way) (w : Way) → List-as-Memᴰ w ws → least xs ws ≤ way xs w
 unfolding least
+least-below xs [] w i = elim i [ ]
 least-below xs (u ∷ ws) w (List-Memᴰ-head e) = rw e (lesser-left (way xs u) (least xs ws))
 least-below xs (u ∷ ws) w (List-Memᴰ-tail m) =
     le_trans (lesser-right (way xs u) (least xs ws)) (least-below xs ws w m)
@@ -164,6 +165,7 @@ rests-tail v vs xs e = rw (rests-head v vs xs e) at e
 
 -- .. and each visited number is at most its least way sum.
 pub rests-least : (vs : List Visit) (xs : List ℕ) → Inside vs xs → Rests lower vs xs → (v : Visit) → List-as-Memᴰ v vs → at xs v.node ≤ least xs v.ways
+rests-least [] xs h e v i = elim i [ ]
 rests-least (u ∷ vs) xs h e v (List-Memᴰ-head q) =
     rw q (le_trans (le_of_eq (ap (λ (zs : List ℕ). at zs u.node) (sym (rests-head u vs xs e)) ∙ lower-here xs u (h u (List-Memᴰ-head refl))))
     (lesser-right (at xs u.node) (least xs u.ways)))

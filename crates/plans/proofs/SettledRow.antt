@@ -94,6 +94,7 @@ sum_strict a b c d h k l m = side (sum-small c d m) l
 
 sums_strict : (ys xs ns : List ℕ) (k : ℕ) → ((n : ℕ) → at ys n ≤ at xs n) → List-as-Memᴰ k ns → at ys k < at xs k → sums xs ns ≤ most → sums ys ns < sums xs ns
 unfolding sums
+sums_strict ys xs [] k h i l m = elim i [ ]
 sums_strict ys xs (n ∷ ns) k h (List-Memᴰ-head e) l m =
     sum_strict (at ys n) (sums ys ns) (at xs n) (sums xs ns) (h n) (sums_mono ys xs ns (λ j i. h j)) (inl (rw e at l)) m
 sums_strict ys xs (n ∷ ns) k h (List-Memᴰ-tail i) l m =
@@ -112,6 +113,7 @@ way_strict ys xs w k h i l m =
 -- A way costs at least each node that it needs.
 sums-need : (xs ns : List ℕ) (k : ℕ) → List-as-Memᴰ k ns → min (at xs k) never ≤ sums xs ns
 unfolding sums
+sums-need xs [] k i = elim i [ ]
 sums-need xs (n ∷ ns) k (List-Memᴰ-head e) = rw e (sum_left (at xs n) (sums xs ns))
 sums-need xs (n ∷ ns) k (List-Memᴰ-tail i) = omega (arith, sums-need xs ns k i, sum-right (at xs n) (sums xs ns))
 

@@ -16,6 +16,7 @@ Among us ts = (m : ℕ) → List-as-Memᴰ m us → List-as-Memᴰ m ts
 
 pub without_in : (n m : ℕ) (us : List ℕ) → List-as-Memᴰ m us → (m ≡ n → ⊥) → List-as-Memᴰ m (without n us)
 unfolding without drop?
+without_in n m [] i h = elim i [ ]
 without_in n m (u ∷ us) (List-Memᴰ-head e) h = test (eqb u n) refl
   where
     test : (b : Bool) → eqb u n ≡ b → List-as-Memᴰ m (drop? b u (without n us))
@@ -63,6 +64,7 @@ without-length n (u ∷ us) = test (eqb u n) (without-length n us)
 
 pub without_shorter : (n : ℕ) (us : List ℕ) → List-as-Memᴰ n us → length (without n us) < length us
 unfolding without drop?
+without_shorter n [] i = elim i [ ]
 without_shorter n (u ∷ us) (List-Memᴰ-head e) = rw (eq-eqb u n (sym e)) (omega (arith, without-length n us))
 without_shorter n (u ∷ us) (List-Memᴰ-tail i) = test (eqb u n) (without_shorter n us i)
   where

@@ -108,6 +108,7 @@ at-start (suc (suc (suc n))) = refl
 
 loop-inside : Inside loop.visits (1 ∷ never ∷ never ∷ [])
 loop-inside v (List-Memᴰ-head e) = rw e (omega arith)
+loop-inside v (List-Memᴰ-tail (List-Memᴰ-tail i)) = elim i [ ]
 loop-inside v (List-Memᴰ-tail (List-Memᴰ-head e)) = rw e (omega arith)
 
 loop-visited : (n : ℕ) → Visited loop.visits n → List-as-Memᴰ n (1 ∷ 2 ∷ [])
@@ -115,6 +116,7 @@ loop-visited n v = place v.visit v.same v.listed
   where
     place : (u : Visit) → u.node ≡ n → List-as-Memᴰ u loop.visits → List-as-Memᴰ n (1 ∷ 2 ∷ [])
     place u q (List-Memᴰ-head e) = List-Memᴰ-head (sym q ∙ ap (λ (t : Visit). t.node) e)
+    place u q (List-Memᴰ-tail (List-Memᴰ-tail i)) = elim i [ ]
     place u q (List-Memᴰ-tail (List-Memᴰ-head e)) = List-Memᴰ-tail (List-Memᴰ-head (sym q ∙ ap (λ (t : Visit). t.node) e))
 
 loop-start : Start loop (1 ∷ never ∷ never ∷ [])

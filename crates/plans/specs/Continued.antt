@@ -2,7 +2,7 @@
 -- K13 (a pad on trial) and K14 (rows added to a library). What is shown stands under the names of proofs/Continued.antt.
 use mathlib.Core.List.{List, [], ◌∷◌, Memᴰ}
 use Rattle.std.proofs.Math.Option.{some}
-use Rattle.std.specs.Prelude.{◌≡◌, ℕ, ◌≤◌, ◌<◌, length, set}
+use Rattle.std.specs.Prelude.{◌≡◌, ℕ, ◌≤◌, length, set}
 use Rattle.plans.specs.System.{Way, Visit, System, Offers}
 use Rattle.plans.specs.Sweep.{at, Rule, lower, sweeps, Rests, Settles, Inside, Above}
 use Rattle.plans.specs.Exact.{Exact, Start}

@@ -2,14 +2,14 @@
 -- and what is refused.
 use Rattle.common_laws.proofs.Base.{List, [], ◌∷◌, ◌++◌, ◌≡◌, refl}
 use Prim.Native.String.{String}
-use Rattle.text.specs.Bytes.{bytes, text}
+use Rattle.text.specs.Bytes.{text}
 use Rattle.reading.specs.Each.{Each}
 use Rattle.reading.specs.Refusal.{read}
 use Rattle.reading.specs.Verdict.{done_read}
 use Rattle.library_table.specs.Cells.{Cell, deep}
 use Rattle.library_table.specs.Library.{library, library_open}
 use Rattle.report_figures.specs.Entries.{c1130_deep, delay}
-use Rattle.report_figures.specs.Figures.{Figure, Holds, outcome_open, lent, reported, c1130_figure}
+use Rattle.report_figures.specs.Figures.{Holds, outcome_open, lent, reported, c1130_figure}
 use Rattle.report_figures.proofs.Libraries.{row, cell1130, Refused, Stops, stops}
 
 -- The same cell but for its heading.

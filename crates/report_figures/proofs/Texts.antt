@@ -1,5 +1,5 @@
 -- Closed instances of the definitions, by computation: what a text, a field and a refusal come to.
-use Rattle.common_laws.proofs.Base.{true, false, List, [], ◌∷◌, Option, none, some, ◌≡◌, refl, ℕ}
+use Rattle.common_laws.proofs.Base.{true, false, [], ◌∷◌, Option, none, some, ◌≡◌, refl, ℕ}
 use Rattle.sizes.specs.Sizes as Size
 use Rattle.text.specs.Bytes.{bytes, text, bytes_open}
 use Rattle.text.specs.Class.{class_of, class_open}

@@ -1,6 +1,6 @@
 -- What a refusal leaves of tables and a buffer that are full of sevens, by computation. Document 01: "Entry refusals leave lent
 -- memory untouched; later ones leave every table and the report buffer zero."
-use Rattle.std.specs.Prelude.{List, [], ◌∷◌, ◌≡◌, refl, ℕ, ◌-◌, replicate}
+use Rattle.std.specs.Prelude.{[], ◌∷◌, ◌≡◌, refl, ℕ, ◌-◌, replicate}
 use Rattle.sizes.specs.Sizes as Size
 use Rattle.text.specs.Bytes.{text}
 use Rattle.demands.specs.Outcome.{Given, Lent, given_texts, zeroed, left, left_from, left_later}

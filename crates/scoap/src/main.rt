@@ -31,6 +31,7 @@ fn put_output(
 
 // Writes what the program prints of its files. The files are handed on for the condition alone.
 fn print_output(
+    rt: &impl Print,
     lib_loaded: Loaded,
     lib: &[u8; FILE_BYTES],
     net_loaded: Loaded,
@@ -39,15 +40,22 @@ fn print_output(
 )
     requires { bytes.now ≡ of_files printed lib_loaded lib.now net_loaded net.now }
 {
-    files::print(bytes);
+    files::print(rt, bytes);
 }
 
-fn main() {
+fn main(rt: HostRuntime) {
     let mut lib = [0u8; FILE_BYTES];
     let mut net = [0u8; FILE_BYTES];
-    let lib_loaded = files::load(b"lib.txt", &mut lib);
-    let net_loaded = files::load(b"net.txt", &mut net);
+    let lib_loaded = files::load(&rt, b"lib.txt", &mut lib);
+    let net_loaded = files::load(&rt, b"net.txt", &mut net);
     let mut output = [0u8; sizes::REPORT_BYTES];
     let length = put_output(lib_loaded, &lib, net_loaded, &net, &mut output);
-    print_output(lib_loaded, &lib, net_loaded, &net, front(&output, length));
+    print_output(
+        &rt,
+        lib_loaded,
+        &lib,
+        net_loaded,
+        &net,
+        front(&output, length),
+    );
 }

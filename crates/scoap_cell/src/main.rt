@@ -21,16 +21,16 @@ fn put_output(loaded: Loaded, text: &[u8; FILE_BYTES], output: &mut [u8; ENTRY_B
 }
 
 // Writes what the program prints of its file. The file is handed on for the condition alone.
-fn print_output(loaded: Loaded, text: &[u8; FILE_BYTES], bytes: &[u8])
+fn print_output(rt: &impl Print, loaded: Loaded, text: &[u8; FILE_BYTES], bytes: &[u8])
     requires { bytes.now ≡ of_file entry_printed loaded text.now }
 {
-    files::print(bytes);
+    files::print(rt, bytes);
 }
 
-fn main() {
+fn main(rt: HostRuntime) {
     let mut text = [0u8; FILE_BYTES];
-    let loaded = files::load(b"table.txt", &mut text);
+    let loaded = files::load(&rt, b"table.txt", &mut text);
     let mut output = [0u8; ENTRY_BYTES];
     let length = put_output(loaded, &text, &mut output);
-    print_output(loaded, &text, front(&output, length));
+    print_output(&rt, loaded, &text, front(&output, length));
 }

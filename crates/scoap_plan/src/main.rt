@@ -8,7 +8,7 @@
 
 mod arguments;
 
-ghost use Rattle.std.specs.Prelude.{◌≡◌};
+ghost use Rattle.std.specs.Prelude.{◌≡◌, ◌≤◌, length};
 ghost use Rattle.sizes.specs.Sizes as Size;
 ghost use Rattle.files.specs.Output.{PrintsFiles};
 ghost use Rattle.scoap_plan.specs.Arguments.{arguments_of};
@@ -16,6 +16,8 @@ ghost use Rattle.scoap_plan.specs.Output.{plan_shown, plan_output, PlanOutputs};
 
 use crate::arguments::{Arguments, put_usage, read_arguments};
 use files::{FILE_BYTES, Loaded, front, put_unreadable};
+use std::env::FillError;
+use std::rt::Env;
 
 // One byte more than a decimal may have.
 const ARGUMENT_BYTES: usize = sizes::DECIMAL_DIGITS + 1;
@@ -76,6 +78,7 @@ fn put_output(
 
 // Writes what the program prints of its arguments and its files. They are handed on for the condition alone.
 fn print_output(
+    rt: &impl Print,
     count: usize,
     line: &[u8],
     value: &[u8],
@@ -89,24 +92,44 @@ fn print_output(
     requires { bytes.now ≡ plan_output (arguments_of count line.now value.now kind.now)
         lib_loaded lib.now net_loaded net.now }
 {
-    files::print(bytes);
+    files::print(rt, bytes);
 }
 
-fn main() {
+// How many words the program was started with, its name among them. No word fits into an empty buffer but an empty one.
+fn count_words(rt: &impl Env) -> usize {
+    for i in 0..usize::MAX {
+        if let Err(FillError::NotPresent) = rt.arg(i, &mut []) {
+            return i;
+        }
+    }
+    usize::MAX
+}
+
+// The i-th word into the front of a buffer: how many bytes it has, or 0 where it is missing or longer than the buffer.
+fn argument(rt: &impl Env, i: usize, buffer: &mut [u8]) -> usize
+    ensures { result ≤ length buffer.new }
+{
+    match rt.arg(i, buffer) {
+        Ok(length) => length,
+        Err(_) => 0,
+    }
+}
+
+fn main(rt: HostRuntime) {
     let mut line_bytes = [0u8; ARGUMENT_BYTES];
     let mut value_bytes = [0u8; ARGUMENT_BYTES];
     let mut kind_bytes = [0u8; ARGUMENT_BYTES];
-    let line_length = os::arg(1, &mut line_bytes);
-    let value_length = os::arg(2, &mut value_bytes);
-    let kind_length = os::arg(3, &mut kind_bytes);
+    let line_length = argument(&rt, 1, &mut line_bytes);
+    let value_length = argument(&rt, 2, &mut value_bytes);
+    let kind_length = argument(&rt, 3, &mut kind_bytes);
     let line = front(&line_bytes, line_length);
     let value = front(&value_bytes, value_length);
     let kind = front(&kind_bytes, kind_length);
-    let count = os::arg_count();
+    let count = count_words(&rt);
     let mut lib = [0u8; FILE_BYTES];
     let mut net = [0u8; FILE_BYTES];
-    let lib_loaded = files::load(b"lib.txt", &mut lib);
-    let net_loaded = files::load(b"net.txt", &mut net);
+    let lib_loaded = files::load(&rt, b"lib.txt", &mut lib);
+    let net_loaded = files::load(&rt, b"net.txt", &mut net);
     let mut output = [0u8; sizes::REPORT_BYTES];
     let length = put_output(
         count,
@@ -120,6 +143,7 @@ fn main() {
         &mut output,
     );
     print_output(
+        &rt,
         count,
         line,
         value,

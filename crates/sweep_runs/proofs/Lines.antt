@@ -1,5 +1,5 @@
 -- The lines of the gates, at the tables of accepted cells and statements: which gates need a line, for the links that tell it.
-use Rattle.common_laws.proofs.Base.{List, ◌∷◌, ◌++◌, List-as-Memᴰ, Memᴰ-map, Memᴰ-of-map, ◌≡◌, refl, sym, ap, ◌∙◌, subst, ℕ, zero, suc, ◌+◌, ◌-◌, ◌≤◌, ◌<◌, arith, length, get_or}
+use Rattle.common_laws.proofs.Base.{List, [], ◌∷◌, ◌++◌, List-as-Memᴰ, Memᴰ-map, Memᴰ-of-map, ◌≡◌, refl, sym, ap, ◌∙◌, subst, ℕ, zero, suc, ◌+◌, ◌-◌, ◌≤◌, ◌<◌, arith, length, get_or}
 use Rattle.sizes.specs.Sizes as Size
 use Rattle.sizes.specs.Places.{setting_place, observing_place}
 use Rattle.reading.specs.Choice.{pick}
@@ -32,6 +32,7 @@ use Rattle.sweep_runs.proofs.Bridge.{values-are, pin-visit, pins-are}
 
 -- No two places of the list have gates that drive one line.
 once-at : (gs : List Gate) → DrivenOnce gs → (i j : ℕ) → i < length gs → j < length gs → (get_or gs i no_gate).line ≡ (get_or gs j no_gate).line → i ≡ j
+once-at [] once i j a b e = elim a [ ]
 once-at (g ∷ gs) once zero zero a b e = refl
 once-at (g ∷ gs) once zero (suc j) a b e = absurd (once.0 (get_or gs j no_gate) (getD_listed gs j no_gate (omega arith)) e)
 once-at (g ∷ gs) once (suc i) zero a b e = absurd (once.0 (get_or gs i no_gate) (getD_listed gs i no_gate (omega arith)) (sym e))

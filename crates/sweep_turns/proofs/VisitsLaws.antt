@@ -42,6 +42,7 @@ module _ (xs : List ℕ) (o a : ℕ) (b : a ≤ never) (l : a ≤ at xs o) where
   -- A sum is at least each of its terms.
   sums-least : (ns : List ℕ) → List-as-Memᴰ o ns → a ≤ sums xs ns
   unfolding sums
+  sums-least [] m = elim m [ ]
   sums-least (n ∷ ns) (List-Memᴰ-head e) = rw (← e) (omega (arith, sum_left (at xs o) (sums xs ns)))
   sums-least (n ∷ ns) (List-Memᴰ-tail m) = omega (arith, sum-right (at xs n) (sums xs ns), sums-least ns m)
 

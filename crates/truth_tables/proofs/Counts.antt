@@ -183,6 +183,7 @@ by_four C s (List-Memᴰ-head e) = rw e refl
 by_four C s (List-Memᴰ-tail (List-Memᴰ-head e)) = rw e refl
 by_four C s (List-Memᴰ-tail (List-Memᴰ-tail (List-Memᴰ-head e))) = rw e refl
 by_four C s (List-Memᴰ-tail (List-Memᴰ-tail (List-Memᴰ-tail (List-Memᴰ-head e)))) = rw e refl
+by_four C s (List-Memᴰ-tail (List-Memᴰ-tail (List-Memᴰ-tail (List-Memᴰ-tail m)))) = elim m [ ]
 
 -- ---- the computed table
 

@@ -130,7 +130,7 @@ module _ (rest : Fields) (parted : join_first rest ≡ false) where
   rows_of : (r : Row) (g : Group) → Written r → Each Written g → groups_of plain (group_fields (r ∷ g) ++ rest) ≡ (r ∷ g) ∷ groups_of plain rest
   unfolding group_fields groups_of pick Each with_row join_first is_join bytes same_bytes
   rows_of r [] w ws = rw (row_no_join r w, row_no_z r w, parted, row_same r w) refl
-  rows_of r (q ∷ g) w ws = rw (row_no_join r w, row_no_z r w, row_same r w, rows_of q g ws.0 ws.1) refl
+  rows_of r (q ∷ g) w ws = rw (row_no_join r w, row_no_z r w, rows_of q g ws.0 ws.1, row_same r w) refl
 
   group_of : (g : Group) → Each Written g → groups_of plain (group_fields g ++ rest) ≡ g ∷ groups_of plain rest
   unfolding group_fields groups_of pick Each is_join is_z bytes same_bytes
@@ -216,10 +216,10 @@ decimal-few (suc (suc (suc zero))) h = (refl, refl)
 decimal-few (suc (suc (suc (suc zero)))) h = (refl, refl)
 decimal-few (suc (suc (suc (suc (suc n))))) h = absurd (omega arith)
 
-row_line_lem : (w : Word) (gs : List Group) (rest : List ℕ)
+row-line : (w : Word) (gs : List Group) (rest : List ℕ)
     → lines (line_bytes (word_bytes w) gs ++ rest) ≡ some (word_bytes w ∷ groups_fields gs) ∷ lines rest
 unfolding line_bytes
-row_line_lem w gs rest =
+row-line w gs rest =
     ap lines
     (ap (λ (l : List ℕ). l ++ rest) (sym (append_assoc (word_bytes w) (groups_bytes gs) (10 ∷ [])))
     ∙ append_assoc (word_bytes w ++ groups_bytes gs) (10 ∷ []) rest)
@@ -282,4 +282,4 @@ pub cell-read : (name : List ℕ) (n : ℕ) (cc co sc so : List Group) → name_
     library (entry_bytes c) ≡ read (c ∷ [])
 unfolding entry_bytes library library_from library_line form ◌>>=◌ ◌>>◌ begun with_groups line_after end_after library_end same_bytes pick bytes word_bytes
 cell-read name n cc co sc so f h gcc gco gsc gso =
-    rw (name-line name n f h _, row_line_lem CC cc _, row_line_lem CO co _, row_line_lem SC sc _, row_line_lem SO so _, end_line_lem, name-read name n f h, line_read_lem 2 CC n cc gcc, line_read_lem 3 CO n co gco, line_read_lem 4 SC n sc gsc, line_read_lem 5 SO n so gso) refl
+    rw (name-line name n f h _, row-line CC cc _, row-line CO co _, row-line SC sc _, row-line SO so _, end_line_lem, name-read name n f h, line_read_lem 2 CC n cc gcc, line_read_lem 3 CO n co gco, line_read_lem 4 SC n sc gsc, line_read_lem 5 SO n so gso) refl

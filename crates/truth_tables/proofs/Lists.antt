@@ -14,6 +14,7 @@ module _ {A : Type 0} where
   unfolding all_of
   all-member p {x} {xs = y ∷ xs} (List-Memᴰ-head e) h = ap p e ∙ and_left (p y) (all_of p xs) h
   all-member p {x} {xs = y ∷ xs} (List-Memᴰ-tail m) h = all-member p m (and_right (p y) (all_of p xs) h)
+  all-member p {x = x} {xs = []} m h = elim m [ ]
 
   pub all_by : (p : A → Bool) (xs : List A) → ((x : A) → List-as-Memᴰ x xs → p x ≡ true) → all_of p xs ≡ true
   unfolding all_of
@@ -67,6 +68,7 @@ module _ {A : Type 0} where
   keep_member p {x} {xs = y ∷ xs} (List-Memᴰ-head e) h = rw (sym (ap p e) ∙ h) (List-Memᴰ-head e)
   keep_member p {x} {xs = y ∷ xs} (List-Memᴰ-tail m) h =
       by_test (p y) (λ k. rw k (List-Memᴰ-tail (keep_member p m h))) (λ k. rw k (keep_member p m h))
+  keep_member p {x = x} {xs = []} m h = elim m [ ]
 
   pub kept : (p : A → Bool) {x : A} (xs : List A) → List-as-Memᴰ x (keep p xs) → (p x ≡ true) × List-as-Memᴰ x xs
   unfolding keep pick
@@ -103,6 +105,7 @@ module _ {A B : Type 0} where
   pub map-member : (f : A → B) {x : A} {xs : List A} → List-as-Memᴰ x xs → List-as-Memᴰ (f x) (map f xs)
   map-member f {x} {xs = y ∷ xs} (List-Memᴰ-head e) = List-Memᴰ-head (ap f e)
   map-member f {x} {xs = y ∷ xs} (List-Memᴰ-tail m) = List-Memᴰ-tail (map-member f m)
+  map-member f {x = x} {xs = []} m = elim m [ ]
 
   pub all_map : (p : B → Bool) (f : A → B) (xs : List A) → all_of p (map f xs) ≡ all_of (λ x. p (f x)) xs
   unfolding all_of

@@ -96,6 +96,7 @@ module _ (d n : ℕ) (bits : List Bool) (s : Setting) (l : length s ≡ n) (t : 
   behind c (List-Memᴰ-head e) b = clash false (sym (unnamed 0) ∙ (rw e at b)) refl
   behind c (List-Memᴰ-tail (List-Memᴰ-head e)) b = clash false (sym (unnamed 1) ∙ (rw e at b)) refl
   behind c (List-Memᴰ-tail (List-Memᴰ-tail (List-Memᴰ-head e))) b = rw e refl
+  behind c (List-Memᴰ-tail (List-Memᴰ-tail (List-Memᴰ-tail m))) b = elim m [ ]
 
   observing_row_lem : meets_row n (observing_columns n) bits s (observing_row d n t) ≡ meets t s
   unfolding meets_row observing_row observing_columns

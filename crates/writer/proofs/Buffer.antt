@@ -1,6 +1,6 @@
 -- The laws of a text in a buffer, or a refusal: from the cursor behind the text to the answer, from the answer to what is
 -- printed, and from a refusal to its one number and back.
-use Rattle.common_laws.proofs.Base.{Bool, false, List, ◌++◌, ◌≡◌, refl, sym, ap, ◌∙◌, ℕ, ◌+◌, ◌≤◌, ◌<◌, arith, leb, ltb, length, drop, replicate, length-append, take-append_seam}
+use Rattle.common_laws.proofs.Base.{Bool, false, List, ◌++◌, ◌≡◌, refl, sym, ap, ◌∙◌, ℕ, ◌≤◌, ◌<◌, arith, leb, ltb, length, drop, replicate, length-append, take-append_seam}
 use Rattle.common_laws.proofs.Base.{length-sets, le-leb, lt-leb, le-ltb, lt-ltb, leb-true, leb-false}
 use lib.Seq.{drop-append_seam}
 use Rattle.reading.specs.Choice.{pick}

@@ -1,5 +1,5 @@
 -- How far a number's digits stand in a buffer that is filled from the last digit to the first.
-use Rattle.common_laws.proofs.Base.{List, [], ◌∷◌, ◌++◌, append-nil, append_assoc, ◌≡◌, refl, sym, ap, ◌∙◌, ℕ, ◌+◌, ◌-◌, ◌/◌, ◌%◌, ◌^◌, ◌≤◌, ◌<◌, arith, length, length-append}
+use Rattle.common_laws.proofs.Base.{List, [], ◌++◌, append-nil, append_assoc, ◌≡◌, refl, sym, ap, ◌∙◌, ℕ, ◌+◌, ◌-◌, ◌/◌, ◌%◌, ◌^◌, ◌≤◌, ◌<◌, arith, length, length-append}
 use Rattle.common_laws.proofs.Base.{sets}
 use Rattle.writer.specs.Decimal.{decimal_bytes, two_digits}
 use Rattle.writer.proofs.Decimal.{decimal_hundreds}

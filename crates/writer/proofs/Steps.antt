@@ -1,5 +1,5 @@
 -- What the proofs of the functions that write at a cursor share: bytes put behind bytes.
-use Rattle.common_laws.proofs.Base.{List, [], ◌∷◌, ◌++◌, ltb, ltb-true, ltb-false, ◌≡◌, refl, sym, ap, ◌∙◌, ℕ, suc, ◌+◌, ◌-◌, ◌≤◌, ◌<◌, min, zero-add, add-zero, arith, length, set}
+use Rattle.common_laws.proofs.Base.{List, [], ◌∷◌, ◌++◌, ltb, ltb-true, ltb-false, ◌≡◌, refl, sym, ap, ◌∙◌, ℕ, suc, ◌+◌, ◌-◌, ◌≤◌, ◌<◌, min, zero-add, arith, length, set}
 use Rattle.common_laws.proofs.Base.{drop, length-append, sets, length-sets, sets-eq}
 use Rattle.reading.proofs.Laws.{by_test}
 use lib.Seq.{set_comm}

@@ -1,19 +1,19 @@
 -- `put_advice` lays the largest CO of an advice that names a line.
-use Rattle.common_laws.proofs.Base.{refl, needs}
+use Rattle.common_laws.proofs.Base.{refl, rules}
 use Rattle.advice_calls.specs.Calls.{advice_into}
 use Rattle.advice_calls.proofs.put_advice.Statement.{statement}
 use Rattle.advice_calls.proofs.put_advice.Tie as tie
 
-returns : tie.Need-returns
+returns : tie.Need-returns-in-NoneAllowed
 unfolding advice_into
-returns c = rw c.enum_told.given.1 refl
+returns c = rw c.in-NoneAllowed.is refl
 
-returns_2 : tie.Need-returns-2
+returns_2 : tie.Need-returns-in-Pad
 unfolding advice_into
 returns_2 c =
     let p = c.before.before in
-    rw p.before.before.before.found.given.1 p.put.ensures
+    rw p.in-Pad.is p.put.ensures
 
-pub put-advice_spec : {M : Type 1} → statement M
-put-advice_spec =
-    tie.close (tie.spec (λ c. search needs) (λ c. search needs) (λ c κs. search needs) returns (λ c. search needs) returns_2)
+pub put_advice_spec : {M : Type 1} → statement M
+put_advice_spec =
+    tie.close (tie.spec (λ c. search rules) (λ c. search rules) (λ c κs. search rules) returns (λ c. search rules) returns_2)

@@ -1,21 +1,15 @@
 -- `clear_lent` clears a table that was lent.
-use Rattle.common_laws.proofs.Base.{now, needs}
+use Rattle.common_laws.proofs.Base.{rules}
 use Rattle.analysis_texts.proofs.Own.{own-cleared}
 use Rattle.analysis_texts.proofs.clear_lent.Statement.{statement}
 use Rattle.analysis_texts.proofs.clear_lent.Tie as tie
 
-returns : tie.Need-returns
+returns : tie.Need-returns-in-Own
 returns c =
-    let s = c.before.before.before in
-    own-cleared s.args.size (now s.args.table) c.enum_told.given.1 s.requires
+    let s = c.before.before in
+    own-cleared s.args.size s.args.table.now c.in-Own.is s.requires
 
 pub clear_lent_spec : {M : Type 1} → statement M
 clear_lent_spec =
     tie.close
-    (tie.spec
-    (λ c. search needs)
-    (λ c. search needs)
-    (λ c κs. search needs)
-    returns
-    (λ c. search needs)
-    (λ c. search needs))
+    (tie.spec (λ c. search rules) (λ c. search rules) (λ c κs. search rules) returns (λ c. search rules) (λ c. search rules))

@@ -1,5 +1,5 @@
 -- `offer_of` gathers the costs of the gate's columns, and takes the least row sum over them.
-use Rattle.common_laws.proofs.Base.{Bool, true, false, List, ◌≡◌, refl, sym, ap₂, ◌∙◌, ℕ, ◌+◌, ◌*◌, ◌≤◌, arith, needs, length}
+use Rattle.common_laws.proofs.Base.{Bool, true, false, List, ◌≡◌, refl, sym, ap₂, ◌∙◌, ℕ, ◌+◌, ◌*◌, ◌≤◌, arith, rules, length}
 use Rattle.sizes.specs.Sizes as Size
 use Rattle.sizes.specs.Places.{group_place}
 use Rattle.reading.specs.Choice.{pick}
@@ -14,16 +14,16 @@ use Rattle.budget_run.proofs.offer_of.Tie as tie
 
 -- ---- places
 
-abbrev celled : tie.After-lines-of → tie.After-cell-place
+abbrev celled : tie.After-lines_of-lines → tie.After-cell_place-cell
 celled c = c.before.before.before
 
-abbrev began : tie.After-lines-of → tie.Start
+abbrev began : tie.After-lines_of-lines → tie.Start
 began c = (celled c).before.before.before
 
-abbrev told : tie.After-column-costs → tie.After-is-tied
+abbrev told : tie.After-column_costs → tie.After-is_tied-wired
 told c = c.before.before.before.before
 
-abbrev lined : tie.After-column-costs → tie.After-lines-of
+abbrev lined : tie.After-column_costs → tie.After-lines_of-lines
 lined c = (told c).before
 
 -- ---- what was read of the gate
@@ -31,87 +31,87 @@ lined c = (told c).before
 gate-fits : (s : tie.Start) → GateFits s.args.library.now s.args.netlist.now s.args.gate
 gate-fits s = s.requires.0.ready.tables_fit.gates s.args.gate s.requires.0.inside
 
-pins-are : (c : tie.After-lines-of) → c.before.wide.result ≡ gate_pins (began c).args.library.now (began c).args.netlist.now (began c).args.gate
-pins-are c = rw (celled c).cell-place.ensures at c.before.wide.ensures
+pins-are : (c : tie.After-lines_of-lines) → c.wide-pins.result ≡ gate_pins (began c).args.library.now (began c).args.netlist.now (began c).args.gate
+pins-are c = rw (celled c).cell_place-cell.ensures at c.wide-pins.ensures
 
-tied_is : (c : tie.After-is-tied) → let a = (began c.before).args in c.is_Tied.result ≡ gate_tied a.library.now a.netlist.now a.gate
-tied_is c = let s = began c.before in c.is_Tied.ensures _ _ _ s.pre.0.ready.linked.tied s.pre.0.inside
+tied_is : (c : tie.After-is_tied-wired) → let a = (began c.before).args in c.is_tied-wired.result ≡ gate_tied a.library.now a.netlist.now a.gate
+tied_is c = let s = began c.before in c.is_tied-wired.ensures _ _ _ s.requires.0.ready.linked.tied s.requires.0.inside
 
-group_few : (c : tie.After-visit-group) → c.visit-group.result ≤ 1
+group_few : (c : tie.After-visit_group) → c.visit_group.result ≤ 1
 unfolding by_role pick
-group_few c = omega (arith, c.visit-group.ensures, (began (lined c.before)).requires.1)
+group_few c = omega (arith, c.visit_group.ensures, (began (lined c.before)).requires.1)
 
-abbrev group_at : tie.After-visit-group → ℕ
-group_at c = (celled (lined c.before)).cell-place.result + Size.groups_at + c.visit-group.result * Size.group_words
+abbrev group_at : tie.After-visit_group → ℕ
+group_at c = (celled (lined c.before)).cell_place-cell.result + Size.groups_at + c.visit_group.result * Size.group_words
 
-group_stands : (c : tie.After-visit-group)
+group_stands : (c : tie.After-visit_group)
     → let a = (began (lined c.before)).args in
     group_at c ≡ group_place (gate_cell a.netlist.now a.gate) (visit_group 0 0 a.value)
 group_stands c =
-    ap₂ (λ (x y : ℕ). x + Size.groups_at + y * Size.group_words) (celled (lined c.before)).cell-place.ensures c.visit-group.ensures
+    ap₂ (λ (x y : ℕ). x + Size.groups_at + y * Size.group_words) (celled (lined c.before)).cell_place-cell.ensures c.visit_group.ensures
 
 -- ---- the least row sum, however the rows are read
 
-module _ (g : tie.After-visit-group) (wired : Bool) (costs : List ℕ) where
-  least-asked : let x = lined g.before in length costs ≡ Size.columns → LeastFits wired 0 (began x).args.library.now (group_at g) x.before.wide.result costs
+module _ (g : tie.After-visit_group) (wired : Bool) (costs : List ℕ) where
+  least-asked : let x = lined g.before in length costs ≡ Size.columns → LeastFits wired 0 (began x).args.library.now (group_at g) x.wide-pins.result costs
   least-asked =
       let x = lined g.before in
       let s = began x in
       let a = s.args in
-      least_fits_lem a.library.now a.netlist.now a.links.now a.numbers.now a.gate a.value s.pre.0 s.pre.1 x.lines_of.result x.before.wide.result (group_at g)
-      x.lines_of.ensures (pins-are x) (group_stands g) wired costs
+      least_fits_lem a.library.now a.netlist.now a.links.now a.numbers.now a.gate a.value s.requires.0 s.requires.1 x.lines_of-lines.result x.wide-pins.result (group_at g)
+      x.lines_of-lines.ensures (pins-are x) (group_stands g) wired costs
 
   least-offer : let x = lined g.before in
       let a = (began x).args in
-      (told g.before).is_Tied.result ≡ wired → Gathered (role_columns 0 x.before.wide.result) 0 x.lines_of.result x.before.wide.result a.numbers.now costs
-      → least costs (group_columns (read_row wired x.lines_of.result x.before.wide.result) a.library.now (group_at g)) ≡ gate_offer a.library.now a.netlist.now a.numbers.now a.gate a.value
+      (told g.before).is_tied-wired.result ≡ wired → Gathered (role_columns 0 x.wide-pins.result) 0 x.lines_of-lines.result x.wide-pins.result a.numbers.now costs
+      → least costs (group_columns (read_row wired x.lines_of-lines.result x.wide-pins.result) a.library.now (group_at g)) ≡ gate_offer a.library.now a.netlist.now a.numbers.now a.gate a.value
   least-offer e =
       let t = told g.before in
       let x = t.before in
       let s = began x in
       let a = s.args in
-      offer_is a.library.now a.netlist.now a.links.now a.numbers.now a.gate a.value s.pre.0 s.pre.1 x.lines_of.result x.before.wide.result (group_at g)
-      x.lines_of.ensures (pins-are x) (group_stands g) wired (sym e ∙ tied_is t) costs
+      offer_is a.library.now a.netlist.now a.links.now a.numbers.now a.gate a.value s.requires.0 s.requires.1 x.lines_of-lines.result x.wide-pins.result (group_at g)
+      x.lines_of-lines.ensures (pins-are x) (group_stands g) wired (sym e ∙ tied_is t) costs
 
-returns : tie.Need-returns
+returns : tie.Need-returns-then-wired
 returns c =
     let l = c.before in
     let t = l.before.before.before in
     let g = t.before in
-    c.spatial-of.ensures ∙ l.least-wired.ensures.comes_to ∙ least-offer g true _ t.if1.true g.before.column-costs.ensures
+    c.spatial_of.ensures ∙ l.least_wired.ensures.comes_to ∙ least-offer g true _ t.if-wired.true g.column_costs.ensures
 
-returns_2 : tie.Need-returns-2
+returns_2 : tie.Need-returns
 unfolding read_row
 returns_2 c =
     let l = c.before in
     let e = l.before.before in
     let g = e.before in
-    c.spatial-of2.ensures ∙ l.least-sum.ensures.comes_to ∙ least-offer g false _ e.if1.false g.before.column-costs.ensures
+    c.spatial_of-2.ensures ∙ l.least_sum.ensures.comes_to ∙ least-offer g false _ e.if-wired.false g.column_costs.ensures
 
-pub offer-of_spec : {M : Type 1} → statement M
-offer-of_spec =
+pub offer_of_spec : {M : Type 1} → statement M
+offer_of_spec =
     tie.close
     (tie.spec
     (λ c κs. let f = gate-fits c.before.before in omega arith)
-    (λ c. search needs)
+    (λ c. search rules)
     (λ c. let f = gate-fits c.before.before.before in omega arith)
     (λ c. let f = gate-fits c.before.before.before.before in omega arith)
-    (λ c κs. search needs)
+    (λ c κs. search rules)
     (λ c κs. (gate-fits c.before.before.before.before.before).room)
-    (λ c κs. search needs)
+    (λ c κs. search rules)
     (λ c κs.
     let x = c.before.before.before.before in
     let s = began x in
     let a = s.args in
-    gather-fits a.library.now a.netlist.now a.links.now a.numbers.now a.gate a.value s.pre.0 s.pre.1 x.lines_of.result x.before.wide.result _
-    x.lines_of.ensures (pins-are x) refl _ refl)
-    (λ c. search needs)
-    (λ c κs. search needs)
+    gather-fits a.library.now a.netlist.now a.links.now a.numbers.now a.gate a.value s.requires.0 s.requires.1 x.lines_of-lines.result x.wide-pins.result _
+    x.lines_of-lines.ensures (pins-are x) refl _ refl)
+    (λ c. search rules)
+    (λ c κs. search rules)
     (λ c. omega (arith, group_few c))
     (λ c. let f = gate-fits (began (lined c.before)) in omega (arith, group_few c))
-    (λ c κs. let g = c.before.before.before in least-asked g true _ g.before.column-costs.ensures.size)
-    (λ c κs. c.least-wired.ensures.of_kind)
+    (λ c κs. let g = c.before.before.before in least-asked g true _ g.column_costs.ensures.size)
+    (λ c κs. c.least_wired.ensures.of_kind)
     returns
-    (λ c κs. let g = c.before.before in (least-asked g false _ g.before.column-costs.ensures.size).sum_fits)
-    (λ c κs. c.least-sum.ensures.of_kind)
+    (λ c κs. let g = c.before.before in (least-asked g false _ g.column_costs.ensures.size).sum_fits)
+    (λ c κs. c.least_sum.ensures.of_kind)
     returns_2)

@@ -12,4 +12,4 @@ refresh_gate_spec =
     (λ c κs. search rules)
     (λ c.
     let s = c.before.before.before.before.before.before in
-    refreshed (output-stands {library = s.args.library.now} (s.requires.0.ready.tables_fit.gates s.args.gate s.requires.0.inside)) c.before.before.refresh-value.ensures c.refresh-value2.ensures))
+    refreshed (output-stands {library = s.args.library.now} (s.requires.0.ready.tables_fit.gates s.args.gate s.requires.0.inside)) c.refresh_value.ensures c.refresh_value-2.ensures))

@@ -1,5 +1,5 @@
 -- `refresh_value` puts the gate's bid at its leaf.
-use Rattle.common_laws.proofs.Base.{◌≡◌, ℕ, ◌<◌, needs}
+use Rattle.common_laws.proofs.Base.{◌≡◌, ℕ, ◌<◌, rules}
 use Rattle.sizes.specs.Sizes as Size
 use Rattle.budget_queue.specs.Queue.{Put}
 use Rattle.budget_run.specs.Steps.{OutputStands}
@@ -7,42 +7,42 @@ use Rattle.budget_run.proofs.Offers.{output-stands, leaf_inside, offer-bound, fi
 use Rattle.budget_run.proofs.refresh_value.Statement.{statement}
 use Rattle.budget_run.proofs.refresh_value.Tie as tie
 
-abbrev began : tie.After-leaf-of → tie.Start
+abbrev began : tie.After-leaf_of-leaf → tie.Start
 began c = c.before.before.before
 
 stands : (s : tie.Start) → OutputStands s.args.netlist.now s.args.gate
 stands s = output-stands {library = s.args.library.now} (s.requires.0.ready.tables_fit.gates s.args.gate s.requires.0.inside)
 
-low : (c : tie.After-leaf-of) → c.leaf-of.result < Size.leaves
-low c = rw c.leaf-of.ensures (leaf_inside (stands (began c)) (began c).requires.1)
+low : (c : tie.After-leaf_of-leaf) → c.leaf_of-leaf.result < Size.leaves
+low c = rw c.leaf_of-leaf.ensures (leaf_inside (stands (began c)) (began c).requires.1)
 
 put_same : {i j c d : ℕ} {q r : _} → i ≡ j → c ≡ d → Put i c q r → Put j d q r
 put_same e f p = rw (← e, ← f) p
 
-returns : tie.Need-returns
+returns : tie.Need-returns-then-numbers-place-lt-NEVER
 returns c =
     let t = c.before.before in
     let k = t.before.before in
-    let l = k.before in
+    let l = k.before.before in
     let s = began l in
     let a = s.args in
-    put_same l.leaf-of.ensures
-    (fixed-bid a.library.now a.netlist.now a.numbers.now a.gate a.value l.leaf-of.result k.leaf-place.result
-    s.pre.0.size (stands s) s.pre.1 l.leaf-of.ensures k.leaf-place.ensures.0 t.if1.true)
+    put_same l.leaf_of-leaf.ensures
+    (fixed-bid a.library.now a.netlist.now a.numbers.now a.gate a.value l.leaf_of-leaf.result k.leaf_place-place.result
+    s.requires.0.size (stands s) s.requires.1 l.leaf_of-leaf.ensures k.leaf_place-place.ensures.0 t.if-numbers-place-lt-NEVER.true)
     c.put.ensures
 
-returns_2 : tie.Need-returns-2
+returns_2 : tie.Need-returns-else-numbers-place-lt-NEVER
 returns_2 c =
     let o = c.before.before in
     let t = o.before in
     let k = t.before.before in
-    let l = k.before in
+    let l = k.before.before in
     let s = began l in
     let a = s.args in
-    put_same l.leaf-of.ensures
-    (open_bid a.library.now a.netlist.now a.numbers.now a.gate a.value l.leaf-of.result k.leaf-place.result
-    s.pre.0.size (stands s) s.pre.1 l.leaf-of.ensures k.leaf-place.ensures.0 t.if1.false o.offer-of.result.0 o.offer-of.ensures)
-    c.put2.ensures
+    put_same l.leaf_of-leaf.ensures
+    (open_bid a.library.now a.netlist.now a.numbers.now a.gate a.value l.leaf_of-leaf.result k.leaf_place-place.result
+    s.requires.0.size (stands s) s.requires.1 l.leaf_of-leaf.ensures k.leaf_place-place.ensures.0 t.if-numbers-place-lt-NEVER.false o.offer_of-offer.result.0 o.offer_of-offer.ensures)
+    c.put-else-numbers-place-lt-NEVER.ensures
 
 pub refresh_value_spec : {M : Type 1} → statement M
 refresh_value_spec =
@@ -50,15 +50,15 @@ refresh_value_spec =
     (tie.spec
     (λ c κs. let s = c.before.before in (stands s, s.requires.1))
     (λ c κs. low c)
-    (λ c. search needs)
-    (λ c. search needs)
-    (λ c κs. search needs)
-    (λ c κs. search needs)
+    (λ c. search rules)
+    (λ c. search rules)
+    (λ c κs. search rules)
+    (λ c κs. search rules)
     (λ c κs.
     let o = c.before in
-    let l = o.before.before.before.before in
+    let l = o.before.before.before.before.before in
     let s = began l in
     let a = s.args in
-    record { queue = s.pre.2; inside = low l; bounded = rw o.offer-of.ensures (offer-bound a.library.now a.netlist.now a.numbers.now a.gate a.value) })
+    record { queue = s.requires.2; inside = low l; bounded = rw o.offer_of-offer.ensures (offer-bound a.library.now a.netlist.now a.numbers.now a.gate a.value) })
     returns
     returns_2)

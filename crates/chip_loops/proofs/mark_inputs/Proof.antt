@@ -8,47 +8,38 @@ use Rattle.chip_loops.proofs.Steps.{input-size, mark-next, where-end}
 use Rattle.chip_loops.proofs.mark_inputs.Statement.{statement}
 use Rattle.chip_loops.proofs.mark_inputs.Tie as tie
 
-abbrev invariant_loop : tie.invariant-loop
+abbrev invariant_loop : tie.invariant-loop-l
 invariant_loop netlist marks₀ l₀ marks l =
     (l ≤ Size.line_places)
     × (length marks ≡ length marks₀)
     × (mark_each marks (lines_where (input_at netlist) (Size.line_places - l) l) ≡ mark_each marks₀ (inputs_held netlist))
 
-abbrev decreases_loop : tie.decreases-loop
+abbrev decreases_loop : tie.decreases-loop-l
 decreases_loop netlist marks₀ l₀ marks l = Size.line_places - l
 
-loop-holds : tie.Need-loop-init invariant_loop decreases_loop
+loop-holds : tie.Need-loop-l-init invariant_loop decreases_loop
 unfolding inputs_held
 loop-holds c = (omega arith, refl, refl)
 
-loop_again : tie.Need-loop-preserved invariant_loop decreases_loop
+loop_again : tie.Need-loop-l-preserved invariant_loop decreases_loop
 loop_again c =
     let last = c.before.before in
     let l = last.before.before.before in
-    let is_input = input_at l.before.before.before.args.netlist.now in
-    let marked = last.mark-input.ensures in (
+    let is_input = input_at l.args.netlist.now in
+    let marked = last.mark_input.ensures in (
       omega arith,
-      input-size l.loop.marks (is_input l.loop.l) l.loop.l marked ∙ l.loop.invariant.1,
-      mark-next l.loop.marks is_input Size.line_places l.loop.l (omega arith) marked ∙ l.loop.invariant.2,
+      input-size l.loop-l.marks (is_input l.loop-l.l) l.loop-l.l marked ∙ l.loop-l.invariant.1,
+      mark-next l.loop-l.marks is_input Size.line_places l.loop-l.l (omega arith) marked ∙ l.loop-l.invariant.2,
     )
 
 returns : tie.Need-returns invariant_loop decreases_loop
 unfolding mark_each
 returns c =
-    let l = c.before.loop in
-    let a = c.before.before.before.before.args in
+    let l = c.loop-l in
+    let a = c.args in
     sym (ap (mark_each l.marks) (where-end (input_at a.netlist.now) Size.line_places l.l (omega arith))) ∙ l.invariant.2
 
-pub mark-inputs_spec : {M : Type 1} → statement M
-mark-inputs_spec =
+pub mark_inputs_spec : {M : Type 1} → statement M
+mark_inputs_spec =
     tie.close
-    (tie.spec
-    invariant_loop
-    decreases_loop
-    loop-holds
-    (λ c κs. omega arith)
-    (λ c. omega arith)
-    (λ c. omega arith)
-    loop_again
-    (λ c. c.before.loop.invariant.1)
-    returns)
+    (tie.spec invariant_loop decreases_loop loop-holds (λ c κs. omega arith) (λ c. omega arith) (λ c. omega arith) loop_again (λ c. c.loop-l.invariant.1) returns)

@@ -8,55 +8,44 @@ use Rattle.chip_loops.proofs.Steps.{mentions-next, where-end}
 use Rattle.chip_loops.proofs.mentions_marked.Statement.{statement}
 use Rattle.chip_loops.proofs.mentions_marked.Tie as tie
 
-abbrev invariant_loop : tie.invariant-loop
+abbrev invariant_loop : tie.invariant-loop-l
 invariant_loop netlist marks l₀ l =
     (l ≤ Size.line_places)
     × (all_marked marks (mentions_held netlist) ≡ all_marked marks (lines_where (mention_at netlist) (Size.line_places - l) l))
 
-abbrev decreases_loop : tie.decreases-loop
+abbrev decreases_loop : tie.decreases-loop-l
 decreases_loop netlist marks l₀ l = Size.line_places - l
 
-loop-holds : tie.Need-loop-init invariant_loop decreases_loop
+loop-holds : tie.Need-loop-l-init invariant_loop decreases_loop
 unfolding mentions_held
 loop-holds c = (omega arith, refl)
 
-returns : tie.Need-returns invariant_loop decreases_loop
+returns : tie.Need-returns-then-not-levelled invariant_loop decreases_loop
 returns c =
     let l = c.before.before.before.before in
-    let a = l.before.before.before.args in
-    let said = ap not c.before.before.mentioned.ensures in
-    let next = mentions-next a.marks.now (mention_at a.netlist.now) Size.line_places l.loop.l (omega arith) said in
-    sym (l.loop.invariant.1 ∙ (next c.before.is-marked.ensures).stops c.if1.true)
+    let a = l.args in
+    let said = ap not c.mentioned.ensures in
+    let next = mentions-next a.marks.now (mention_at a.netlist.now) Size.line_places l.loop-l.l (omega arith) said in
+    sym (l.loop-l.invariant.1 ∙ (next c.is_marked.ensures).stops (ap not c.if-not-levelled.true))
 
-loop_again : tie.Need-loop-preserved invariant_loop decreases_loop
+loop_again : tie.Need-loop-l-preserved invariant_loop decreases_loop
 loop_again c =
     let l = c.before.before.before.before in
-    let a = l.before.before.before.args in
-    let said = ap not c.before.before.mentioned.ensures in (
+    let a = l.args in
+    let said = ap not c.mentioned.ensures in (
       omega arith,
-      let next = mentions-next a.marks.now (mention_at a.netlist.now) Size.line_places l.loop.l (omega arith) said in
-          l.loop.invariant.1 ∙ (next c.before.is-marked.ensures).goes c.if1.false,
+      let next = mentions-next a.marks.now (mention_at a.netlist.now) Size.line_places l.loop-l.l (omega arith) said in
+          l.loop-l.invariant.1 ∙ (next c.is_marked.ensures).goes (ap not c.if-not-levelled.false),
     )
 
-returns_2 : tie.Need-returns-2 invariant_loop decreases_loop
+returns_2 : tie.Need-returns invariant_loop decreases_loop
 unfolding all_marked
 returns_2 c =
-    let l = c.before.loop in
-    let a = c.before.before.before.before.args in
+    let l = c.loop-l in
+    let a = c.args in
     sym (l.invariant.1 ∙ ap (all_marked a.marks.now) (where-end (mention_at a.netlist.now) Size.line_places l.l (omega arith)))
 
-pub mentions-marked_spec : {M : Type 1} → statement M
-mentions-marked_spec =
+pub mentions_marked_spec : {M : Type 1} → statement M
+mentions_marked_spec =
     tie.close
-    (tie.spec
-    invariant_loop
-    decreases_loop
-    loop-holds
-    (λ c. omega arith)
-    (λ c κs. tt)
-    (λ c κs. tt)
-    returns
-    (λ c. omega arith)
-    (λ c. omega arith)
-    loop_again
-    returns_2)
+    (tie.spec invariant_loop decreases_loop loop-holds (λ c. omega arith) (λ c κs. tt) (λ c κs. tt) returns (λ c. omega arith) (λ c. omega arith) loop_again returns_2)

@@ -2,5 +2,5 @@
 use Rattle.chip_loops.proofs.pins_marked.Statement.{statement}
 use Rattle.chip_loops.proofs.pins_marked.Tie as tie
 
-pub pins-marked_spec : {M : Type 1} → statement M
-pins-marked_spec = tie.close (tie.spec (λ c κs. c.before.before.requires) (λ c. c.unlevelled-pin.ensures))
+pub pins_marked_spec : {M : Type 1} → statement M
+pins_marked_spec = tie.close (tie.spec (λ c κs. c.requires) (λ c. c.unlevelled_pin.ensures))

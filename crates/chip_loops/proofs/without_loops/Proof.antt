@@ -9,20 +9,11 @@ returns c =
     let s = c.before.before.before in
     let h = s.before.before.before in
     let m = h.before.before.before in
-    let a = m.before.before.before.args in
-    all-levelled a.netlist.now m.mark-inputs.ensures h.level-ahead.ensures s.level-lines.ensures
-    c.mentions-marked.ensures
+    let a = m.args in
+    all-levelled a.netlist.now m.mark_inputs.ensures h.level_ahead.ensures s.level_lines.ensures
+    c.mentions_marked.ensures
 
 pub without_loops_spec : {M : Type 1} → statement M
 without_loops_spec =
     tie.close
-    (tie.spec
-    (λ c. search rules)
-    (λ c κs. tt)
-    (λ c. search rules)
-    (λ c κs. tt)
-    (λ c. search rules)
-    (λ c κs. tt)
-    (λ c. search rules)
-    (λ c κs. tt)
-    returns)
+    (tie.spec (λ c. search rules) (λ c κs. tt) (λ c. search rules) (λ c κs. tt) (λ c. search rules) (λ c κs. tt) (λ c. search rules) (λ c κs. tt) returns)

@@ -4,11 +4,11 @@ use Rattle.cost.specs.Cost.{counted}
 use Rattle.cost.proofs.count.Statement.{statement}
 use Rattle.cost.proofs.count.Tie as tie
 
-returns : tie.Need-returns
+returns : tie.Need-returns-then-a-lt-NEVER
 unfolding counted
 returns c = omega arith
 
-returns_2 : tie.Need-returns-2
+returns_2 : tie.Need-returns-else-a-lt-NEVER
 unfolding counted
 returns_2 c = omega arith
 

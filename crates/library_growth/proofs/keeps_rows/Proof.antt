@@ -1,5 +1,5 @@
 -- `keeps_rows` has found the rows passed, each behind the one before it.
-use Rattle.common_laws.proofs.Base.{List, ⊎_elim, ◌≡◌, refl, sym, ap, ◌∙◌, ℕ, ◌+◌, ◌*◌, ◌-◌, ◌≤◌, ◌<◌, arith, needs}
+use Rattle.common_laws.proofs.Base.{List, ⊎_elim, ◌≡◌, refl, sym, ap, ◌∙◌, ℕ, ◌+◌, ◌*◌, ◌-◌, ◌≤◌, ◌<◌, arith, rules}
 use Rattle.sizes.specs.Sizes as Size
 use Rattle.library_table.specs.Cells.{Row}
 use Rattle.calculation.specs.Growth.{keeps}
@@ -11,70 +11,50 @@ use Rattle.library_growth.proofs.keeps_rows.Tie as tie
 abbrev rows_at : List ℕ → ℕ → ℕ → Row
 rows_at table at r = row_at table (at + 1 + Size.row_words * r)
 
-abbrev invariant_loop : tie.invariant-loop
+abbrev invariant_loop : tie.invariant-loop-found
 invariant_loop old new at rows others found₀ other₀ found other =
     (found ≤ rows)
     × (other ≤ others)
     × (keeps (group_at old at) (group_at new at) ≡ kept_from (rows_at old at) (rows_at new at) found rows other others)
 
-abbrev decreases_loop : tie.decreases-loop
+abbrev decreases_loop : tie.decreases-loop-found
 decreases_loop old new at rows others found₀ other₀ found other = others - other
 
-loop-holds : tie.Need-loop-init invariant_loop decreases_loop
+loop-holds : tie.Need-loop-found-init invariant_loop decreases_loop
 unfolding group_at
-loop-holds c = (omega arith, omega arith, rw (← c.before.word.ensures, ← c.word2.ensures) (kept-all _ _ c.before.word.result c.word2.result))
+loop-holds c = (omega arith, omega arith, rw (← c.word-rows.ensures, ← c.word-others.ensures) (kept-all _ _ c.word-rows.result c.word-others.result))
 
-returns : tie.Need-returns invariant_loop decreases_loop
+returns : tie.Need-returns-then-others-other invariant_loop decreases_loop
 returns c =
-    let l = c.before.before.loop in
-    sym (l.invariant.2 ∙ kept_lost _ _ l.found _ l.other _ (omega arith) c.if1.true)
+    let l = c.loop-found in
+    sym (l.invariant.2 ∙ kept_lost _ _ l.found _ l.other _ (omega arith) c.if-others-other.true)
 
-loop_again : tie.Need-loop-preserved invariant_loop decreases_loop
+loop_again : tie.Need-loop-found-preserved invariant_loop decreases_loop
 loop_again c =
     let e = c.before.before in
-    let l = e.before.before.loop in
-    let same = c.before.same_row.ensures in
+    let l = e.loop-found in
+    let same = c.same_row.ensures in
     ⊎_elim
     (λ w. (
-      omega (arith, w.1),
+      omega (arith, w.found-is),
       omega arith,
       l.invariant.2
-          ∙ kept-found _ _ l.found _ l.other _ (omega arith) e.if1.false (sym same ∙ w.0.taken)
-          ∙ rw w.1,
+          ∙ kept-found _ _ l.found _ l.other _ (omega arith) e.if-others-other.false (sym same ∙ w.if-same_row.true)
+          ∙ rw w.found-is,
     ))
     (λ w. (
-      omega (arith, w.1),
+      omega (arith, w.found-is),
       omega arith,
       l.invariant.2
-          ∙ kept-other _ _ l.found _ l.other _ (omega arith) e.if1.false (sym same ∙ w.0.left)
-          ∙ rw w.1,
+          ∙ kept-other _ _ l.found _ l.other _ (omega arith) e.if-others-other.false (sym same ∙ w.if-same_row.false)
+          ∙ rw w.found-is,
     ))
-    c.if2.branch
+    c.if-same_row.branch-raw
 
-returns_2 : tie.Need-returns-2 invariant_loop decreases_loop
-returns_2 c = let l = c.before.loop in sym (l.invariant.2 ∙ kept-none _ _ l.found _ l.other _ (omega arith))
+returns_2 : tie.Need-returns invariant_loop decreases_loop
+returns_2 c = let l = c.loop-found in sym (l.invariant.2 ∙ kept-none _ _ l.found _ l.other _ (omega arith))
 
-pub keeps-rows_spec : {M : Type 1} → statement M
-keeps-rows_spec =
+pub keeps_rows_spec : {M : Type 1} → statement M
+keeps_rows_spec =
     tie.close
-    (tie.spec
-    invariant_loop
-    decreases_loop
-    (λ c κs. search needs)
-    (λ c. search needs)
-    (λ c κs. search needs)
-    (λ c. search needs)
-    loop-holds
-    returns
-    (λ c. omega arith)
-    (λ c. omega arith)
-    (λ c. omega arith)
-    (λ c. omega arith)
-    (λ c. omega arith)
-    (λ c. omega arith)
-    (λ c κs. omega arith)
-    (λ c. omega arith)
-    (λ c. omega arith)
-    (λ c. omega arith)
-    loop_again
-    returns_2)
+    (tie.spec invariant_loop decreases_loop (λ c κs. search rules) (λ c. search rules) (λ c κs. search rules) (λ c. search rules) loop-holds returns (λ c. omega arith) (λ c. omega arith) (λ c. omega arith) (λ c. omega arith) (λ c. omega arith) (λ c. omega arith) (λ c κs. omega arith) (λ c. omega arith) (λ c. omega arith) (λ c. omega arith) loop_again returns_2)

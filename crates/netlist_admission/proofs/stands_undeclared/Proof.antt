@@ -1,5 +1,5 @@
 -- `stands_undeclared` looks at the two words of a line.
-use Rattle.common_laws.proofs.Base.{Bool, ◌&&◌, not, List, ◌≡◌, ℕ, eqb, get_or, needs}
+use Rattle.common_laws.proofs.Base.{Bool, ◌&&◌, not, List, ◌≡◌, ℕ, eqb, get_or, rules}
 use Rattle.sizes.specs.Places.{driver_place, mention_place}
 use Rattle.netlist_table.specs.Admission.{words_undeclared}
 use Rattle.netlist_admission.proofs.stands_undeclared.Statement.{statement}
@@ -11,8 +11,8 @@ by_words table l m d em ed = rw (em, ed)
 
 returns : tie.Need-returns
 returns c =
-    let a = c.before.before.before.args in
-    by_words a.table.now a.l c.mention-of.result c.before.driver-of.result c.mention-of.ensures c.before.driver-of.ensures
+    let a = c.args in
+    by_words a.table.now a.l c.mention_of.result c.driver_of-unclaimed.result c.mention_of.ensures c.driver_of-unclaimed.ensures
 
-pub stands-undeclared_spec : {M : Type 1} → statement M
-stands-undeclared_spec = tie.close (tie.spec (λ c κs. search needs) (λ c κs. search needs) returns)
+pub stands_undeclared_spec : {M : Type 1} → statement M
+stands_undeclared_spec = tie.close (tie.spec (λ c κs. search rules) (λ c κs. search rules) returns)

@@ -4,12 +4,12 @@ use borrow.Author.Rules.{rules}
 use Rattle.netlist_open.proofs.put_declared.Statement.{statement}
 use Rattle.netlist_open.proofs.put_declared.Tie as tie
 
-abbrev copied : tie.After-put-opens → tie.After-put-bytes
+abbrev copied : tie.After-put_opens → tie.After-put_bytes-at
 copied c = c.before.before.before.before
 
 returns : tie.Need-returns
-returns c = let end = c.before.before in put_then (copied end).put-bytes.ensures end.put-opens.ensures
+returns c = let end = c.before.before in put_then (copied end).put_bytes-at.ensures end.put_opens.ensures
 
-pub put-declared_spec : {M : Type 1} → statement M
-put-declared_spec =
+pub put_declared_spec : {M : Type 1} → statement M
+put_declared_spec =
     tie.close (tie.spec (λ c κs. search rules) (λ c κs. search rules) (λ c. search rules) returns)

@@ -6,10 +6,10 @@ use borrow.Author.Rules.{rules}
 use Rattle.netlist_open.proofs.put_open.Statement.{statement}
 use Rattle.netlist_open.proofs.put_open.Tie as tie
 
-abbrev worded : tie.After-put-decimal → tie.After-put-bytes
+abbrev worded : tie.After-put_decimal-end → tie.After-put_bytes-word
 worded c = c.before.before.before.before
 
-abbrev numbered : tie.After-put-byte → tie.After-put-decimal
+abbrev numbered : tie.After-put_byte → tie.After-put_decimal-end
 numbered c = c.before.before.before.before
 
 returns : tie.Need-returns
@@ -17,15 +17,9 @@ unfolding open_line bytes
 returns c =
     let end = c.before.before in
     let number = numbered end in
-    put_then (worded number).put-bytes.ensures (put_then number.put-decimal.ensures end.put_byte.ensures)
+    put_then (worded number).put_bytes-word.ensures (put_then number.put_decimal-end.ensures end.put_byte.ensures)
 
 pub put_open_spec : {M : Type 1} → statement M
 put_open_spec =
     tie.close
-    (tie.spec
-    (λ c. search rules)
-    (λ c κs. search rules)
-    (λ c κs. search rules)
-    (λ c κs. search rules)
-    (λ c. search rules)
-    returns)
+    (tie.spec (λ c κs. search rules) (λ c κs. search rules) (λ c κs. search rules) (λ c. search rules) returns)

@@ -6,12 +6,12 @@ use Rattle.netlist_table.proofs.Causes.{line_bad-low, line_bad-high, line_bad-go
 use Rattle.netlist_table.proofs.line_bad.Statement.{statement}
 use Rattle.netlist_table.proofs.line_bad.Tie as tie
 
-returns_2 : tie.Need-returns-2
+returns_2 : tie.Need-returns
 returns_2 c =
-    let l = c.before.args.l in
+    let l = c.args.l in
     by_test (ltb Size.lines l)
-    (λ e. e ∙ sym (line_bad-high l c.if1.false (ltb-true Size.lines l e)))
-    (λ e. e ∙ sym (line_bad-good l c.if1.false (ltb-false Size.lines l e)))
+    (λ e. e ∙ sym (line_bad-high l c.if-l-lt1.false (ltb-true Size.lines l e)))
+    (λ e. e ∙ sym (line_bad-good l c.if-l-lt1.false (ltb-false Size.lines l e)))
 
-pub line-bad_spec : {M : Type 1} → statement M
-line-bad_spec = tie.close (tie.spec (λ c. sym (line_bad-low _ c.if1.true)) returns_2)
+pub line_bad_spec : {M : Type 1} → statement M
+line_bad_spec = tie.close (tie.spec (λ c. sym (line_bad-low _ c.if-l-lt1.true)) returns_2)

@@ -6,7 +6,7 @@ use Rattle.netlist_text.proofs.read_line.Tie as tie
 returns : tie.Need-returns
 returns c cells lib ss so h =
     let admitted = c.before.before in
-    admitted.admit.ensures cells _ lib (admitted.before.before.statement-of.ensures cells lib) ss so h
+    admitted.admit.ensures cells _ lib (admitted.statement_of-s.ensures cells lib) ss so h
 
-pub read-line_spec : {M : Type 1} → statement M
-read-line_spec = tie.close (tie.spec (λ c κs. search rules) (λ c κs. search rules) (λ c. search rules) returns)
+pub read_line_spec : {M : Type 1} → statement M
+read_line_spec = tie.close (tie.spec (λ c κs. search rules) (λ c κs. search rules) (λ c. search rules) returns)

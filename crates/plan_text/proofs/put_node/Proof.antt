@@ -16,26 +16,14 @@ returns c =
     let line = second.before.before.before.before in
     let first = line.before.before.before.before in
     let depth = first.before.before.before.before in
-    put_then depth.put-decimal.ensures
-    (put_then first.put_byte.ensures
-    (put_then line.put-decimal2.ensures
-    (put_then second.put-byte2.ensures
-    (put_then value.put-decimal3.ensures
-    (put_then third.put-byte3.ensures (put_then row.put-row.ensures end.put-byte4.ensures))))))
+    put_then depth.put_decimal-depth_end.ensures
+    (put_then first.put_byte-line.ensures
+    (put_then line.put_decimal-line_end.ensures
+    (put_then second.put_byte-value.ensures
+    (put_then value.put_decimal-value_end.ensures
+    (put_then third.put_byte-row_at.ensures (put_then row.put_row-row_end.ensures end.put_byte.ensures))))))
 
-pub put-node_spec : {M : Type 1} → statement M
-put-node_spec =
+pub put_node_spec : {M : Type 1} → statement M
+put_node_spec =
     tie.close
-    (tie.spec
-    (λ c κs. search rules)
-    (λ c κs. search rules)
-    (λ c. search rules)
-    (λ c κs. search rules)
-    (λ c κs. search rules)
-    (λ c. search rules)
-    (λ c κs. search rules)
-    (λ c κs. search rules)
-    (λ c κs. search rules)
-    (λ c κs. search rules)
-    (λ c. search rules)
-    returns)
+    (tie.spec (λ c κs. search rules) (λ c κs. search rules) (λ c. search rules) (λ c κs. search rules) (λ c κs. search rules) (λ c. search rules) (λ c κs. search rules) (λ c κs. search rules) (λ c κs. search rules) (λ c κs. search rules) (λ c. search rules) returns)

@@ -5,7 +5,7 @@ use Rattle.report_text.proofs.put_count.Statement.{statement}
 use Rattle.report_text.proofs.put_count.Tie as tie
 
 returns : tie.Need-returns
-returns c = put_then c.before.before.before.before.before.before.put-decimal.ensures c.before.before.put_byte.ensures
+returns c = put_then c.put_decimal-end.ensures c.put_byte.ensures
 
-pub put-count_spec : {M : Type 1} → statement M
-put-count_spec = tie.close (tie.spec (λ c κs. search rules) (λ c κs. search rules) (λ c. search rules) returns)
+pub put_count_spec : {M : Type 1} → statement M
+put_count_spec = tie.close (tie.spec (λ c κs. search rules) (λ c κs. search rules) (λ c. search rules) returns)

@@ -7,7 +7,7 @@ use Rattle.report_text.proofs.put_high.Tie as tie
 
 returns : tie.Need-returns
 unfolding high_line bytes
-returns c = c.before.before.put-bytes.ensures
+returns c = c.put_bytes.ensures
 
-pub put-high_spec : {M : Type 1} → statement M
-put-high_spec = tie.close (tie.spec (λ c. search rules) (λ c κs. search rules) (λ c. search rules) returns)
+pub put_high_spec : {M : Type 1} → statement M
+put_high_spec = tie.close (tie.spec (λ c κs. search rules) (λ c. search rules) returns)

@@ -6,10 +6,10 @@ use borrow.Author.Rules.{rules}
 use Rattle.report_text.proofs.put_report.Statement.{statement}
 use Rattle.report_text.proofs.put_report.Tie as tie
 
-abbrev headed : tie.After-put-lines → tie.After-put-bytes
+abbrev headed : tie.After-put_lines-counts → tie.After-put_bytes-lines
 headed c = c.before.before.before.before
 
-abbrev lined : tie.After-put-sweeps → tie.After-put-lines
+abbrev lined : tie.After-put_sweeps → tie.After-put_lines-counts
 lined c = c.before.before.before.before
 
 returns : tie.Need-returns
@@ -17,15 +17,9 @@ unfolding report_bytes header bytes
 returns c =
     let sweeps = c.before.before in
     let lines = lined sweeps in
-    put_then (headed lines).put-bytes.ensures (put_then lines.put-lines.ensures sweeps.put-sweeps.ensures)
+    put_then (headed lines).put_bytes-lines.ensures (put_then lines.put_lines-counts.ensures sweeps.put_sweeps.ensures)
 
-pub put-report_spec : {M : Type 1} → statement M
-put-report_spec =
+pub put_report_spec : {M : Type 1} → statement M
+put_report_spec =
     tie.close
-    (tie.spec
-    (λ c. search rules)
-    (λ c κs. search rules)
-    (λ c κs. search rules)
-    (λ c κs. search rules)
-    (λ c. search rules)
-    returns)
+    (tie.spec (λ c κs. search rules) (λ c κs. search rules) (λ c κs. search rules) (λ c. search rules) returns)

@@ -5,14 +5,14 @@ use Rattle.scoap_c.proofs.scoap_advise.Statement.{statement}
 use Rattle.scoap_c.proofs.scoap_advise.Tie as tie
 
 -- The place of the code that the answers speak of.
-abbrev calls : tie.After-slice-known2 → tie.After-advise
+abbrev calls : tie.After-slice_known-2-1 → tie.After-advise-advised
 calls c = c.before.before
 
-advised_code_requires : tie.Need-advised-code-requires
-advised_code_requires c κs = advice-line _ _ _ _ _ _ (calls c).advise.ensures
+advised_code_requires : tie.Need-advised_code-requires
+advised_code_requires c κs = advice-line _ _ _ _ _ _ (calls c).advise-advised.ensures
 
 returns : tie.Need-returns
-returns c = advice-coded _ _ _ _ _ _ (calls c.before).advise.ensures _ c.advised-code.ensures
+returns c = advice-coded _ _ _ _ _ _ (calls c.before).advise-advised.ensures _ c.advised_code.ensures
 
 pub scoap_advise_spec : {M : Type 1} → statement M
 scoap_advise_spec = tie.close (tie.spec (λ c κs. search rules) advised_code_requires (λ c. search rules) returns)

@@ -5,10 +5,10 @@ use Rattle.scoap_c.proofs.scoap_built_in.Statement.{statement}
 use Rattle.scoap_c.proofs.scoap_built_in.Tie as tie
 
 code_requires : tie.Need-code-requires
-code_requires c κs = built-in-line _ _ _ c.before.before.put-built-in.ensures.0
+code_requires c κs = built-in-line _ _ _ c.put_built_in-written.ensures.0
 
 returns : tie.Need-returns
-returns c = built-in-coded _ _ _ c.before.before.before.put-built-in.ensures.0 _ c.code.ensures
+returns c = built-in-coded _ _ _ c.put_built_in-written.ensures.0 _ c.code.ensures
 
 pub scoap_built_in_spec : {M : Type 1} → statement M
 scoap_built_in_spec = tie.close (tie.spec (λ c κs. search rules) code_requires (λ c. search rules) returns)

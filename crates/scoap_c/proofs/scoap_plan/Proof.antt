@@ -1,5 +1,5 @@
 -- `scoap_plan` tells the answer of `write_plan` by one number.
-use Rattle.common_laws.proofs.Base.{refl, now, needs}
+use Rattle.common_laws.proofs.Base.{refl, rules}
 use Rattle.demands.specs.Own.{own_tables}
 use Rattle.answer_codes.proofs.Plan.{plan-line, plan-coded}
 use Rattle.scoap_c.proofs.scoap_plan.Statement.{statement}
@@ -7,13 +7,13 @@ use Rattle.scoap_c.proofs.scoap_plan.Tie as tie
 
 -- ---- the places of the code that the answers speak of
 
-abbrev begins : tie.After-write-plan-into → tie.Start
+abbrev begins : tie.After-write_plan_into-written → tie.Start
 begins c = c.before.before.before.before.before.before.before.before
 
-abbrev planned : tie.After-limit-plan → tie.After-write-plan-into
+abbrev planned : tie.After-limit_plan-told → tie.After-write_plan_into-written
 planned c = c.before.before.before.before.before.before.before
 
-abbrev limited : tie.After-slice-known3 → tie.After-limit-plan
+abbrev limited : tie.After-slice_known-3-1 → tie.After-limit_plan-told
 limited c = c.before.before
 
 code_requires : tie.Need-code-requires
@@ -22,8 +22,8 @@ code_requires c κs =
     let m = limited c in
     let k = planned m in
     let a = (begins k).args in
-    plan-line (now a.lib) (now a.net) (now a.text) _ a.line a.value a.kind k.write-plan-into.result k.write-plan-into.ensures
-    k.write-plan-into.kept.1.1.1.1.1.0 _ m.limit-plan.result m.limit-plan.ensures
+    plan-line a.lib.now a.net.now a.text.now _ a.line a.value a.kind k.write_plan_into-written.result k.write_plan_into-written.ensures
+    k.write_plan_into-written.auto.text _ m.limit_plan-told.result m.limit_plan-told.ensures
 
 returns : tie.Need-returns
 unfolding own_tables
@@ -31,18 +31,10 @@ returns c =
     let m = limited c.before in
     let k = planned m in
     let a = (begins k).args in
-    plan-coded (now a.lib) (now a.net) (now a.text) _ a.line a.value a.kind k.write-plan-into.result k.write-plan-into.ensures
-    k.write-plan-into.kept.1.1.1.1.1.0 _ m.limit-plan.result m.limit-plan.ensures c.code.result c.code.ensures
+    plan-coded a.lib.now a.net.now a.text.now _ a.line a.value a.kind k.write_plan_into-written.result k.write_plan_into-written.ensures
+    k.write_plan_into-written.auto.text _ m.limit_plan-told.result m.limit_plan-told.ensures c.code.result c.code.ensures
 
 pub scoap_plan_spec : {M : Type 1} → statement M
 scoap_plan_spec =
     tie.close
-    (tie.spec
-    (λ c. search needs)
-    (λ c. search needs)
-    (λ c. search needs)
-    (λ c κs. (refl, refl))
-    (λ c κs. search needs)
-    code_requires
-    (λ c. search needs)
-    returns)
+    (tie.spec (λ c. search rules) (λ c. search rules) (λ c. search rules) (λ c κs. (refl, refl)) (λ c κs. search rules) code_requires (λ c. search rules) returns)

@@ -1,5 +1,5 @@
 -- `lesser_wired` leaves out a row that is no way, and takes any other at the columns that are left of it.
-use Rattle.common_laws.proofs.Base.{refl, sym, ◌∙◌, ◌*◌, ◌≤◌, arith, needs, pow_mono}
+use Rattle.common_laws.proofs.Base.{refl, sym, ◌∙◌, ◌*◌, ◌≤◌, arith, rules, pow_mono}
 use Rattle.sizes.specs.Sizes as Size
 use Rattle.reading.specs.Choice.{pick}
 use Rattle.sweep_wires.proofs.RowBits.{once-few}
@@ -8,11 +8,11 @@ use Rattle.sweep_groups.specs.Sums.{lesser_row}
 use Rattle.sweep_groups.proofs.lesser_wired.Statement.{statement}
 use Rattle.sweep_groups.proofs.lesser_wired.Tie as tie
 
-returns : tie.Need-returns
+returns : tie.Need-returns-then-needs_both
 unfolding read_row pick lesser_row
-returns c = record { of_kind = refl; comes_to = rw (sym c.before.needs-both.ensures ∙ c.if1.true) }
+returns c = record { of_kind = refl; comes_to = rw (sym c.needs_both.ensures ∙ c.if-needs_both.true) }
 
-lesser_row_requires : tie.Need-lesser-row-requires
+lesser_row_requires : tie.Need-lesser_row-requires
 lesser_row_requires c κs =
     let s = c.before.before.before in
     let a = s.args in
@@ -22,10 +22,10 @@ lesser_row_requires c κs =
       few = rw c.once.ensures (once-few a.lines.now a.pins a.columns Size.columns (omega arith) (omega (arith, s.requires.0.within, pow_mono n)));
     }
 
-returns_2 : tie.Need-returns-2
+returns_2 : tie.Need-returns
 unfolding read_row pick lesser_row
 returns_2 c =
-    rw (sym c.before.before.before.needs-both.ensures ∙ c.before.before.if1.false) (rw c.before.once.ensures at c.lesser-row.ensures)
+    rw (sym c.needs_both.ensures ∙ c.if-needs_both.false) (rw c.once.ensures at c.lesser_row.ensures)
 
-pub lesser-wired_spec : {M : Type 1} → statement M
-lesser-wired_spec = tie.close (tie.spec (λ c κs. search needs) returns (λ c κs. search needs) lesser_row_requires returns_2)
+pub lesser_wired_spec : {M : Type 1} → statement M
+lesser_wired_spec = tie.close (tie.spec (λ c κs. search rules) returns (λ c κs. search rules) lesser_row_requires returns_2)

@@ -6,25 +6,20 @@ use Rattle.sweep_groups.proofs.Rows.{row_told}
 use Rattle.sweep_groups.proofs.read_sum.Statement.{statement}
 use Rattle.sweep_groups.proofs.read_sum.Tie as tie
 
-returns : tie.Need-returns
+returns : tie.Need-returns-then-wired
 returns c =
-    let a = c.before.before.before.args in
-    row_told a.costs.now a.depth (read_row a.wired a.lines.now a.pins a.columns) c.before.before.no-sum.ensures
-    (rw c.before.if1.true c.lesser-wired.ensures)
+    let a = c.args in
+    row_told a.costs.now a.depth (read_row a.wired a.lines.now a.pins a.columns) c.no_sum-none.ensures
+    (rw c.if-wired.true c.lesser_wired.ensures)
 
-returns_2 : tie.Need-returns-2
+returns_2 : tie.Need-returns
 unfolding read_row lesser_row
 returns_2 c =
-    let a = c.before.before.before.args in
-    row_told a.costs.now a.depth (read_row a.wired a.lines.now a.pins a.columns) c.before.before.no-sum.ensures
-    (rw c.before.if1.false c.lesser-row.ensures)
+    let a = c.args in
+    row_told a.costs.now a.depth (read_row a.wired a.lines.now a.pins a.columns) c.no_sum-none.ensures
+    (rw c.if-wired.false c.lesser_row.ensures)
 
-pub read-sum_spec : {M : Type 1} → statement M
-read-sum_spec =
+pub read_sum_spec : {M : Type 1} → statement M
+read_sum_spec =
     tie.close
-    (tie.spec
-    (λ c κs. search rules)
-    (λ c κs. let p = c.before.before.requires in (record { few = p.1.few; within = p.1.within c.if1.true }, p.2.size))
-    returns
-    (λ c κs. c.before.before.requires.2)
-    returns_2)
+    (tie.spec (λ c κs. search rules) (λ c κs. let p = c.requires in (record { few = p.1.few; within = p.1.within c.if-wired.true }, p.2.size)) returns (λ c κs. c.requires.2) returns_2)

@@ -13,17 +13,17 @@ began c = c.before.before.before.before.before
 abbrev linked : tie.After-start → tie.After-link
 linked c = c.before.before
 
-abbrev started : tie.After-keep-numbers → tie.After-start
+abbrev started : tie.After-keep_numbers → tie.After-start
 started c = c.before.before
 
-abbrev kept : tie.After-observe-lines → tie.After-keep-numbers
+abbrev kept : tie.After-observe_lines → tie.After-keep_numbers
 kept c = c.before.before.before
 
-pub observe-anew_spec : {M : Type 1} → statement M
-observe-anew_spec =
+pub observe_anew_spec : {M : Type 1} → statement M
+observe_anew_spec =
     tie.close
     (tie.spec
-    (λ c κs. link_fits c.before.before.before.before.requires.0.holds refl)
+    (λ c κs. link_fits c.requires.0.holds refl)
     (λ c κs. let p = (began c.before).requires in (room p.0.holds, p.1))
     (λ c κs.
     let s = c.before in
@@ -34,10 +34,10 @@ observe-anew_spec =
     let s = started k in
     let p = (began (linked s)).requires in
     half-fits p.0.holds (linked s).link.ensures
-    (anew-size p.0.holds p.0.room s.start.ensures k.keep-numbers.ensures)
-    (anew-costs p.0.holds p.0.room s.start.ensures k.keep-numbers.ensures))
+    (anew-size p.0.holds p.0.room s.start.ensures k.keep_numbers.ensures)
+    (anew-costs p.0.holds p.0.room s.start.ensures k.keep_numbers.ensures))
     (λ c cells ss h.
     let k = kept c in
     let s = started k in
     let p = (began (linked s)).requires in
-    observed-anew h p.0.room s.start.ensures k.keep-numbers.ensures (c.observe-lines.ensures cells ss h)))
+    observed-anew h p.0.room s.start.ensures k.keep_numbers.ensures (c.observe_lines.ensures cells ss h)))

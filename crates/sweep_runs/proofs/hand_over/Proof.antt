@@ -5,16 +5,16 @@ use Rattle.netlist_table.proofs.Copied.{copy_next}
 use Rattle.sweep_runs.proofs.hand_over.Statement.{statement}
 use Rattle.sweep_runs.proofs.hand_over.Tie as tie
 
-abbrev invariant_loop : tie.invariant-loop
+abbrev invariant_loop : tie.invariant-loop-i
 invariant_loop found numbers₀ i₀ numbers i = (i ≤ Size.numbers) × (length numbers ≡ length numbers₀) × (numbers ≡ take i found ++ drop i numbers₀)
 
-abbrev decreases_loop : tie.decreases-loop
+abbrev decreases_loop : tie.decreases-loop-i
 decreases_loop found numbers₀ i₀ numbers i = Size.numbers - i
 
-loop_again : tie.Need-loop-preserved invariant_loop decreases_loop
+loop_again : tie.Need-loop-i-preserved invariant_loop decreases_loop
 loop_again c =
     let s = c.before.before.before in
-    let l = c.before.before.loop in
+    let l = c.loop-i in
     (omega arith, simp length-set l.invariant.1, ap (λ (z : List ℕ). set z l.i (get_or s.args.found.now l.i 0)) l.invariant.2 ∙ copy_next s.args.found.now s.args.numbers.now l.i (omega arith) (omega arith))
 
 -- The length is a variable, so that no list is computed.
@@ -24,7 +24,7 @@ all_laid n i found before after e b h = h ∙ rw (e, take_all n found b) refl
 returns : tie.Need-returns invariant_loop decreases_loop
 returns c =
     let s = c.before.before in
-    let l = c.before.loop in
+    let l = c.loop-i in
     let e : l.i ≡ Size.numbers = omega arith in
     let b : length s.args.found.now ≤ Size.numbers = omega arith in
     all_laid Size.numbers l.i s.args.found.now s.args.numbers.now _ e b l.invariant.2
@@ -32,16 +32,4 @@ returns c =
 pub hand_over_spec : {M : Type 1} → statement M
 hand_over_spec =
     tie.close
-    (tie.spec
-    invariant_loop
-    decreases_loop
-    (λ c. (omega arith, refl, refl))
-    (λ c. omega arith)
-    (λ c. omega arith)
-    (λ c. omega arith)
-    (λ c. omega arith)
-    (λ c. omega arith)
-    (λ c. omega arith)
-    loop_again
-    (λ c. c.before.loop.invariant.1)
-    returns)
+    (tie.spec invariant_loop decreases_loop (λ c. (omega arith, refl, refl)) (λ c. omega arith) (λ c. omega arith) (λ c. omega arith) (λ c. omega arith) (λ c. omega arith) (λ c. omega arith) loop_again (λ c. c.loop-i.invariant.1) returns)

@@ -4,8 +4,8 @@ use Rattle.sweep_runs.proofs.Asleep.{all_rest}
 use Rattle.sweep_runs.proofs.run_all.Statement.{statement}
 use Rattle.sweep_runs.proofs.run_all.Tie as tie
 
-pub run-all_spec : {M : Type 1} → statement M
-run-all_spec =
+pub run_all_spec : {M : Type 1} → statement M
+run_all_spec =
     tie.close
     (tie.spec
     (λ c κs. search rules)
@@ -19,7 +19,7 @@ run-all_spec =
             links_fit = p.links_fit;
             size = p.size;
             resting =
-                all_rest a.role a.kind a.library.now a.netlist.now p.links_fit.linked.chained.count c.before.before.all-awake.ensures;
+                all_rest a.role a.kind a.library.now a.netlist.now p.links_fit.linked.chained.count c.all_awake-awake.ensures;
           };
       runs = p.runs;
     })

@@ -5,17 +5,13 @@ use Rattle.sweep_runs.proofs.FourRuns.{set-fits, set_next, set-ran}
 use Rattle.sweep_runs.proofs.set_lines.Statement.{statement}
 use Rattle.sweep_runs.proofs.set_lines.Tie as tie
 
-abbrev began : tie.After-run-all → tie.Start
+abbrev began : tie.After-run_all-combinational → tie.Start
 began c = c.before.before.before.before.before
 
-abbrev first : tie.After-run-all2 → tie.After-run-all
+abbrev first : tie.After-run_all-sequential → tie.After-run_all-combinational
 first c = c.before.before.before.before
 
-pub set-lines_spec : {M : Type 1} → statement M
-set-lines_spec =
+pub set_lines_spec : {M : Type 1} → statement M
+set_lines_spec =
     tie.close
-    (tie.spec
-    (λ c κs. let p = c.before.before.before.before.requires in set-fits p.holds p.linked combinational p.size p.costs)
-    (λ c κs. let x = c.before.before.before in let p = (began x).requires in set_next p.holds p.linked p.size p.costs x.run-all.ensures)
-    (λ c. search rules)
-    (λ c cells ss h. let k = c.before.before in set-ran h (first k).run-all.ensures k.run-all2.ensures))
+    (tie.spec (λ c κs. let p = c.requires in set-fits p.holds p.linked combinational p.size p.costs) (λ c κs. let x = c.before.before.before in let p = (began x).requires in set_next p.holds p.linked p.size p.costs x.run_all-combinational.ensures) (λ c. search rules) (λ c cells ss h. let k = c.before.before in set-ran h (first k).run_all-combinational.ensures k.run_all-sequential.ensures))

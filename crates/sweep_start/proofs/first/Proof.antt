@@ -5,13 +5,13 @@ use Rattle.sweep_start.specs.Start.{start_number}
 use Rattle.sweep_start.proofs.first.Statement.{statement}
 use Rattle.sweep_start.proofs.first.Tie as tie
 
-returns : tie.Need-returns
+returns : tie.Need-returns-then-mark-eq1
 unfolding start_number pick
-returns c = rw (eq-eqb c.before.args.mark 1 c.if1.true)
+returns c = rw (eq-eqb c.args.mark 1 c.if-mark-eq1.true)
 
-returns_2 : tie.Need-returns-2
+returns_2 : tie.Need-returns-else-mark-eq1
 unfolding start_number pick
-returns_2 c = rw (ne_eqb c.before.args.mark 1 c.if1.false)
+returns_2 c = rw (ne_eqb c.args.mark 1 c.if-mark-eq1.false)
 
 pub first_spec : {M : Type 1} → statement M
 first_spec = tie.close (tie.spec returns returns_2)

@@ -1,44 +1,32 @@
 -- `is_lower` compares in the kind of both.
-use Rattle.common_laws.proofs.Base.{◌≡◌, ℕ, arith, needs}
+use Rattle.common_laws.proofs.Base.{◌≡◌, ℕ, arith, rules}
 use Rattle.sweep_sums.specs.Sums.{sum_number, sum_kind}
 use Rattle.sweep_sums.proofs.is_lower.Statement.{statement}
 use Rattle.sweep_sums.proofs.is_lower.Tie as tie
 
-returns : tie.Need-returns
+returns : tie.Need-returns-in-Combinational-other
 unfolding sum_number
-returns c = rw (c.before.before.before.before.before.sum.given.1, c.before.before.other.given.1) c.is-lower.ensures
+returns c = rw (c.in-Combinational.is, c.in-Combinational-other.is) c.is_lower.ensures
 
-returns_2 : tie.Need-returns-2
+returns_2 : tie.Need-returns-in-Sequential-other
 unfolding sum_kind
 returns_2 c =
-    let p = c.before.before.before in
-    let z : ◌≡◌ {A = ℕ} 0 1 = rw (p.sum.given.1, c.enum_told.given.1) at p.before.before.requires in
+    let p = c in
+    let z : ◌≡◌ {A = ℕ} 0 1 = rw (p.in-Combinational.is, c.in-Sequential-other.is) at p.requires in
     absurd (omega arith)
 
-returns_3 : tie.Need-returns-3
+returns_3 : tie.Need-returns-in-Combinational-other-2
 unfolding sum_kind
 returns_3 c =
-    let p = c.before.before.before in
-    let z : ◌≡◌ {A = ℕ} 1 0 = rw (p.sum2.given.1, c.enum-told2.given.1) at p.before.before.requires in
+    let p = c in
+    let z : ◌≡◌ {A = ℕ} 1 0 = rw (p.in-Sequential.is, c.in-Combinational-other-2.is) at p.requires in
     absurd (omega arith)
 
-returns_4 : tie.Need-returns-4
+returns_4 : tie.Need-returns-in-Sequential-other-2
 unfolding sum_number
-returns_4 c = rw (c.before.before.before.before.before.sum2.given.1, c.before.before.other2.given.1) c.is-lower2.ensures
+returns_4 c = rw (c.in-Sequential.is, c.in-Sequential-other-2.is) c.is_lower-in-Sequential-other-2.ensures
 
 pub is_lower_spec : {M : Type 1} → statement M
 is_lower_spec =
     tie.close
-    (tie.spec
-    (λ c. search needs)
-    (λ c. search needs)
-    (λ c κs. tt)
-    (λ c. search needs)
-    (λ c. search needs)
-    (λ c. search needs)
-    (λ c. search needs)
-    (λ c κs. tt)
-    returns
-    returns_2
-    returns_3
-    returns_4)
+    (tie.spec (λ c. search rules) (λ c. search rules) (λ c κs. tt) (λ c. search rules) (λ c. search rules) (λ c. search rules) (λ c. search rules) (λ c κs. tt) returns returns_2 returns_3 returns_4)

@@ -4,13 +4,13 @@ use Rattle.sweep_sums.specs.Sums.{sum_kind, sum_number}
 use Rattle.sweep_sums.proofs.sum_of.Statement.{statement}
 use Rattle.sweep_sums.proofs.sum_of.Tie as tie
 
-returns : tie.Need-returns
+returns : tie.Need-returns-then-kind-eq-COMBINATIONAL
 unfolding sum_kind sum_number
 returns c = search rules
 
-returns_2 : tie.Need-returns-2
+returns_2 : tie.Need-returns-else-kind-eq-COMBINATIONAL
 unfolding sum_kind sum_number
 returns_2 c = search rules
 
-pub sum-of_spec : {M : Type 1} → statement M
-sum-of_spec = tie.close (tie.spec returns returns_2)
+pub sum_of_spec : {M : Type 1} → statement M
+sum_of_spec = tie.close (tie.spec returns returns_2)

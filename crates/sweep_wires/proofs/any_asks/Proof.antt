@@ -7,47 +7,36 @@ use Rattle.sweep_wires.proofs.Gone.{rest_row, column-inside, gone-found, gone-on
 use Rattle.sweep_wires.proofs.any_asks.Statement.{statement}
 use Rattle.sweep_wires.proofs.any_asks.Tie as tie
 
-abbrev invariant_loop : tie.invariant-loop
+abbrev invariant_loop : tie.invariant-loop-rest
 invariant_loop lines pins columns line value rest₀ rest = SettingRow pins rest × (any_of (asks_for lines pins line value) (columns_gone rest) ≡ any_of (asks_for lines pins line value) (columns_gone columns))
 
-abbrev decreases_loop : tie.decreases-loop
+abbrev decreases_loop : tie.decreases-loop-rest
 decreases_loop lines pins columns line value rest₀ rest = rest
 
 -- ---- places
 
-abbrev looping : tie.After-wide invariant_loop decreases_loop → tie.In-loop invariant_loop decreases_loop
+abbrev looping : tie.After-wide-column invariant_loop decreases_loop → tie.In-loop-rest invariant_loop decreases_loop
 looping c = c.before.before
 
-low : (c : tie.After-wide invariant_loop decreases_loop) → c.wide.result ≡ count_trailing_zeros 32 (looping c).before.loop.rest
-low c = c.wide.ensures ∙ c.before.lowest.ensures
+low : (c : tie.After-wide-column invariant_loop decreases_loop) → c.wide-column.result ≡ count_trailing_zeros 32 (looping c).loop-rest.rest
+low c = c.wide-column.ensures ∙ c.lowest.ensures
 
-returns : tie.Need-returns invariant_loop decreases_loop
+returns : tie.Need-returns-then-asks invariant_loop decreases_loop
 returns c =
     let w = c.before.before in
     let l = looping w in
-    gone-found l.before.loop.inv.0 l.loop-test.taken (low w) _ l.before.loop.inv.1 (sym c.before.asks.ensures ∙ c.if1.true)
+    gone-found l.loop-rest.invariant.0 l.loop-rest-test.true (low w) _ l.loop-rest.invariant.1 (sym c.asks.ensures ∙ c.if-asks.true)
 
-loop_again : tie.Need-loop-preserved invariant_loop decreases_loop
+loop_again : tie.Need-loop-rest-preserved invariant_loop decreases_loop
 loop_again c =
     let w = c.before.before in
     let l = looping w in
-    (rest_row l.before.loop.inv.0, gone-on l.before.loop.inv.0 l.loop-test.taken (low w) _ l.before.loop.inv.1 (sym c.before.asks.ensures ∙ c.if1.false))
+    (rest_row l.loop-rest.invariant.0, gone-on l.loop-rest.invariant.0 l.loop-rest-test.true (low w) _ l.loop-rest.invariant.1 (sym c.asks.ensures ∙ c.if-asks.false))
 
-returns_2 : tie.Need-returns-2 invariant_loop decreases_loop
-returns_2 c = gone-end _ (omega (arith, c.loop-test.false)) c.before.loop.invariant.1
+returns_2 : tie.Need-returns invariant_loop decreases_loop
+returns_2 c = gone-end _ (omega (arith, c.loop-rest-test.false)) c.loop-rest.invariant.1
 
-pub any-asks_spec : {M : Type 1} → statement M
-any-asks_spec =
+pub any_asks_spec : {M : Type 1} → statement M
+any_asks_spec =
     tie.close
-    (tie.spec
-    invariant_loop
-    decreases_loop
-    (λ c. (c.requires, refl))
-    (λ c κs. omega (arith, c.loop-test.true))
-    (λ c κs. tt)
-    (λ c κs. let l = looping c in (l.before.loop.inv.0.few, column-inside l.before.loop.inv.0 l.loop-test.taken (low c)))
-    returns
-    (λ c. omega (arith, (looping c.before.before).loop-test.taken))
-    (λ c. let r = (looping c.before.before).before.loop.rest in omega (arith, (looping c.before.before).loop-test.taken, and_le_r r (r - 1)))
-    loop_again
-    returns_2)
+    (tie.spec invariant_loop decreases_loop (λ c. (c.requires, refl)) (λ c κs. omega (arith, c.loop-rest-test.true)) (λ c κs. tt) (λ c κs. let l = looping c in (l.loop-rest.invariant.0.few, column-inside l.loop-rest.invariant.0 l.loop-rest-test.true (low c))) returns (λ c. omega (arith, (looping c.before.before).loop-rest-test.true)) (λ c. let r = (looping c.before.before).loop-rest.rest in omega (arith, (looping c.before.before).loop-rest-test.true, and_le_r r (r - 1))) loop_again returns_2)

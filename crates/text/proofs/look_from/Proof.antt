@@ -4,9 +4,9 @@ use Rattle.text.specs.Class.{end_of}
 use Rattle.text.proofs.look_from.Statement.{statement}
 use Rattle.text.proofs.look_from.Tie as tie
 
-returns : tie.Need-returns
+returns : tie.Need-returns-then-line
 unfolding end_of
-returns c = rw c.before.if1.true c.eights.ensures
+returns c = rw c.if-line.true c.eights.ensures
 
 pub look_from_spec : {M : Type 1} → statement M
 look_from_spec = tie.close (tie.spec (λ c κs. search rules) returns (λ c. search rules))

@@ -1,11 +1,11 @@
 -- `of_pin` meets its contract.
-use Rattle.common_laws.proofs.Base.{refl, ◌+◌, ◌-◌, ◌*◌, ◌≤◌, ◌<◌, pow-le-pow_right, one-le-pow, arith, needs}
+use Rattle.common_laws.proofs.Base.{refl, ◌+◌, ◌-◌, ◌*◌, ◌≤◌, ◌<◌, pow-le-pow_right, one-le-pow, arith, rules}
 use Rattle.truth_rows.specs.Asked.{asked_number}
 use Rattle.truth_rows.proofs.Conditions.{observing_group_lem}
 use Rattle.truth_rows.proofs.of_pin.Statement.{statement}
 use Rattle.truth_rows.proofs.of_pin.Tie as tie
 
-wanted_requires : tie.Need-wanted-requires
+wanted_requires : tie.Need-wanted-mask-requires
 wanted_requires c κs =
     let s = c.before.before in
     let b = s.requires.0 in
@@ -16,13 +16,13 @@ wanted_requires c κs =
 four : 0 < 4
 four = omega arith
 
-mul-base : tie.Need-overflow-mul-base
+mul-base : tie.Need-overflow_mul-base
 mul-base c =
-    let s = c.before.before.before.before in omega (arith, c.power2.ensures, pow-le-pow_right four s.requires.0.few)
+    let s = c.before.before.before.before in omega (arith, c.power-2.ensures, pow-le-pow_right four s.requires.0.few)
 
-add-base : tie.Need-overflow-add-base
+add-base : tie.Need-overflow_add-base
 add-base c =
-    let s = c.before.before.before.before in omega (arith, c.power2.ensures, pow-le-pow_right four s.requires.0.few)
+    let s = c.before.before.before.before in omega (arith, c.power-2.ensures, pow-le-pow_right four s.requires.0.few)
 
 returns : tie.Need-returns
 unfolding asked_number
@@ -38,28 +38,17 @@ returns c =
       small =
           record {
             pins = omega (arith, b.few);
-            base = omega (arith, e.power2.ensures, pow-le-pow_right four b.few);
-            some = omega (arith, c.power3.ensures, one-le-pow (a.pins - 1 - a.k) 4 four);
-            weight = omega (arith, c.power3.ensures, pow-le-pow_right four least);
+            base = omega (arith, e.power-2.ensures, pow-le-pow_right four b.few);
+            some = omega (arith, c.power-weight.ensures, one-le-pow (a.pins - 1 - a.k) 4 four);
+            weight = omega (arith, c.power-weight.ensures, pow-le-pow_right four least);
           };
       rows =
-          observing_group_lem a.depth a.pins w.wanted.result c.power3.result a.bits.now b a.k
-          (a.depth + 8 * e.power2.result) l.power.result 48 s.requires.2 l.power.ensures w.wanted.ensures
-          (rw e.power2.ensures refl) c.power3.ensures;
+          observing_group_lem a.depth a.pins w.wanted-mask.result c.power-weight.result a.bits.now b a.k
+          (a.depth + 8 * e.power-2.result) l.power.result 48 s.requires.2 l.power.ensures w.wanted-mask.ensures
+          (rw e.power-2.ensures refl) c.power-weight.ensures;
     }
 
-pub of-pin_spec : {M : Type 1} → statement M
-of-pin_spec =
+pub of_pin_spec : {M : Type 1} → statement M
+of_pin_spec =
     tie.close
-    (tie.spec
-    (λ c. search needs)
-    (λ c. search needs)
-    (λ c κs. search needs)
-    (λ c. search needs)
-    wanted_requires
-    (λ c κs. search needs)
-    mul-base
-    add-base
-    (λ c κs. search needs)
-    (λ c. search needs)
-    returns)
+    (tie.spec (λ c. search rules) (λ c. search rules) (λ c κs. search rules) (λ c. search rules) wanted_requires (λ c κs. search rules) mul-base add-base (λ c κs. search rules) (λ c. search rules) returns)

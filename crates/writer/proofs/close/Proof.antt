@@ -4,10 +4,10 @@ use Rattle.writer.proofs.Buffer.{closes_within, closes_past}
 use Rattle.writer.proofs.close.Statement.{statement}
 use Rattle.writer.proofs.close.Tie as tie
 
-returns : tie.Need-returns
-returns c = closes_within _ _ _ c.if1.true
+returns : tie.Need-returns-then-end-buffer
+returns c = closes_within _ _ _ c.if-end-buffer.true
 
-returns_2 : tie.Need-returns-2
+returns_2 : tie.Need-returns-else-end-buffer
 returns_2 c =
     let p = c.before.before in
     closes_past _ _ _ _ _ (search rules) p.refuse.ensures

@@ -1,31 +1,15 @@
 -- `put_rank` stores the four numbers of a line, one behind the other.
-use Rattle.common_laws.proofs.Base.{arith, now, length-set, needs}
+use Rattle.common_laws.proofs.Base.{arith, length-set, rules}
 use Rattle.advice_calls.proofs.Ranks.{rank-stored}
 use Rattle.advice_calls.proofs.lines.put_rank.Statement.{statement}
 use Rattle.advice_calls.proofs.lines.put_rank.Tie as tie
 
 returns : tie.Need-returns
 returns c =
-    let a = c.before.before.args in
-    rank-stored (now a.table) a.l a.nevers a.overs a.largest a.total c.wide.ensures
+    let a = c.args in
+    rank-stored a.table.now a.l a.nevers a.overs a.largest a.total c.wide.ensures
 
-pub put-rank_spec : {M : Type 1} → statement M
-put-rank_spec =
+pub put_rank_spec : {M : Type 1} → statement M
+put_rank_spec =
     tie.close
-    (tie.spec
-    (λ c κs. search needs)
-    (λ c. search needs)
-    (λ c. search needs)
-    (λ c. search needs)
-    (λ c. search needs)
-    (λ c. search needs)
-    (λ c. search needs)
-    (λ c. simp length-set (omega (arith, c.wide.ensures)))
-    (λ c. search needs)
-    (λ c. search needs)
-    (λ c. simp length-set (omega (arith, c.wide.ensures)))
-    (λ c. search needs)
-    (λ c. search needs)
-    (λ c. simp length-set (omega (arith, c.wide.ensures)))
-    (λ c. simp length-set)
-    returns)
+    (tie.spec (λ c κs. search rules) (λ c. search rules) (λ c. search rules) (λ c. search rules) (λ c. search rules) (λ c. search rules) (λ c. search rules) (λ c. simp length-set (omega (arith, c.wide.ensures))) (λ c. search rules) (λ c. search rules) (λ c. simp length-set (omega (arith, c.wide.ensures))) (λ c. search rules) (λ c. search rules) (λ c. simp length-set (omega (arith, c.wide.ensures))) (λ c. simp length-set) returns)

@@ -7,24 +7,24 @@ use Rattle.advice_calls.proofs.lines.try_line.Tie as tie
 
 -- ---- the places of the code that the answers speak of
 
-abbrev began : tie.After-try-pad → tie.Start
+abbrev began : tie.After-try_pad-count → tie.Start
 began c = c.before.before.before.before
 
-abbrev left : tie.After-wide → tie.After-left-by
+abbrev left : tie.After-wide → tie.After-left_by-left
 left c = c.before.before
 
-abbrev tried : tie.After-left-by → tie.After-try-pad
-tried c = c.before.before
+abbrev tried : tie.After-left_by-left → tie.After-try_pad-count
+tried c = c.before
 
 returns : tie.Need-returns
 returns c cells ss s said free =
     let w = c.before in
     let t = tried (left w) in
     let b = began t in
-    let ran = t.try-pad.ensures cells ss s.holds in
+    let ran = t.try_pad-count.ensures cells ss s.holds in
     record {
-      leave = left-leaves s b.args.l b.pre.range b.pre.laid ran said free (left w).left_by.result (left w).left_by.ensures;
-      back = c.lay-back.ensures (rw w.wide.ensures (changed-there s b.args.l b.pre.range said free b.pre.laid ran));
+      leave = left-leaves s b.args.l b.requires.range b.requires.laid ran said free (left w).left_by-left.result (left w).left_by-left.ensures;
+      back = c.lay_back.ensures (rw w.wide.ensures (changed-there s b.args.l b.requires.range said free b.requires.laid ran));
     }
 
 pub try_line_spec : {M : Type 1} → statement M
@@ -37,8 +37,8 @@ try_line_spec =
     (λ c κs.
     let t = tried (left c) in
     let b = began t in
-    let p = b.pre in
+    let p = b.requires in
     rw c.wide.ensures
     (back_fits p.stands b.args.l p.range
-    (tried-long p.stands b.args.l p.range p.laid (t.try-pad.ensures p.cells p.statements p.stands.holds))))
+    (tried-long p.stands b.args.l p.range p.laid (t.try_pad-count.ensures p.cells p.statements p.stands.holds))))
     returns)

@@ -6,39 +6,31 @@ use Rattle.advice_calls.proofs.lines.with_cost.Tie as tie
 
 -- ---- the places of the code that the answers speak of
 
-abbrev began : tie.After-greater → tie.Start
+abbrev began : tie.After-greater-largest → tie.Start
 began c = c.before
 
-returns : tie.Need-returns
+returns : tie.Need-returns-then-x-le-MOST
 returns c =
     let t = c.before.before in
     let g = t.before in
     let a = (began g).args in
-    figure-more a.x a.left _ _ _ t.if1.true g.greater.ensures c.before.greater2.ensures c.sum.ensures
+    figure-more a.x a.left _ _ _ t.if-x-le-MOST.true g.greater-largest.ensures c.greater.ensures c.sum.ensures
 
-returns_2 : tie.Need-returns-2
+returns_2 : tie.Need-returns-then-x-eq-OVER
 returns_2 c =
     let t = c.before in
     let g = t.before.before in
     let a = (began g).args in
-    over-more a.x a.left _ t.if2.true g.greater.ensures
+    over-more a.x a.left _ t.if-x-eq-OVER.true g.greater-largest.ensures
 
-returns_3 : tie.Need-returns-3
+returns_3 : tie.Need-returns
 returns_3 c =
     let t = c.before in
     let g = t.before.before in
     let a = (began g).args in
-    never-more a.x a.left _ t.before.if1.false t.if2.false g.greater.ensures
+    never-more a.x a.left _ t.if-x-le-MOST.false t.if-x-eq-OVER.false g.greater-largest.ensures
 
-pub with-cost_spec : {M : Type 1} → statement M
-with-cost_spec =
+pub with_cost_spec : {M : Type 1} → statement M
+with_cost_spec =
     tie.close
-    (tie.spec
-    (λ c κs. search rules)
-    (λ c κs. search rules)
-    (λ c κs. search rules)
-    returns
-    (λ c. search rules)
-    returns_2
-    (λ c. search rules)
-    returns_3)
+    (tie.spec (λ c κs. search rules) (λ c κs. search rules) (λ c κs. search rules) returns (λ c. search rules) returns_2 (λ c. search rules) returns_3)

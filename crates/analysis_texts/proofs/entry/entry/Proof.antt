@@ -6,17 +6,17 @@ use Rattle.demands.specs.Outcome.{entry_by}
 use Rattle.analysis_texts.proofs.entry.entry.Statement.{statement}
 use Rattle.analysis_texts.proofs.entry.entry.Tie as tie
 
-returns : tie.Need-returns
+returns : tie.Need-returns-then-table_short
 unfolding entry_by weigh pick verdict_read
-returns c = rw c.if1.true
+returns c = rw c.if-table_short.true
 
-returns_2 : tie.Need-returns-2
+returns_2 : tie.Need-returns-then-text_long
 unfolding entry_by weigh pick verdict_read
-returns_2 c = rw (c.before.if1.false, c.if2.true)
+returns_2 c = rw (c.if-table_short.false, c.if-text_long.true)
 
-returns_3 : tie.Need-returns-3
+returns_3 : tie.Need-returns
 unfolding entry_by weigh pick verdict_read
-returns_3 c = rw (c.before.if1.false, c.if2.false)
+returns_3 c = rw (c.if-table_short.false, c.if-text_long.false)
 
 pub entry_spec : {M : Type 1} → statement M
 entry_spec = tie.close (tie.spec returns returns_2 returns_3)

@@ -1,5 +1,5 @@
 -- `number_of` meets its contract: each return is a case of the number, by the tests of the definition.
-use Rattle.common_laws.proofs.Base.{Bool, true, false, not, ◌&&◌, ◌||◌, ◌≡◌, leb, ltb, eqb}
+use Rattle.common_laws.proofs.Base.{Bool, true, false, not, ◌&&◌, ◌||◌, ◌≡◌, leb, ltb, eqb, le-leb, lt-leb}
 use Rattle.sizes.specs.Sizes as Size
 use Rattle.reading.specs.Choice.{pick}
 use Rattle.reading.specs.Numbers as No
@@ -45,20 +45,20 @@ module _ (a : Asked) (p : Passed) where
         unfolding number_of pick
         is_good l = rw (b, w, h, l)
 
-returns : tie.Need-returns
-returns c = is_bad _ _ c.if1.true
+returns : tie.Need-returns-then-bad
+returns c = is_bad _ _ c.if-bad.true
 
-returns_2 : tie.Need-returns-2
-returns_2 c = is_wrong _ _ c.before.if1.false c.if2.true
+returns_2 : tie.Need-returns-then-wrong
+returns_2 c = is_wrong _ _ c.if-bad.false c.if-wrong.true
 
-returns_3 : tie.Need-returns-3
-returns_3 c = is_high _ _ c.before.before.if1.false c.before.if2.false c.if3.true
+returns_3 : tie.Need-returns-then-high
+returns_3 c = is_high c.args.a c.args.p c.if-bad.false c.if-wrong.false (le-leb _ _ c.if-high.true)
 
-returns_4 : tie.Need-returns-4
-returns_4 c = is_low _ _ c.before.before.before.if1.false c.before.before.if2.false c.before.if3.false c.if4.true
+returns_4 : tie.Need-returns-then-low
+returns_4 c = is_low c.args.a c.args.p c.if-bad.false c.if-wrong.false (lt-leb _ _ c.if-high.false) c.if-low.true
 
-returns_5 : tie.Need-returns-5
-returns_5 c = is_good _ _ c.before.before.before.if1.false c.before.before.if2.false c.before.if3.false c.if4.false
+returns_5 : tie.Need-returns
+returns_5 c = is_good c.args.a c.args.p c.if-bad.false c.if-wrong.false (lt-leb _ _ c.if-high.false) c.if-low.false
 
-pub number-of_spec : {M : Type 1} → statement M
-number-of_spec = tie.close (tie.spec returns returns_2 returns_3 returns_4 returns_5)
+pub number_of_spec : {M : Type 1} → statement M
+number_of_spec = tie.close (tie.spec returns returns_2 returns_3 returns_4 returns_5)

@@ -5,13 +5,13 @@ use Rattle.library_text.proofs.GroupLaws.{other-deep}
 use Rattle.library_text.proofs.groups.row_digits.Statement.{statement}
 use Rattle.library_text.proofs.groups.row_digits.Tie as tie
 
-returns : tie.Need-returns
+returns : tie.Need-returns-then-heading-eq-PLAIN
 unfolding row_digits number_heading
-returns c = rw c.if1.true
+returns c = rw c.if-heading-eq-PLAIN.true
 
-returns_2 : tie.Need-returns-2
+returns_2 : tie.Need-returns
 unfolding row_digits
-returns_2 c = rw (other-deep c.before.args.heading c.if1.false)
+returns_2 c = rw (other-deep c.args.heading c.if-heading-eq-PLAIN.false)
 
 pub row_digits_spec : {M : Type 1} → statement M
 row_digits_spec = tie.close (tie.spec returns returns_2)

@@ -6,7 +6,7 @@ use Rattle.library_text.proofs.groups.rowless_added.Tie as tie
 
 returns : tie.Need-returns
 unfolding opened rowless_added
-returns c = rw c.before.before.opened.ensures
+returns c = rw c.opened-q.ensures
 
 pub rowless_added_spec : {M : Type 1} → statement M
 rowless_added_spec = tie.close (tie.spec (λ c κs. search rules) returns)

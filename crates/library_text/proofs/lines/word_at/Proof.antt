@@ -4,20 +4,20 @@ use Rattle.library_text.proofs.Entries.{at_SO}
 use Rattle.library_text.proofs.lines.word_at.Statement.{statement}
 use Rattle.library_text.proofs.lines.word_at.Tie as tie
 
-returns : tie.Need-returns
+returns : tie.Need-returns-then-place-eq-CC_LINE
 unfolding word_at
-returns c = rw c.if1.true
+returns c = rw c.if-place-eq-CC_LINE.true
 
-returns_2 : tie.Need-returns-2
+returns_2 : tie.Need-returns-then-place-eq-CO_LINE
 unfolding word_at
-returns_2 c = rw c.if2.true
+returns_2 c = rw c.if-place-eq-CO_LINE.true
 
-returns_3 : tie.Need-returns-3
+returns_3 : tie.Need-returns-then-place-eq-SC_LINE
 unfolding word_at
-returns_3 c = rw c.if3.true
+returns_3 c = rw c.if-place-eq-SC_LINE.true
 
-returns_4 : tie.Need-returns-4
-returns_4 c = rw (at_SO c.before.before.before.args.place c.before.before.if1.false c.before.if2.false c.if3.false)
+returns_4 : tie.Need-returns
+returns_4 c = rw (at_SO c.args.place c.if-place-eq-CC_LINE.false c.if-place-eq-CO_LINE.false c.if-place-eq-SC_LINE.false)
 
-pub word-at_spec : {M : Type 1} → statement M
-word-at_spec = tie.close (tie.spec returns returns_2 returns_3 returns_4)
+pub word_at_spec : {M : Type 1} → statement M
+word_at_spec = tie.close (tie.spec returns returns_2 returns_3 returns_4)

@@ -4,19 +4,19 @@ use borrow.Author.Rules.{rules}
 use Rattle.library_text.proofs.rows.first_group.Statement.{statement}
 use Rattle.library_text.proofs.rows.first_group.Tie as tie
 
-returns : tie.Need-returns
+returns : tie.Need-returns-in-CC
 unfolding first_group
 returns c = search rules
 
-returns_2 : tie.Need-returns-2
+returns_2 : tie.Need-returns-in-CO
 unfolding first_group
 returns_2 c = search rules
 
-returns_3 : tie.Need-returns-3
+returns_3 : tie.Need-returns-in-SC
 unfolding first_group
 returns_3 c = search rules
 
-returns_4 : tie.Need-returns-4
+returns_4 : tie.Need-returns-in-SO
 unfolding first_group
 returns_4 c = search rules
 

@@ -10,4 +10,4 @@ unfolding is_join bytes
 returns c = c.same.ensures
 
 pub is_join_spec : {M : Type 1} → statement M
-is_join_spec = tie.close (tie.spec (λ c. search rules) (λ c κs. search rules) returns)
+is_join_spec = tie.close (tie.spec (λ c κs. search rules) returns)

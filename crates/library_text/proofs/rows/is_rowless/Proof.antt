@@ -10,4 +10,4 @@ unfolding is_z bytes
 returns c = c.same.ensures
 
 pub is_rowless_spec : {M : Type 1} → statement M
-is_rowless_spec = tie.close (tie.spec (λ c. search rules) (λ c κs. search rules) returns)
+is_rowless_spec = tie.close (tie.spec (λ c κs. search rules) returns)

@@ -8,5 +8,5 @@ returns : tie.Need-returns
 unfolding price_bad
 returns c = refl
 
-pub price-bad_spec : {M : Type 1} → statement M
-price-bad_spec = tie.close (tie.spec returns)
+pub price_bad_spec : {M : Type 1} → statement M
+price_bad_spec = tie.close (tie.spec returns)

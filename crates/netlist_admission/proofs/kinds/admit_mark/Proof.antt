@@ -1,5 +1,5 @@
 -- `admit_mark` checks a mark and admits it.
-use Rattle.common_laws.proofs.Base.{false, List, ◌≡◌, sym, ap, ◌∙◌, ℕ, set, needs}
+use Rattle.common_laws.proofs.Base.{false, List, ◌≡◌, sym, ap, ◌∙◌, ℕ, set, rules}
 use Rattle.sizes.specs.Places.{mention_place}
 use Rattle.netlist_table.specs.Netlist.{line_bad}
 use Rattle.netlist_table.specs.Admission.{mark_place}
@@ -9,27 +9,27 @@ use Rattle.netlist_admission.proofs.kinds.admit_mark.Tie as tie
 
 -- ---- the places of the code that the answers speak of
 
-abbrev begun : tie.Else1 → tie.Start
+abbrev begun : tie.Else-line_bad → tie.Start
 begun c = c.before.before.before
 
-abbrev in-range : tie.After-word → tie.Else1
-in-range c = c.before.before
+abbrev in-range : tie.After-word → tie.Else-line_bad
+in-range c = c.before
 
 abbrev stored : tie.After-mention → tie.After-put
 stored c = c.before.before.before.before
 
-good : (c : tie.Else1) → line_bad (begun c).args.l ≡ false
-good c = sym c.before.line-bad.ensures ∙ c.if1.false
+good : (c : tie.Else-line_bad) → line_bad (begun c).args.l ≡ false
+good c = sym c.line_bad.ensures ∙ c.if-line_bad.false
 
-returns : tie.Need-returns
-returns c cells m place value second ss so h = mark-bad cells h m _ (sym c.before.line-bad.ensures ∙ c.if1.true)
+returns : tie.Need-returns-then-line_bad
+returns c cells m place value second ss so h = mark-bad cells h m _ (sym c.line_bad.ensures ∙ c.if-line_bad.true)
 
-returns_2 : tie.Need-returns-2
+returns_2 : tie.Need-returns-then-word-ne0
 returns_2 c cells m place value second ss so h =
     rw second
-    (mark-second cells h m _ (good (in-range c.before)) (λ e. c.if2.true (c.before.word.ensures ∙ rw place e)))
+    (mark-second cells h m _ (good (in-range c.before)) (λ e. c.if-word-ne0.true (c.word.ensures ∙ rw place e)))
 
-returns_3 : tie.Need-returns-3
+returns_3 : tie.Need-returns
 returns_3 c cells m place value second ss so h =
     let last = c.before.before in
     let put = stored last in
@@ -37,7 +37,7 @@ returns_3 c cells m place value second ss so h =
     let range = in-range free.before in
     let a = (begun range).args in
     let done =
-    mark-admitted cells h m a.l (good range) (rw (← place) (sym free.before.word.ensures ∙ free.if2.left))
+    mark-admitted cells h m a.l (good range) (rw (← place) (sym free.word.ensures ∙ free.if-word-ne0.false))
     in
     record {
       answers = done.answers;
@@ -48,16 +48,7 @@ returns_3 c cells m place value second ss so h =
           ∙ done.leaves;
     }
 
-pub admit-mark_spec : {M : Type 1} → statement M
-admit-mark_spec =
+pub admit_mark_spec : {M : Type 1} → statement M
+admit_mark_spec =
     tie.close
-    (tie.spec
-    (λ c κs. search needs)
-    returns
-    (λ c κs. search needs)
-    (λ c. search needs)
-    returns_2
-    (λ c κs. search needs)
-    (λ c κs. search needs)
-    (λ c. search needs)
-    returns_3)
+    (tie.spec (λ c κs. search rules) returns (λ c κs. search rules) (λ c. search rules) returns_2 (λ c κs. search rules) (λ c κs. search rules) (λ c. search rules) returns_3)

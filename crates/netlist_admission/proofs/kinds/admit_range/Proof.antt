@@ -1,5 +1,5 @@
 -- `admit_range` checks a range and admits it.
-use Rattle.common_laws.proofs.Base.{Bool, not, ◌||◌, List, [], ◌∷◌, ◌≡◌, sym, ◌∙◌, ℕ, ◌≤◌, arith, eqb, get_or, needs}
+use Rattle.common_laws.proofs.Base.{Bool, not, ◌||◌, List, [], ◌∷◌, ◌≡◌, sym, ◌∙◌, ℕ, ◌≤◌, arith, eqb, get_or, rules}
 use Rattle.sizes.specs.Places.{driver_place, range_place}
 use Rattle.reading.specs.Numbers as No
 use Rattle.netlist_table.specs.Lowest.{lowest}
@@ -18,53 +18,42 @@ told r table d e b l n = rw (n, d, e, b, l)
 
 -- ---- the places of the code that the answers speak of
 
-abbrev read : tie.After-word2 → tie.After-word
-read c = c.before.before
+abbrev read : tie.After-word-again → tie.After-word-unmarked
+read c = c.before
 
-abbrev begun : tie.After-word → tie.Start
-begun c = c.before.before.before
+abbrev begun : tie.After-word-unmarked → tie.Start
+begun c = c.before.before
 
-abbrev asked : tie.After-lowest → tie.After-word2
+abbrev asked : tie.After-lowest-cause → tie.After-word-again
 asked c = c.before.before.before
 
-abbrev priced : tie.After-lowest → Range
+abbrev priced : tie.After-lowest-cause → Range
 priced c = let a = (begun (read (asked c))).args in record { line = a.l; low = a.low; high = a.high }
 
-weighed : (c : tie.After-lowest) → c.lowest.result ≡ lowest (range_flags (priced c) (begun (read (asked c))).args.table.now)
+weighed : (c : tie.After-lowest-cause) → c.lowest-cause.result ≡ lowest (range_flags (priced c) (begun (read (asked c))).args.table.now)
 weighed c =
     let w = asked c in
-    told (priced c) (begun (read w)).args.table.now (read w).word.ensures w.word2.ensures c.before.before.bounds-bad.ensures
-    c.before.line-bad.ensures c.lowest.ensures
+    told (priced c) (begun (read w)).args.table.now (read w).word-unmarked.ensures w.word-again.ensures c.bounds_bad.ensures
+    c.line_bad.ensures c.lowest-cause.ensures
 
-none : (c : tie.Else1) → 0 ≡ lowest (range_flags (priced c.before) (begun (read (asked c.before))).args.table.now)
-none c = sym c.if1.false ∙ weighed c.before
+none : (c : tie.Else-cause-ne0) → 0 ≡ lowest (range_flags (priced c.before) (begun (read (asked c.before))).args.table.now)
+none c = sym c.if-cause-ne0.false ∙ weighed c.before
 
-returns : tie.Need-returns
-returns c cells ss so h = range-refused cells h so (priced c.before) _ (weighed c.before) c.if1.true
+returns : tie.Need-returns-then-cause-ne0
+returns c cells ss so h = range-refused cells h so (priced c.before) _ (weighed c.before) c.if-cause-ne0.true
 
 -- The bounds, where they are stored.
-store_range_requires : tie.Need-store-range-requires
+store_range_requires : tie.Need-store_range-requires
 store_range_requires c κs = let f = range-fits _ _ (none c.before) in (omega (arith, f.1, f.2), f.2)
 
-returns_2 : tie.Need-returns-2
+returns_2 : tie.Need-returns
 returns_2 c cells ss so h =
     let last = c.before.before in
     let e = last.before.before in
     let done = range-admitted cells h so (priced e.before) (none e) in
     record { answers = done.answers; leaves = last.store_range.ensures ∙ done.leaves }
 
-pub admit-range_spec : {M : Type 1} → statement M
-admit-range_spec =
+pub admit_range_spec : {M : Type 1} → statement M
+admit_range_spec =
     tie.close
-    (tie.spec
-    (λ c κs. search needs)
-    (λ c. search needs)
-    (λ c κs. search needs)
-    (λ c κs. search needs)
-    (λ c κs. search needs)
-    (λ c κs. search needs)
-    (λ c. search needs)
-    returns
-    store_range_requires
-    (λ c. search needs)
-    returns_2)
+    (tie.spec (λ c κs. search rules) (λ c. search rules) (λ c κs. search rules) (λ c κs. search rules) (λ c κs. search rules) (λ c κs. search rules) (λ c. search rules) returns store_range_requires (λ c. search rules) returns_2)

@@ -4,7 +4,7 @@ use Rattle.netlist_table.proofs.gates.cell_of.Statement.{statement}
 use Rattle.netlist_table.proofs.gates.cell_of.Tie as tie
 
 returns : tie.Need-returns
-returns c = rw (← c.before.place_of.ensures) c.word.ensures
+returns c = rw (← c.place_of.ensures) c.word.ensures
 
-pub cell-of_spec : {M : Type 1} → statement M
-cell-of_spec = tie.close (tie.spec (λ c κs. search rules) (λ c κs. search rules) returns)
+pub cell_of_spec : {M : Type 1} → statement M
+cell_of_spec = tie.close (tie.spec (λ c κs. search rules) (λ c κs. search rules) returns)

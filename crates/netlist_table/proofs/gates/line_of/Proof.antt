@@ -4,15 +4,9 @@ use Rattle.netlist_table.proofs.gates.line_of.Statement.{statement}
 use Rattle.netlist_table.proofs.gates.line_of.Tie as tie
 
 returns : tie.Need-returns
-returns c = rw (← c.before.place_of.ensures) c.word.ensures
+returns c = rw (← c.place_of.ensures) c.word.ensures
 
-pub line-of_spec : {M : Type 1} → statement M
-line-of_spec =
+pub line_of_spec : {M : Type 1} → statement M
+line_of_spec =
     tie.close
-    (tie.spec
-    (λ c κs. search rules)
-    (λ c. search rules)
-    (λ c. search rules)
-    (λ c κs. search rules)
-    (λ c. search rules)
-    returns)
+    (tie.spec (λ c κs. search rules) (λ c. search rules) (λ c. search rules) (λ c κs. search rules) (λ c. search rules) returns)

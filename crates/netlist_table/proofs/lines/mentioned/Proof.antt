@@ -1,5 +1,5 @@
 -- `mentioned` reads a mark.
-use Rattle.common_laws.proofs.Base.{not, ap, ℕ, eqb, needs}
+use Rattle.common_laws.proofs.Base.{not, ap, ℕ, eqb, rules}
 use Rattle.netlist_table.proofs.lines.mentioned.Statement.{statement}
 use Rattle.netlist_table.proofs.lines.mentioned.Tie as tie
 
@@ -7,4 +7,4 @@ returns : tie.Need-returns
 returns c = ap (λ (x : ℕ). not (eqb x 0)) c.word.ensures
 
 pub mentioned_spec : {M : Type 1} → statement M
-mentioned_spec = tie.close (tie.spec (λ c. search needs) (λ c κs. search needs) returns)
+mentioned_spec = tie.close (tie.spec (λ c. search rules) (λ c κs. search rules) returns)

@@ -1,5 +1,5 @@
 -- `gate_from` reads a gate, field by field.
-use Rattle.common_laws.proofs.Base.{true, List, ◌≡◌, refl, sym, ap, ◌∙◌, ℕ, not-true, not-false, needs}
+use Rattle.common_laws.proofs.Base.{true, List, ◌≡◌, refl, sym, ap, ◌∙◌, ℕ, not-true, not-false, rules}
 use Rattle.text.specs.Lines.{part, next_after}
 use Rattle.text.specs.Numeral.{name_form}
 use Rattle.library_table.specs.Library.{cell_named}
@@ -10,22 +10,22 @@ use Rattle.netlist_text.proofs.statements.gate_from.Tie as tie
 
 -- ---- the places of the code that the answers speak of
 
-abbrev begun : tie.Else1 → tie.Start
+abbrev begun : tie.Else-n-at → tie.Start
 begun c = c.before.before.before
 
-abbrev inside : tie.After-is-name → tie.Else1
+abbrev inside : tie.After-is_name → tie.Else-n-at
 inside c = c.before.before
 
-abbrev named : tie.After-after → tie.Else2
+abbrev named : tie.After-after-next → tie.Else-not-is_name
 named c = c.before
 
-abbrev numbered : tie.After-decimal → tie.Else3
+abbrev numbered : tie.After-decimal-number → tie.Else-n-next
 numbered c = c.before.before.before
 
-abbrev told : tie.After-after2 → tie.After-decimal
-told c = c.before.before.before.before
+abbrev told : tie.After-after → tie.After-decimal-number
+told c = c.before.before
 
-module _ (c : tie.After-is-name) where
+module _ (c : tie.After-is_name) where
   abbrev line : List ℕ
   line = (begun (inside c)).args.line.now
 
@@ -34,89 +34,70 @@ module _ (c : tie.After-is-name) where
 
   -- What `is_name` answered of the first field.
   name : c.is_name.result ≡ name_form (part 44 line at)
-  name = c.is_name.ensures ∙ ap name_form c.before.field.ensures
+  name = c.is_name.ensures ∙ ap name_form c.field-name.ensures
 
-name-good : (c : tie.Else2) → name_form (part 44 (line c.before) (at c.before)) ≡ true
-name-good c = sym (name c.before) ∙ not-false _ c.if2.false
+name-good : (c : tie.Else-not-is_name) → name_form (part 44 (line c.before) (at c.before)) ≡ true
+name-good c = sym (name c.before) ∙ c.if-not-is_name.false
 
 -- The cursor behind the name.
-behind : (c : tie.After-after)
+behind : (c : tie.After-after-next)
     → let n = (named c).before in
-    c.after.result ≡ next_after (line n) (at n) (part 44 (line n) (at n))
-behind c = let n = (named c).before in c.after.ensures ∙ ap (next_after (line n) (at n)) n.before.field.ensures
+    c.after-next.result ≡ next_after (line n) (at n) (part 44 (line n) (at n))
+behind c = let n = (named c).before in c.after-next.ensures ∙ ap (next_after (line n) (at n)) n.field-name.ensures
 
-returns : tie.Need-returns
+returns : tie.Need-returns-then-n-at
 returns c cells lib =
-    let a = c.before.before.before.before.args in
-    stands-none _ _ (gate-none cells a.line.now a.at c.before.if1.true) c.malformed.ensures
+    let a = c.args in
+    stands-none _ _ (gate-none cells a.line.now a.at c.if-n-at.true) c.malformed.ensures
 
-returns_2 : tie.Need-returns-2
+returns_2 : tie.Need-returns-then-not-is_name
 returns_2 c cells lib =
     let n = c.before.before in
     stands-none _ _
-    (gate-name-bad cells (line n) (at n) (inside n).if1.false (sym (name n) ∙ not-true _ c.before.if2.true))
-    c.malformed2.ensures
+    (gate-name-bad cells (line n) (at n) (inside n).if-n-at.false (sym (name n) ∙ c.if-not-is_name.true))
+    c.malformed-then-not-is_name.ensures
 
-returns_3 : tie.Need-returns-3
+returns_3 : tie.Need-returns-then-n-next
 returns_3 c cells lib =
     let f = c.before.before in
     let n = (named f).before in
     stands-none _ _
-    (gate_no_line cells (line n) (at n) (inside n).if1.left (name-good (named f)) f.after.result (behind f)
-    c.before.if3.true)
-    c.malformed3.ensures
+    (gate_no_line cells (line n) (at n) (inside n).if-n-at.false (name-good (named f)) f.after-next.result (behind f)
+    c.if-n-next.true)
+    c.malformed-then-n-next.ensures
 
-returns_4 : tie.Need-returns-4
+returns_4 : tie.Need-returns-in_default
 returns_4 c cells lib =
-    let d = c.before.before.before in
+    let d = c.before.before in
     let f = (numbered d).before in
     let n = (named f).before in
     stands-none _ _
-    (gate-line-bad cells (line n) (at n) (inside n).if1.left (name-good (named f)) f.after.result (behind f)
-    (numbered d).if3.false
-    (number-bad d.decimal.ensures d.before.field2.ensures c.before.enum_told.given.1))
-    c.malformed4.ensures
+    (gate-line-bad cells (line n) (at n) (inside n).if-n-at.false (name-good (named f)) f.after-next.result (behind f)
+    (numbered d).if-n-next.false
+    (number-bad d.decimal-number.ensures d.field-f.ensures c.in_default.is))
+    c.malformed-in_default.ensures
 
-returns_5 : tie.Need-returns-5
+returns_5 : tie.Need-returns
 returns_5 c cells lib =
     let p = c.before in
     let d = told p.before in
     let f = (numbered d).before in
     let n = (named f).before in
-    let number = p.before.before.before.number.given in
-    let l = number.0.0 in
-    let from = p.before.after2.ensures ∙ ap (next_after (line n) f.after.result) d.before.field2.ensures in
+    let number = p.in-Value in
+    let l = number.l in
+    let from = p.after.ensures ∙ ap (next_after (line n) f.after-next.result) d.field-f.ensures in
     let cell =
-    d.before.before.find.ensures
+    d.find-cell.ensures
     ∙ lib.named _
-    ∙ ap (λ (x : List ℕ). cell_named x cells) n.before.field.ensures
+    ∙ ap (λ (x : List ℕ). cell_named x cells) n.field-name.ensures
     in
     rw
-    (gate-lines cells (line n) (at n) (inside n).if1.left (name-good (named f)) f.after.result (behind f)
-    (numbered d).if3.left l
-    (number-good d.decimal.ensures d.before.field2.ensures number.1))
-    (rw (← from) (gathered-gate _ l _ p.pins-from.result _ p.pins-from.ensures refl refl cell refl refl refl refl))
+    (gate-lines cells (line n) (at n) (inside n).if-n-at.false (name-good (named f)) f.after-next.result (behind f)
+    (numbered d).if-n-next.false l
+    (number-good d.decimal-number.ensures d.field-f.ensures number.is))
+    (rw (← from) (gathered-gate _ l _ p.pins_from-p.result _ p.pins_from-p.ensures refl refl cell refl refl refl refl))
 
 pub gate_from_spec : {M : Type 1} → statement M
 gate_from_spec =
     tie.close
-    (tie.spec
-    (λ c κs. search needs)
-    returns
-    (λ c κs. search needs)
-    (λ c κs. search needs)
-    (λ c κs. search needs)
-    returns_2
-    (λ c κs. search needs)
-    (λ c κs. search needs)
-    returns_3
-    (λ c κs. search needs)
-    (λ c κs. search needs)
-    (λ c κs. search needs)
-    (λ c. search needs)
-    (λ c. search needs)
-    (λ c κs. search needs)
-    returns_4
-    (λ c κs. search needs)
-    (λ c κs. search needs)
-    returns_5)
+    (tie.spec (λ c κs. search rules) returns (λ c κs. search rules) (λ c κs. search rules) (λ c κs. search rules) returns_2 (λ c κs. search rules) (λ c κs. search rules) returns_3 (λ c κs. search rules) (λ c κs. search rules) (λ c κs. search rules) (λ c. search rules) (λ c. search rules) (λ c κs. search rules) returns_4 (λ c κs. search rules) (λ c κs. search rules) returns_5)

@@ -1,5 +1,5 @@
 -- `note` stores four numbers, one after the other.
-use Rattle.common_laws.proofs.Base.{◌≡◌, refl, ℕ, suc, ◌+◌, ◌*◌, arith, needs}
+use Rattle.common_laws.proofs.Base.{◌≡◌, refl, ℕ, suc, ◌+◌, ◌*◌, arith, rules}
 use Rattle.plan_marks.proofs.visits.note.Statement.{statement}
 use Rattle.plan_marks.proofs.visits.note.Tie as tie
 
@@ -10,26 +10,10 @@ after n = (omega arith, omega arith, omega arith)
 returns : tie.Need-returns
 returns c =
     let e = c.wide.ensures in
-    let n = after ((c.before.args.line * 2 + c.before.args.value) * 4) in
+    let n = after ((c.args.line * 2 + c.args.value) * 4) in
     rw (e, n.0, n.1, n.2) refl
 
 pub note_spec : {M : Type 1} → statement M
 note_spec =
     tie.close
-    (tie.spec
-    (λ c κs. search needs)
-    (λ c. search needs)
-    (λ c. search needs)
-    (λ c. search needs)
-    (λ c. search needs)
-    (λ c. search needs)
-    (λ c. search needs)
-    (λ c. search needs)
-    (λ c. search needs)
-    (λ c. search needs)
-    (λ c. search needs)
-    (λ c. search needs)
-    (λ c. search needs)
-    (λ c. search needs)
-    (λ c. search needs)
-    returns)
+    (tie.spec (λ c κs. search rules) (λ c. search rules) (λ c. search rules) (λ c. search rules) (λ c. search rules) (λ c. search rules) (λ c. search rules) (λ c. search rules) (λ c. search rules) (λ c. search rules) (λ c. search rules) (λ c. search rules) (λ c. search rules) (λ c. search rules) (λ c. search rules) returns)

@@ -1,5 +1,5 @@
 -- `visit_gate` makes both visits, and after a lowered number the gates that read the line are awake.
-use Rattle.common_laws.proofs.Base.{sym, ◌∙◌, arith, get_or, needs, not-true, not-false}
+use Rattle.common_laws.proofs.Base.{sym, ◌∙◌, arith, get_or, rules, not-true, not-false}
 use Rattle.netlist_table.proofs.HeldGates.{line_at}
 use Rattle.sweep_groups.specs.Fits.{GateFits}
 use Rattle.sweep_turns.proofs.VisitsLaws.{swept-length}
@@ -10,73 +10,73 @@ use Rattle.plan_marks.proofs.visits.visit_gate.Tie as tie
 
 -- ---- places
 
-abbrev first : tie.After-visit2 → tie.After-visit
+abbrev first : tie.After-visit-at_one → tie.After-visit-at_zero
 first c = c.before.before.before
 
-abbrev began : tie.After-visit → tie.Start
+abbrev began : tie.After-visit-at_zero → tie.Start
 began c = c.before.before.before.before.before
 
-abbrev woken : tie.After-line-of → tie.After-either
+abbrev woken : tie.After-line_of → tie.After-either
 woken c = c.before.before.before
 
 gate-fits : (s : tie.Start) → GateFits s.args.library.now s.args.netlist.now s.args.gate
 gate-fits s = s.requires.fits.links_fit.tables_fit.gates s.args.gate s.requires.inside
 
-visit_requires_2 : tie.Need-visit-requires-2
+visit_requires_2 : tie.Need-visit-at_one-requires
 visit_requires_2 c κs =
     let v = c.before.before in
     let s = began v in
-    let f = s.pre.fits in
-    let w = v.visit.ensures.swept in (
-      record { links_fit = f.links_fit; size = swept-length w ∙ f.size; bounded = swept-bounded w f.bounded; marks_size = v.visit.ensures.marks_long ∙ f.marks_size },
-      s.pre.inside,
+    let f = s.requires.fits in
+    let w = v.visit-at_zero.ensures.swept in (
+      record { links_fit = f.links_fit; size = swept-length w ∙ f.size; bounded = swept-bounded w f.bounded; marks_size = v.visit-at_zero.ensures.marks_long ∙ f.marks_size },
+      s.requires.inside,
       omega arith,
-      omega (arith, s.pre.timed),
+      omega (arith, s.requires.timed),
     )
 
-returns : tie.Need-returns
+returns : tie.Need-returns-then-not-either
 returns c =
     let e = c.before in
     let v = e.before in
     let a = (began (first v)).args in
-    let none = sym e.either.ensures ∙ not-true e.either.result c.if1.true in
-    let t = traced_gate a.kind a.library.now a.netlist.now a.gate (first v).visit.ensures v.visit2.ensures in
+    let none = sym e.either.ensures ∙ c.if-not-either.true in
+    let t = traced_gate a.kind a.library.now a.netlist.now a.gate (first v).visit-at_zero.ensures v.visit-at_one.ensures in
     (rw none at t, nobody_woken a.kind a.library.now a.netlist.now none t.swept)
 
-returns_2 : tie.Need-returns-2
+returns_2 : tie.Need-returns
 returns_2 c =
     let x = c.before in
     let e = woken x in
     let v = e.before in
     let s = began (first v) in
     let a = s.args in
-    let some = sym e.either.ensures ∙ not-false e.either.result x.before.before.if1.false in
-    let t = traced_gate a.kind a.library.now a.netlist.now a.gate (first v).visit.ensures v.visit2.ensures in
-    let r = c.wake-readers.ensures a.netlist.now (get_or a.netlist.now 0 0) s.pre.fits.links_fit.linked.chained in
-    (rw some at t, gate-woken a.kind a.library.now a.netlist.now s.pre.fits.links_fit.needs a.gate s.pre.inside x.Line-of.ensures (first v).visit.ensures.swept v.visit2.ensures.swept r)
+    let some = sym e.either.ensures ∙ x.if-not-either.false in
+    let t = traced_gate a.kind a.library.now a.netlist.now a.gate (first v).visit-at_zero.ensures v.visit-at_one.ensures in
+    let r = c.wake_readers.ensures a.netlist.now (get_or a.netlist.now 0 0) s.requires.fits.links_fit.linked.chained in
+    (rw some at t, gate-woken a.kind a.library.now a.netlist.now s.requires.fits.links_fit.needs a.gate s.requires.inside x.line_of.ensures (first v).visit-at_zero.ensures.swept v.visit-at_one.ensures.swept r)
 
-wake_readers_requires : tie.Need-wake-readers-requires
+wake_readers_requires : tie.Need-wake_readers-requires
 wake_readers_requires c κs =
     let s = began (first (woken c).before) in
     let a = s.args in
     record {
       netlist = a.netlist.now;
       gates = get_or a.netlist.now 0 0;
-      chained = s.pre.fits.links_fit.linked.chained;
-      inside = rw (c.Line-of.ensures, ← line_at a.netlist.now a.gate 0 (omega arith)) ((gate-fits s).lines.most 0 (omega arith));
-      size = s.pre.awake_size;
+      chained = s.requires.fits.links_fit.linked.chained;
+      inside = rw (c.line_of.ensures, ← line_at a.netlist.now a.gate 0 (omega arith)) ((gate-fits s).lines.most 0 (omega arith));
+      size = s.requires.awake_size;
     }
 
-pub visit-gate_spec : {M : Type 1} → statement M
-visit-gate_spec =
+pub visit_gate_spec : {M : Type 1} → statement M
+visit_gate_spec =
     tie.close
     (tie.spec
     (λ c κs.
-    let p = c.before.before.before.before.requires in
+    let p = c.requires in
     (p.fits, p.inside, omega arith, omega (arith, p.timed)))
-    (λ c. search needs)
+    (λ c. search rules)
     visit_requires_2
-    (λ c κs. search needs)
+    (λ c κs. search rules)
     returns
     (λ c κs. let f = gate-fits (began (first c.before.before.before)) in omega arith)
     wake_readers_requires

@@ -1,28 +1,28 @@
 -- `visit_place` goes by the role: the place of the gate's own line at a value, or of a pin's line observed.
-use Rattle.common_laws.proofs.Base.{sym, ◌∙◌, ◌+◌, ◌<◌, arith, needs}
+use Rattle.common_laws.proofs.Base.{sym, ◌∙◌, ◌+◌, ◌<◌, arith, rules}
 use Rattle.sizes.specs.Sizes as Size
 use Rattle.sweep_groups.proofs.Roles.{role_set, role-observed}
 use Rattle.sweep_groups.proofs.turns.visit_place.Statement.{statement}
 use Rattle.sweep_groups.proofs.turns.visit_place.Tie as tie
 
 -- A pin of the gate is observed.
-observed : (c : tie.Else1) → c.before.args.i < c.before.args.pins
-observed c = rw (role-observed _ _ _ c.if1.false) at c.before.requires.2
+observed : (c : tie.Else-role-eq-SETTING) → c.args.i < c.args.pins
+observed c = rw (role-observed _ _ _ c.if-role-eq-SETTING.false) at c.requires.2
 
-pub visit-place_spec : {M : Type 1} → statement M
-visit-place_spec =
+pub visit_place_spec : {M : Type 1} → statement M
+visit_place_spec =
     tie.close
     (tie.spec
-    (λ c. search needs)
+    (λ c. search rules)
     (λ c κs.
     let s = c.before.before in
-    let b : s.args.i < Size.values = rw (role_set _ _ _ c.before.if1.true) at s.requires.2 in
+    let b : s.args.i < Size.values = rw (role_set _ _ _ c.if-role-eq-SETTING.true) at s.requires.2 in
     (s.requires.1.least 0 (omega arith), s.requires.0, omega arith))
     (λ c. omega (arith, observed c))
-    (λ c. omega (arith, observed c, c.before.requires.1.count))
-    (λ c. omega (arith, observed c, c.before.requires.1.count))
+    (λ c. omega (arith, observed c, c.requires.1.count))
+    (λ c. omega (arith, observed c.before, c.requires.1.count))
     (λ c κs.
     let s = c.before.before in
-    (s.requires.1.least (s.args.i + 1) (omega (arith, observed c.before)), s.requires.0))
-    (λ c. c.setting-place.ensures ∙ sym (role_set _ _ _ c.before.before.if1.true))
-    (λ c. c.observing-place.ensures ∙ sym (role-observed _ _ _ c.before.before.if1.false)))
+    (s.requires.1.least (s.args.i + 1) (omega (arith, observed c.before.before)), s.requires.0))
+    (λ c. c.setting_place.ensures ∙ sym (role_set _ _ _ c.if-role-eq-SETTING.true))
+    (λ c. c.observing_place.ensures ∙ sym (role-observed _ _ _ c.if-role-eq-SETTING.false)))

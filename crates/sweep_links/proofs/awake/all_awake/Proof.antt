@@ -15,5 +15,5 @@ returns c = record {
   size = refl;
 }
 
-pub all-awake_spec : {M : Type 1} → statement M
-all-awake_spec = tie.close (tie.spec returns)
+pub all_awake_spec : {M : Type 1} → statement M
+all_awake_spec = tie.close (tie.spec returns)

@@ -5,17 +5,17 @@ use Rattle.sweep_sums.proofs.Sums.{lower-told}
 use Rattle.sweep_sums.proofs.spatial.is_lower.Statement.{statement}
 use Rattle.sweep_sums.proofs.spatial.is_lower.Tie as tie
 
-returns : tie.Need-returns
+returns : tie.Need-returns-in-Lower
 unfolding spatial_order
-returns c = lower-told _ _ (rw c.enum_told.given.1 at c.before.before.compare.ensures)
+returns c = lower-told _ _ (rw c.in-Lower.is at c.compare-order.ensures)
 
-returns_2 : tie.Need-returns-2
+returns_2 : tie.Need-returns-in-Same
 unfolding spatial_order
-returns_2 c = lower-told _ _ (rw c.enum-told2.given.1 at c.before.before.compare.ensures)
+returns_2 c = lower-told _ _ (rw c.in-Same.is at c.compare-order.ensures)
 
-returns_3 : tie.Need-returns-3
+returns_3 : tie.Need-returns-in-Higher
 unfolding spatial_order
-returns_3 c = lower-told _ _ (rw c.enum-told3.given.1 at c.before.before.compare.ensures)
+returns_3 c = lower-told _ _ (rw c.in-Higher.is at c.compare-order.ensures)
 
 pub is_lower_spec : {M : Type 1} → statement M
 is_lower_spec =

@@ -1,5 +1,5 @@
 -- `lowest_already` says so only of a number that is observed, and at most the cost.
-use Rattle.common_laws.proofs.Base.{Bool, true, true≢false, not, ◌≡◌, sym, ap, ◌∙◌, ℕ, ◌≤◌, arith, needs, not-true, ltb-false, ltb}
+use Rattle.common_laws.proofs.Base.{Bool, true, true≢false, not, ◌≡◌, sym, ap, ◌∙◌, ℕ, ◌≤◌, arith, rules, not-true, ltb-false, ltb}
 use Rattle.cost.specs.Cost.{never, counted}
 use Rattle.sweep_sums.specs.declared.Sum.{Sum}
 use Rattle.sweep_sums.specs.Sums.{Summed, sum_number}
@@ -19,10 +19,10 @@ lowest_already_spec =
     (tie.spec
     (λ c e. absurd (true≢false (sym e)))
     (λ c e. absurd (true≢false (sym e)))
-    (λ c κs. search needs)
-    (λ c κs. search needs)
-    (λ c κs. search needs)
+    (λ c κs. search rules)
+    (λ c κs. search rules)
+    (λ c κs. search rules)
     (λ c e.
     let l = c.before.before.before in
-    let most : l.before.before.args.number ≤ never = omega (arith, l.if2.false) in
-    ((λ z. l.before.if1.false z), not_lower c.before.before.sum_of.ensures c.before.sum-of2.ensures c.is-lower.ensures most e, most)))
+    let most : l.args.number ≤ never = omega (arith, l.if-number-gt-NEVER.false) in
+    ((λ z. l.if-role-eq-SETTING.false z), not_lower c.sum_of.ensures c.sum_of-2.ensures c.is_lower.ensures most e, most)))

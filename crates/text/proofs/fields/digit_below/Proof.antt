@@ -1,5 +1,5 @@
 -- `fields::digit_below` meets its contract: a byte of class `Digit`, below the end of the base's digits.
-use Rattle.common_laws.proofs.Base.{Bool, true, false, ◌&&◌, [], ◌∷◌, inl, inr, ◌≡◌, refl, sym, ap, ℕ, ◌+◌, ◌≤◌, arith, ltb, needs, lt-leb}
+use Rattle.common_laws.proofs.Base.{Bool, true, false, ◌&&◌, [], ◌∷◌, inl, inr, ◌≡◌, refl, sym, ap, ℕ, ◌+◌, ◌≤◌, arith, ltb, rules, lt-leb}
 use denote.Enum.Declared.{tag_of}
 use types.Run.{OneOf}
 use Rattle.text.specs.declared.Class.{Class}
@@ -16,19 +16,19 @@ by_class : (k : Class) (t : Bool) (b base : ℕ) → k ≡ class_of b → t ≡ 
 by_class k t b base e p small = rw (class_digit_below base b small, ← e, ← p)
 
 -- No digit stands below 0.
-returns : tie.Need-returns
+returns : tie.Need-returns-then-b-lt-ZERO
 unfolding digit_below
-returns c = rw (lt-leb 48 c.before.args.b c.if1.true)
+returns c = rw (lt-leb 48 c.args.b c.if-b-lt-ZERO.true)
 
-abbrev begun : tie.After-class-of → tie.Start
+abbrev begun : tie.After-class_of-class → tie.Start
 begun c = c.before.before
 
-returns_2 : tie.Need-returns-2
+returns_2 : tie.Need-returns-in-Digit
 unfolding is_digit
 returns_2 c =
-    let k = c.before.before in
+    let k = c.before in
     let s = begun k in
-    by_class k.class_of.result true s.args.b s.args.base k.class_of.ensures (sym (ap is_digit c.enum_told.given.1)) s.pre
+    by_class k.class_of-class.result true s.args.b s.args.base k.class_of-class.ensures (sym (ap is_digit c.in-Digit.is)) s.requires
 
 from_one : (x : ℕ) → OneOf (1 ∷ 2 ∷ 3 ∷ 4 ∷ []) x → 1 ≤ x
 from_one x (inl e) = omega arith
@@ -45,11 +45,11 @@ others Comma h = refl
 others LineEnd h = refl
 others Other h = refl
 
-returns_3 : tie.Need-returns-3
+returns_3 : tie.Need-returns-in_default
 returns_3 c =
     let k = c.before in
     let s = begun k in
-    by_class k.class_of.result false s.args.b s.args.base k.class_of.ensures (others k.class_of.result (from_one _ c.match.keys2)) s.pre
+    by_class k.class_of-class.result false s.args.b s.args.base k.class_of-class.ensures (others k.class_of-class.result (from_one _ c.in_default.in_default-own.keys2)) s.requires
 
-pub digit-below_spec : {M : Type 1} → statement M
-digit-below_spec = tie.close (tie.spec returns (λ c κs. search needs) (λ c. search needs) (λ c. search needs) returns_2 returns_3)
+pub digit_below_spec : {M : Type 1} → statement M
+digit_below_spec = tie.close (tie.spec returns (λ c κs. search rules) (λ c. search rules) (λ c. search rules) returns_2 returns_3)

@@ -1,5 +1,5 @@
 -- `fields::name_byte` meets its contract: the class of the byte decides.
-use Rattle.common_laws.proofs.Base.{false, [], ◌∷◌, inl, inr, ◌≡◌, refl, sym, ap, ◌∙◌, ℕ, ◌≤◌, arith, needs, lt-leb}
+use Rattle.common_laws.proofs.Base.{false, [], ◌∷◌, inl, inr, ◌≡◌, refl, sym, ap, ◌∙◌, ℕ, ◌≤◌, arith, rules, lt-leb}
 use denote.Enum.Declared.{tag_of}
 use types.Run.{OneOf}
 use Rattle.text.specs.declared.Class.{Class}
@@ -12,26 +12,26 @@ use Rattle.text.proofs.fields.name_byte.Statement.{statement}
 use Rattle.text.proofs.fields.name_byte.Tie as tie
 
 -- No letter and no digit stands below 0.
-returns : tie.Need-returns
+returns : tie.Need-returns-then-b-lt-ZERO
 unfolding name_byte between
-returns c = rw (lt-leb 65 c.before.args.b (omega arith), lt-leb 48 c.before.args.b c.if1.true)
+returns c = rw (lt-leb 65 c.args.b (omega arith), lt-leb 48 c.args.b c.if-b-lt-ZERO.true)
 
-abbrev begun : tie.After-class-of → tie.Start
+abbrev begun : tie.After-class_of-class → tie.Start
 begun c = c.before.before
 
-returns_2 : tie.Need-returns-2
+returns_2 : tie.Need-returns-in-Digit
 unfolding is_letter_or_digit
 returns_2 c =
-    sym (ap is_letter_or_digit c.enum_told.given.1)
-    ∙ ap is_letter_or_digit c.before.before.class_of.ensures
-    ∙ class_name (begun c.before.before).args.b
+    sym (ap is_letter_or_digit c.in-Digit.is)
+    ∙ ap is_letter_or_digit c.class_of-class.ensures
+    ∙ class_name (begun c.before).args.b
 
-returns_3 : tie.Need-returns-3
+returns_3 : tie.Need-returns-in-Letter
 unfolding is_letter_or_digit
 returns_3 c =
-    sym (ap is_letter_or_digit c.enum-told2.given.1)
-    ∙ ap is_letter_or_digit c.before.before.class_of.ensures
-    ∙ class_name (begun c.before.before).args.b
+    sym (ap is_letter_or_digit c.in-Letter.is)
+    ∙ ap is_letter_or_digit c.class_of-class.ensures
+    ∙ class_name (begun c.before).args.b
 
 from_two : (x : ℕ) → OneOf (2 ∷ 3 ∷ 4 ∷ []) x → 2 ≤ x
 from_two x (inl e) = omega arith
@@ -47,12 +47,12 @@ others Comma h = refl
 others LineEnd h = refl
 others Other h = refl
 
-returns_4 : tie.Need-returns-4
+returns_4 : tie.Need-returns-in_default
 returns_4 c =
-    others c.before.class_of.result (from_two _ c.match.keys3)
-    ∙ ap is_letter_or_digit c.before.class_of.ensures
+    others c.class_of-class.result (from_two _ c.in_default.in_default-own.keys3)
+    ∙ ap is_letter_or_digit c.class_of-class.ensures
     ∙ class_name (begun c.before).args.b
 
 pub name_byte_spec : {M : Type 1} → statement M
 name_byte_spec =
-    tie.close (tie.spec returns (λ c κs. search needs) (λ c. search needs) (λ c. search needs) returns_2 returns_3 returns_4)
+    tie.close (tie.spec returns (λ c κs. search rules) (λ c. search rules) (λ c. search rules) returns_2 returns_3 returns_4)

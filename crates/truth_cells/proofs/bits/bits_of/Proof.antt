@@ -1,5 +1,5 @@
 -- `bits_of` has one value more of the truth table with each turn.
-use Rattle.common_laws.proofs.Base.{List, map, ◌≡◌, refl, ◌∙◌, ℕ, ◌-◌, ◌^◌, ◌≤◌, ◌<◌, pow-le-pow_right, arith, length, take, length-set, needs}
+use Rattle.common_laws.proofs.Base.{List, map, ◌≡◌, refl, ◌∙◌, ℕ, ◌-◌, ◌^◌, ◌≤◌, ◌<◌, pow-le-pow_right, arith, length, take, length-set, rules}
 use Rattle.truth_rows.specs.Masks.{up_from}
 use Rattle.truth_cells.specs.Words.{met_at, truth_bits, bit_byte, truth_bytes}
 use Rattle.truth_cells.proofs.Steps.{bits-next}
@@ -14,28 +14,28 @@ record Filled (library : List ℕ) (at pins settings : ℕ) (bits : List ℕ) (j
   within : j ≤ settings
   done : take j bits ≡ map bit_byte (map (met_at library at pins) (up_from 0 j))
 
-abbrev invariant_loop : tie.invariant-loop
+abbrev invariant_loop : tie.invariant-loop-j
 invariant_loop library at pins settings bits₀ j₀ bits j = Filled library at pins settings bits j
 
-abbrev decreases_loop : tie.decreases-loop
+abbrev decreases_loop : tie.decreases-loop-j
 decreases_loop library at pins settings bits₀ j₀ bits j = settings - j
 
-loop-holds : tie.Need-loop-init invariant_loop decreases_loop
+loop-holds : tie.Need-loop-j-init invariant_loop decreases_loop
 unfolding up_from
 loop-holds c =
     let two : 0 < 2 = omega arith in
     record {
-      all = c.power.ensures;
-      few = omega (arith, c.power.ensures, pow-le-pow_right two c.before.before.requires.1);
+      all = c.power-settings.ensures;
+      few = omega (arith, c.power-settings.ensures, pow-le-pow_right two c.requires.1);
       long = refl;
       within = omega arith;
       done = refl;
     }
 
-loop_again : tie.Need-loop-preserved invariant_loop decreases_loop
+loop_again : tie.Need-loop-j-preserved invariant_loop decreases_loop
 loop_again c =
     let o = c.before in
-    let l = o.before.before.loop in
+    let l = o.loop-j in
     let v = l.invariant in
     let room : l.j < length l.bits = omega (arith, v.long, v.few) in
     record {
@@ -49,24 +49,11 @@ loop_again c =
 returns : tie.Need-returns invariant_loop decreases_loop
 unfolding truth_bytes truth_bits
 returns c =
-    let v = c.before.loop.invariant in
-    let whole : c.before.loop.j ≡ 2 ^ c.before.before.before.before.args.pins = omega (arith, v.all, v.within) in
+    let v = c.loop-j.invariant in
+    let whole : c.loop-j.j ≡ 2 ^ c.args.pins = omega (arith, v.all, v.within) in
     rw whole at v.done
 
-pub bits-of_spec : {M : Type 1} → statement M
-bits-of_spec =
+pub bits_of_spec : {M : Type 1} → statement M
+bits_of_spec =
     tie.close
-    (tie.spec
-    invariant_loop
-    decreases_loop
-    (λ c κs. search needs)
-    (λ c. search needs)
-    loop-holds
-    (λ c. omega (arith, c.before.loop.invariant.few))
-    (λ c κs. c.before.before.before.before.requires)
-    (λ c κs. search needs)
-    (λ c. omega (arith, c.before.before.before.loop.invariant.few, c.before.before.before.loop.invariant.long))
-    (λ c. omega (arith, c.before.before.before.loop.invariant.few))
-    (λ c. omega arith)
-    loop_again
-    returns)
+    (tie.spec invariant_loop decreases_loop (λ c κs. search rules) (λ c. search rules) loop-holds (λ c. omega (arith, c.loop-j.invariant.few)) (λ c κs. c.requires) (λ c κs. search rules) (λ c. omega (arith, c.loop-j.invariant.few, c.loop-j.invariant.long)) (λ c. omega (arith, c.loop-j.invariant.few)) (λ c. omega arith) loop_again returns)

@@ -1,5 +1,5 @@
 -- `has_groups` meets its contract.
-use Rattle.common_laws.proofs.Base.{refl, needs}
+use Rattle.common_laws.proofs.Base.{refl, rules}
 use Rattle.truth_cells.specs.Words.{groups_of}
 use Rattle.truth_cells.proofs.groups.has_groups.Statement.{statement}
 use Rattle.truth_cells.proofs.groups.has_groups.Tie as tie
@@ -10,14 +10,9 @@ returns c =
     let co = c.before in
     let sc = co.before in
     let cc = sc.before in
-    rw (cc.has-values.ensures, sc.has-values2.ensures, co.has-pins.ensures, c.has-pins2.ensures) refl
+    rw (cc.has_values.ensures, sc.has_values-2.ensures, co.has_pins.ensures, c.has_pins-2.ensures) refl
 
-pub has-groups_spec : {M : Type 1} → statement M
-has-groups_spec =
+pub has_groups_spec : {M : Type 1} → statement M
+has_groups_spec =
     tie.close
-    (tie.spec
-    (λ c κs. search needs)
-    (λ c κs. search needs)
-    (λ c κs. search needs)
-    (λ c κs. search needs)
-    returns)
+    (tie.spec (λ c κs. search rules) (λ c κs. search rules) (λ c κs. search rules) (λ c κs. search rules) returns)

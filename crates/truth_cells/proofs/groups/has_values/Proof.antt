@@ -1,5 +1,5 @@
 -- `has_values` meets its contract.
-use Rattle.common_laws.proofs.Base.{true, ◌≡◌, refl, sym, needs}
+use Rattle.common_laws.proofs.Base.{true, ◌≡◌, refl, sym, rules}
 use Rattle.truth_tables.specs.Entries.{setting_groups}
 use Rattle.truth_rows.specs.Masks.{is_bit, is_one}
 use Rattle.truth_cells.proofs.Steps.{groups-two}
@@ -23,24 +23,16 @@ returns c =
     let w = p.before in
     let v = w.before in
     rw (
-      r.has-rows.ensures,
-      c.has-rows2.ensures,
-      v.of-value.ensures.rows,
-      w.of-value2.ensures.rows,
-      p.group-place.ensures.0,
-      q.group-place2.ensures.0,
+      r.has_rows.ensures,
+      c.has_rows-2.ensures,
+      v.of_value-zero.ensures.rows,
+      w.of_value-one.ensures.rows,
+      p.group_place.ensures.0,
+      q.group_place-2.ensures.0,
     )
     (sym (groups-two _ _ _ _ _))
 
-pub has-values_spec : {M : Type 1} → statement M
-has-values_spec =
+pub has_values_spec : {M : Type 1} → statement M
+has_values_spec =
     tie.close
-    (tie.spec
-    (λ c κs. let p = c.before.before.requires in (p.0, p.1, zero_bit))
-    (λ c κs. let p = c.before.before.before.requires in (p.0, p.1, one_bit))
-    (λ c κs. search needs)
-    (λ c κs. search needs)
-    (λ c. search needs)
-    (λ c κs. search needs)
-    (λ c κs. search needs)
-    returns)
+    (tie.spec (λ c κs. let p = c.requires in (p.0, p.1, zero_bit)) (λ c κs. let p = c.requires in (p.0, p.1, one_bit)) (λ c κs. search rules) (λ c κs. search rules) (λ c. search rules) (λ c κs. search rules) (λ c κs. search rules) returns)

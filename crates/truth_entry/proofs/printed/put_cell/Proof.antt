@@ -15,25 +15,12 @@ returns c =
     let co = sc.before.before.before.before.before in
     let cc = co.before.before.before.before.before in
     let name = cc.before.before.before.before.before in
-    put_then name.put-name.ensures
-    (put_then cc.put-values.ensures
-    (put_then co.put-pins.ensures
-    (put_then sc.put-values2.ensures (put_then so.put-pins2.ensures end.put-bytes.ensures))))
+    put_then name.put_name-cc.ensures
+    (put_then cc.put_values-co.ensures
+    (put_then co.put_pins-sc.ensures
+    (put_then sc.put_values-so.ensures (put_then so.put_pins-end.ensures end.put_bytes.ensures))))
 
-pub put-cell_spec : {M : Type 1} → statement M
-put-cell_spec =
+pub put_cell_spec : {M : Type 1} → statement M
+put_cell_spec =
     tie.close
-    (tie.spec
-    (λ c κs. search rules)
-    (λ c. search rules)
-    (λ c κs. search rules)
-    (λ c. search rules)
-    (λ c κs. search rules)
-    (λ c. search rules)
-    (λ c κs. search rules)
-    (λ c. search rules)
-    (λ c κs. search rules)
-    (λ c. search rules)
-    (λ c κs. search rules)
-    (λ c. search rules)
-    returns)
+    (tie.spec (λ c κs. search rules) (λ c κs. search rules) (λ c κs. search rules) (λ c κs. search rules) (λ c κs. search rules) (λ c κs. search rules) (λ c. search rules) returns)

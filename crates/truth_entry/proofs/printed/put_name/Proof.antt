@@ -14,20 +14,11 @@ returns c =
     let comma = count.before.before.before.before in
     let name = comma.before.before.before.before in
     let word = name.before.before.before.before in
-    put_then word.put-bytes.ensures
-    (put_then name.put-bytes2.ensures
-    (put_then comma.put_byte.ensures (put_then count.put-decimal.ensures end.put-byte2.ensures)))
+    put_then word.put_bytes-first.ensures
+    (put_then name.put_bytes-comma.ensures
+    (put_then comma.put_byte-count.ensures (put_then count.put_decimal-end.ensures end.put_byte.ensures)))
 
-pub put-name_spec : {M : Type 1} → statement M
-put-name_spec =
+pub put_name_spec : {M : Type 1} → statement M
+put_name_spec =
     tie.close
-    (tie.spec
-    (λ c. search rules)
-    (λ c κs. search rules)
-    (λ c κs. search rules)
-    (λ c κs. search rules)
-    (λ c. search rules)
-    (λ c κs. search rules)
-    (λ c κs. search rules)
-    (λ c. search rules)
-    returns)
+    (tie.spec (λ c κs. search rules) (λ c κs. search rules) (λ c κs. search rules) (λ c. search rules) (λ c κs. search rules) (λ c κs. search rules) (λ c. search rules) returns)

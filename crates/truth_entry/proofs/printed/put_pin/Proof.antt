@@ -8,7 +8,7 @@ returns : tie.Need-returns
 returns c =
     let p = c.before.before in
     let a = p.before.before in
-    rw (← asks-bytes _ _ a.of-pin.ensures) p.put-group.ensures
+    rw (← asks-bytes _ _ a.of_pin-asked.ensures) p.put_group.ensures
 
-pub put-pin_spec : {M : Type 1} → statement M
-put-pin_spec = tie.close (tie.spec (λ c κs. search rules) (λ c κs. c.before.of-pin.ensures.small) (λ c. search rules) returns)
+pub put_pin_spec : {M : Type 1} → statement M
+put_pin_spec = tie.close (tie.spec (λ c κs. search rules) (λ c κs. c.of_pin-asked.ensures.small) (λ c. search rules) returns)

@@ -8,7 +8,7 @@ returns : tie.Need-returns
 returns c =
     let p = c.before.before in
     let a = p.before.before in
-    rw (← asks-bytes _ _ a.of-value.ensures) p.put-group.ensures
+    rw (← asks-bytes _ _ a.of_value-asked.ensures) p.put_group.ensures
 
-pub put-value_spec : {M : Type 1} → statement M
-put-value_spec = tie.close (tie.spec (λ c κs. search rules) (λ c κs. c.before.of-value.ensures.small) (λ c. search rules) returns)
+pub put_value_spec : {M : Type 1} → statement M
+put_value_spec = tie.close (tie.spec (λ c κs. search rules) (λ c κs. c.of_value-asked.ensures.small) (λ c. search rules) returns)

@@ -1,5 +1,5 @@
 -- `put_row` meets its contract.
-use Rattle.common_laws.proofs.Base.{◌≡◌, ℕ, ◌+◌, ◌*◌, arith, needs}
+use Rattle.common_laws.proofs.Base.{◌≡◌, ℕ, ◌+◌, ◌*◌, arith, rules}
 use Rattle.library_text.specs.Groups.{row_put}
 use Rattle.library_text.proofs.groups.store.put_row.Statement.{statement}
 use Rattle.library_text.proofs.groups.store.put_row.Tie as tie
@@ -12,19 +12,9 @@ unfolding row_put
 returns c =
     let third = c.before.before in
     let second = third.before.before.before.before in
-    rw (one_on, third.put3.ensures, second.put2.ensures, second.before.before.before.before.put.ensures)
+    rw (one_on, third.put-3.ensures, second.put-2.ensures, second.put.ensures)
 
 pub put_row_spec : {M : Type 1} → statement M
 put_row_spec =
     tie.close
-    (tie.spec
-    (λ c. search needs)
-    (λ c κs. search needs)
-    (λ c. search needs)
-    (λ c. search needs)
-    (λ c. search needs)
-    (λ c κs. search needs)
-    (λ c. search needs)
-    (λ c κs. search needs)
-    (λ c. search needs)
-    returns)
+    (tie.spec (λ c. search rules) (λ c κs. search rules) (λ c. search rules) (λ c. search rules) (λ c. search rules) (λ c κs. search rules) (λ c. search rules) (λ c κs. search rules) (λ c. search rules) returns)

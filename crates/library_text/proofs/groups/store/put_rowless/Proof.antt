@@ -6,7 +6,7 @@ use Rattle.library_text.proofs.groups.store.put_rowless.Tie as tie
 
 returns : tie.Need-returns
 unfolding rowless_put
-returns c = c.before.before.put.ensures
+returns c = c.put.ensures
 
 pub put_rowless_spec : {M : Type 1} → statement M
 put_rowless_spec = tie.close (tie.spec (λ c κs. search rules) (λ c. search rules) returns)

@@ -1,5 +1,5 @@
 -- `put_gate` stores a gate's numbers.
-use Rattle.common_laws.proofs.Base.{List, ◌≡◌, ℕ, suc, ◌+◌, arith, set, take, sets, needs}
+use Rattle.common_laws.proofs.Base.{List, ◌≡◌, ℕ, suc, ◌+◌, arith, set, take, sets, rules}
 use Rattle.sizes.specs.Places.{gate_place}
 use Rattle.sizes.specs.Sizes as Size
 use Rattle.netlist_table.specs.Admission.{gate_stored}
@@ -22,18 +22,11 @@ returns c =
     let second = rest.before.before.before.before in
     let first = second.before.before.before.before in
     let place = first.before.before in
-    let a = place.before.before.args in
-    stores a.g a.cell a.line _ a.table.now place.place_of.ensures first.put.ensures second.put2.ensures
-    rest.put-pins.ensures
+    let a = place.args in
+    stores a.g a.cell a.line _ a.table.now place.place_of-at.ensures first.put.ensures second.put-2.ensures
+    rest.put_pins.ensures
 
-pub put-gate_spec : {M : Type 1} → statement M
-put-gate_spec =
+pub put_gate_spec : {M : Type 1} → statement M
+put_gate_spec =
     tie.close
-    (tie.spec
-    (λ c κs. search needs)
-    (λ c κs. search needs)
-    (λ c. search needs)
-    (λ c κs. search needs)
-    (λ c κs. search needs)
-    (λ c. search needs)
-    returns)
+    (tie.spec (λ c κs. search rules) (λ c κs. search rules) (λ c. search rules) (λ c κs. search rules) (λ c κs. search rules) (λ c. search rules) returns)

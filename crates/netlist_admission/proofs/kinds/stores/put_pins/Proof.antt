@@ -1,12 +1,12 @@
 -- `put_pins` stores the lines of a gate's pins: those passed.
-use Rattle.common_laws.proofs.Base.{◌≡◌, refl, ap, ◌∙◌, ◌+◌, ◌-◌, ◌^◌, ◌≤◌, ◌<◌, arith, length, take, length-set, sets, needs}
+use Rattle.common_laws.proofs.Base.{◌≡◌, refl, ap, ◌∙◌, ◌+◌, ◌-◌, ◌^◌, ◌≤◌, ◌<◌, arith, length, take, length-set, sets, rules}
 use Rattle.sizes.specs.Places.{gate_place}
 use Rattle.sizes.specs.Sizes as Size
 use Rattle.netlist_table.proofs.Stores.{sets-step}
 use Rattle.netlist_admission.proofs.kinds.stores.put_pins.Statement.{statement}
 use Rattle.netlist_admission.proofs.kinds.stores.put_pins.Tie as tie
 
-abbrev invariant_loop : tie.invariant-loop
+abbrev invariant_loop : tie.invariant-loop-i
 invariant_loop table₀ g pins at i₀ table i =
     (i ≤ Size.pins)
     × (at ≡ gate_place g + 2)
@@ -15,16 +15,16 @@ invariant_loop table₀ g pins at i₀ table i =
     × (length table ≡ length table₀)
     × (table ≡ sets table₀ at (take i pins))
 
-abbrev decreases_loop : tie.decreases-loop
+abbrev decreases_loop : tie.decreases-loop-i
 decreases_loop table₀ g pins at i₀ table i = Size.pins - i
 
-loop-holds : tie.Need-loop-init invariant_loop decreases_loop
-loop-holds c = (omega arith, omega (arith, c.place_of.ensures), omega arith, omega arith, refl, refl)
+loop-holds : tie.Need-loop-i-init invariant_loop decreases_loop
+loop-holds c = (omega arith, omega (arith, c.place_of-at.ensures), omega arith, omega arith, refl, refl)
 
-loop_again : tie.Need-loop-preserved invariant_loop decreases_loop
+loop_again : tie.Need-loop-i-preserved invariant_loop decreases_loop
 loop_again c =
     let put = c.before.before in
-    let l = put.before.before.before.loop in (
+    let l = put.loop-i in (
       omega arith,
       l.invariant.1,
       l.invariant.2,
@@ -35,25 +35,11 @@ loop_again c =
 
 returns : tie.Need-returns invariant_loop decreases_loop
 returns c =
-    let l = c.before.loop in
+    let l = c.loop-i in
     let all : l.i ≡ Size.pins = omega arith in
     l.invariant.5 ∙ rw (all, l.invariant.1)
 
-pub put-pins_spec : {M : Type 1} → statement M
-put-pins_spec =
+pub put_pins_spec : {M : Type 1} → statement M
+put_pins_spec =
     tie.close
-    (tie.spec
-    invariant_loop
-    decreases_loop
-    (λ c κs. search needs)
-    (λ c. search needs)
-    loop-holds
-    (λ c. search needs)
-    (λ c. search needs)
-    (λ c. search needs)
-    (λ c κs. search needs)
-    (λ c. search needs)
-    (λ c. search needs)
-    loop_again
-    (λ c. search needs)
-    returns)
+    (tie.spec invariant_loop decreases_loop (λ c κs. search rules) (λ c. search rules) loop-holds (λ c. search rules) (λ c. search rules) (λ c. search rules) (λ c κs. search rules) (λ c. search rules) (λ c. search rules) loop_again (λ c. search rules) returns)

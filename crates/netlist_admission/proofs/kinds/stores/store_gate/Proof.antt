@@ -1,5 +1,5 @@
 -- `store_gate` stores a gate behind those before it.
-use Rattle.common_laws.proofs.Base.{List, ◌≡◌, ℕ, min, set, take, needs}
+use Rattle.common_laws.proofs.Base.{List, ◌≡◌, ℕ, min, set, take, rules}
 use Rattle.sizes.specs.Places.{driver_place, mention_place}
 use Rattle.sizes.specs.Sizes as Size
 use Rattle.netlist_table.specs.declared.RawStatement.{RawStatement}
@@ -15,16 +15,16 @@ begun c = c.before.before.before.before
 abbrev driven : tie.After-mention → tie.After-put
 driven c = c.before.before.before.before
 
-abbrev mentioned : tie.After-mention-pins → tie.After-mention
+abbrev mentioned : tie.After-mention_pins → tie.After-mention
 mentioned c = c.before.before.before.before
 
-abbrev read : tie.After-put-gate → tie.After-mention-pins
+abbrev read : tie.After-put_gate → tie.After-mention_pins
 read c = c.before.before.before.before
 
-abbrev counted : tie.After-put2 → tie.After-one-more
+abbrev counted : tie.After-put-2 → tie.After-one_more
 counted c = c.before
 
-abbrev stored : tie.After-one-more → tie.After-put-gate
+abbrev stored : tie.After-one_more → tie.After-put_gate
 stored c = c.before.before.before.before
 
 -- The stores one after the other, over any tables.
@@ -44,18 +44,9 @@ returns c =
     let lines = mentioned pins in
     let drives = driven lines in
     stores (begun drives).args.g (begun drives).args.s (begun drives).args.table.now drives.put.ensures lines.mention.ensures
-    pins.mention-pins.ensures gates.put-gate.ensures more.one_more.ensures counts.put2.ensures
+    pins.mention_pins.ensures gates.put_gate.ensures more.one_more.ensures counts.put-2.ensures
 
 pub store_gate_spec : {M : Type 1} → statement M
 store_gate_spec =
     tie.close
-    (tie.spec
-    (λ c. search needs)
-    (λ c κs. search needs)
-    (λ c κs. search needs)
-    (λ c κs. search needs)
-    (λ c κs. search needs)
-    (λ c κs. search needs)
-    (λ c κs. search needs)
-    (λ c. search needs)
-    returns)
+    (tie.spec (λ c. search rules) (λ c κs. search rules) (λ c κs. search rules) (λ c κs. search rules) (λ c κs. search rules) (λ c κs. search rules) (λ c κs. search rules) (λ c. search rules) returns)

@@ -1,5 +1,5 @@
 -- `store_range` stores a range's number, and marks its line and the table.
-use Rattle.common_laws.proofs.Base.{List, ◌≡◌, ℕ, ◌+◌, ◌*◌, set, needs}
+use Rattle.common_laws.proofs.Base.{List, ◌≡◌, ℕ, ◌+◌, ◌*◌, set, rules}
 use Rattle.sizes.specs.Places.{mention_place, range_place, ranged_place}
 use Rattle.sizes.specs.Sizes as Size
 use Rattle.netlist_table.specs.Netlist.{Range}
@@ -19,7 +19,7 @@ numbered c = c.before
 abbrev put : tie.After-mention → tie.After-put
 put c = c.before.before.before.before
 
-abbrev mentioned : tie.After-put2 → tie.After-mention
+abbrev mentioned : tie.After-put-2 → tie.After-mention
 mentioned c = c.before.before.before.before
 
 -- The stores one after the other, over any tables.
@@ -37,16 +37,9 @@ returns c =
     let number = numbered range in
     let a = (begun number).args in
     stores (record { line = a.l; low = a.low; high = a.high }) a.table.now number.packed.ensures range.put.ensures
-    line.mention.ensures last.put2.ensures
+    line.mention.ensures last.put-2.ensures
 
 pub store_range_spec : {M : Type 1} → statement M
 store_range_spec =
     tie.close
-    (tie.spec
-    (λ c. search needs)
-    (λ c κs. search needs)
-    (λ c κs. search needs)
-    (λ c κs. search needs)
-    (λ c κs. search needs)
-    (λ c. search needs)
-    returns)
+    (tie.spec (λ c. search rules) (λ c κs. search rules) (λ c κs. search rules) (λ c κs. search rules) (λ c κs. search rules) (λ c. search rules) returns)

@@ -7,28 +7,20 @@ use Rattle.truth_entry.specs.Printed.{one_bytes}
 use Rattle.truth_entry.proofs.printed.rows.put_row.Statement.{statement}
 use Rattle.truth_entry.proofs.printed.rows.put_row.Tie as tie
 
-returns : tie.Need-returns
+returns : tie.Need-returns-then-any
 unfolding one_bytes pick bytes
 returns c =
     let p = c.before.before in
     let q = p.before.before.before.before in
-    rw q.before.before.before.if1.true (put_then q.put-bytes.ensures p.put-octal.ensures)
+    rw q.if-any.true (put_then q.put_bytes-next.ensures p.put_octal.ensures)
 
-returns_2 : tie.Need-returns-2
+returns_2 : tie.Need-returns
 unfolding one_bytes pick
 returns_2 c =
     let p = c.before.before in
-    rw p.before.before.if1.false p.put-octal2.ensures
+    rw p.if-any.false p.put_octal-2.ensures
 
 pub put_row_spec : {M : Type 1} → statement M
 put_row_spec =
     tie.close
-    (tie.spec
-    (λ c. search rules)
-    (λ c κs. search rules)
-    (λ c κs. search rules)
-    (λ c. search rules)
-    returns
-    (λ c κs. search rules)
-    (λ c. search rules)
-    returns_2)
+    (tie.spec (λ c κs. search rules) (λ c κs. search rules) (λ c. search rules) returns (λ c κs. search rules) (λ c. search rules) returns_2)

@@ -1,0 +1,18 @@
+-- `fill`: each turn but the last reads at least one byte, and none past the buffer.
+use Rattle.std.proofs.Common.{rules, sym, refl, ◌<◌, length}
+use Rattle.files.proofs.Answers.{more, done}
+use Rattle.files.proofs.fill.Goals as goal
+
+pub returns-in-Done : goal.returns-in-Done
+returns-in-Done g c = done _ c.loop-loaded.at (search rules) c.read-got.result c.in-Done.loaded (sym c.in-Done.ensures) _ refl
+
+reads_on : (g : _) (c : goal.In-More g) → (c.loop-loaded.at < c.in-More.end) × (c.in-More.end < length c.loop-loaded.buffer)
+reads_on g c =
+    let h = more _ c.loop-loaded.at (search rules) c.read-got.result c.in-More.end (sym c.in-More.ensures) in
+    (h.0, search rules)
+
+pub loop-loaded-smaller : goal.loop-loaded-smaller
+loop-loaded-smaller g c = let h = reads_on g c in search rules
+
+pub loop-loaded-preserved : goal.loop-loaded-preserved
+loop-loaded-preserved g c = let h = reads_on g c in search rules

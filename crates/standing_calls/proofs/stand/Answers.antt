@@ -1,0 +1,34 @@
+-- `stand`: the analysis, and its numbers and counts laid into the standing table.
+use Rattle.common_laws.proofs.Base.{refl, arith, rules}
+use Rattle.demands.specs.Answer.{answer_read}
+use Rattle.demands.specs.Outcome.{given_texts}
+use Rattle.demands.proofs.Given.{texts-checked}
+use Rattle.demands.specs.Own.{own_tables}
+use Rattle.standing_calls.proofs.Analysis.{stand-short, told-refused, told-accepted}
+use Rattle.standing_calls.proofs.Calls.{is_short, is_long}
+use Rattle.standing_calls.proofs.stand.Goals as goal
+
+pub returns-then-standing-lt-STANDING : goal.returns-then-standing-lt-STANDING
+unfolding answer_read
+returns-then-standing-lt-STANDING c =
+    rw (c.refusal.ensures.0, c.refusal.ensures.1)
+    (stand-short (given_texts c.args.lib.now c.args.net.now) (texts-checked _ _) c.args.standing.now c.args.report.now (is_short c.args.standing.now c.if-standing-lt-STANDING.true))
+
+pub returns-in-Refused : goal.returns-in-Refused
+unfolding own_tables
+returns-in-Refused c =
+    told-refused (given_texts c.args.lib.now c.args.net.now) (texts-checked _ _) c.args.standing.now c.args.report.now (is_long c.args.standing.now c.if-standing-lt-STANDING.false) _ c.analyse_into-answer.result
+    c.analyse_into-answer.ensures c.in-Refused.r (search rules) _ c.clear_later.ensures
+
+pub returns-in-Accepted : goal.returns-in-Accepted
+unfolding own_tables
+returns-in-Accepted c =
+    told-accepted (given_texts c.args.lib.now c.args.net.now) (texts-checked _ _) c.args.standing.now c.args.report.now (is_long c.args.standing.now c.if-standing-lt-STANDING.false) _ c.analyse_into-answer.result
+    c.analyse_into-answer.ensures c.in-Accepted.s (search rules) _ c.put_standing.ensures
+
+pub put_standing-requires : goal.put_standing-requires
+put_standing-requires c = (omega arith, c.if-standing-lt-STANDING.false, search rules)
+
+pub analyse_into-answer-requires : goal.analyse_into-answer-requires
+analyse_into-answer-requires c =
+    (refl, refl)
