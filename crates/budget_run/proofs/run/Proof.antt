@@ -89,7 +89,7 @@ run_spec =
     let l = looping o in
     let d = l.loop-steps.invariant.1 cells ss h in
     ran_out l.loop-steps.invariant.0 d (o.one_step-cost.ensures cells ss h d.matches) (omega arith))
-    (λ c. let s = began (linked (started (priced (looping c.before).before.before))) in omega (arith, (looping c.before).loop-steps-test.true, s.fits.budget))
+    (λ c. let s = began (linked (started (priced (looping c.before).before.before))) in omega (arith, (looping c.before).loop-steps-test.true, s.ranges.budget))
     (λ c. omega arith)
     (λ c. (
       omega arith,
