@@ -169,6 +169,7 @@ module _ (Cause : ℕ → Type 0) (a b c : ℕ) (p q r : Bool) (order : (a < b) 
   to n (List-Memᴰ-head k) = let e = first_same n true (a, p) k in rw e.0 (on-a (sym e.1))
   to n (List-Memᴰ-tail (List-Memᴰ-head k)) = let e = first_same n true (b, q) k in rw e.0 (on-b (sym e.1))
   to n (List-Memᴰ-tail (List-Memᴰ-tail (List-Memᴰ-head k))) = let e = first_same n true (c, r) k in rw e.0 (on-c (sym e.1))
+  to n (List-Memᴰ-tail (List-Memᴰ-tail (List-Memᴰ-tail x12))) = elim x12 [ ]
 
   three-found : (line n l : ℕ) → weigh line three ≡ refused n l → (l ≡ line) × Least Cause n
   three-found line n l e =
