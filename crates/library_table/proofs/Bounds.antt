@@ -7,15 +7,15 @@ use Rattle.text.specs.Lines.{lines}
 use Rattle.text.proofs.Laws.{length-lines}
 use Rattle.library_table.specs.Cells.{Heading, Cell}
 use Rattle.library_table.specs.declared.Word.{Word}
-use Rattle.library_table.specs.Library.{Fields, Wanted, word_line, end_line, Place, outside, inside, Reading, rows_after, row_line_lem, name_after, name_line, end_after, library_line, library_end, library_from, library}
+use Rattle.library_table.specs.Library.{Fields, Wanted, word_line, end_line, Place, outside, inside, Reading, rows_after, row_line, name_after, name_line, end_after, library_line, library_end, library_from, library}
 
 module _ (n : ℕ) where
   module _ (line : ℕ) (k : line ≤ n) where
     well_formed_lem : {A : Type 0} (o : Option A) → Within text_number n (form No.library_form line o)
     well_formed_lem o = within-form text_number n No.library_form line o refl k
 
-    row_within : (h : Heading) (w : Word) (pins : ℕ) (fs : Fields) → Within text_number n (row_line_lem line h w pins fs)
-    unfolding row_line_lem
+    row_within : (h : Heading) (w : Word) (pins : ℕ) (fs : Fields) → Within text_number n (row_line line h w pins fs)
+    unfolding row_line
     row_within h w pins fs =
         within_bind text_number n (form No.library_form line (rows_after h w fs)) _ (well_formed_lem (rows_after h w fs))
         (λ gs. within-then text_number n (weigh line _) (read gs) (within-weigh text_number n line _ k refl) tt)
@@ -29,7 +29,7 @@ module _ (n : ℕ) where
     line-within : (cells : List Cell) (p : Place) (fs : Fields) → Within text_number n (library_line line cells p fs)
     unfolding library_line
     line-within cells outside fs = within_bind text_number n (name_line line cells fs) _ (name-within cells fs) (λ h. tt)
-    line-within cells (inside (word_line w) c) fs = within_bind text_number n (row_line_lem line c.heading w c.pins fs) _ (row_within c.heading w c.pins fs) (λ gs. tt)
+    line-within cells (inside (word_line w) c) fs = within_bind text_number n (row_line line c.heading w c.pins fs) _ (row_within c.heading w c.pins fs) (λ gs. tt)
     line-within cells (inside end_line c) fs = within-then text_number n (form No.library_form line (end_after fs)) _ (well_formed_lem (end_after fs)) tt
 
     end-within : (cells : List Cell) (p : Place) → Within text_number n (library_end line cells p)

@@ -13,7 +13,7 @@ use Rattle.text.proofs.FieldLaws.{name_form-length}
 use Rattle.library_table.specs.Cells.{Heading, plain, deep, depth_bits, deepest, Row, row_of, Group, Cell, bit}
 use Rattle.library_table.specs.declared.Word.{Word}
 use Rattle.library_table.specs.declared.Word.TheVariants.{CC, CO, SC, SO}
-use Rattle.library_table.specs.Library.{Fields, is_join, is_z, word, rows_form, join_first, with_row, groups_of, any_of, above_rows, above, observes_not, word_bytes, group_count, column_count, idle, excepted, row_idle, rows_after, row_line_lem, Header, heading_of, header_of, name_after, end_after, name_used, pins_bad, name_line, word_line, end_line, line_after, Place, outside, inside, Reading, begun, word_groups, with_groups, library_line, library_end, library_from, library}
+use Rattle.library_table.specs.Library.{Fields, is_join, is_z, word, rows_form, join_first, with_row, groups_of, any_of, above_rows, above, observes_not, word_bytes, group_count, column_count, idle, excepted, row_idle, rows_after, row_line, Header, heading_of, header_of, name_after, end_after, name_used, pins_bad, name_line, word_line, end_line, line_after, Place, outside, inside, Reading, begun, word_groups, with_groups, library_line, library_end, library_from, library}
 use Rattle.library_table.specs.Layout.{ShortName, FewPins, Fits}
 use Rattle.library_table.specs.Sound.{SoundRow, SoundGroup, SoundGroups, SoundHeader, SoundCell, Sound, SoundEntry, SoundPlace, SoundReading}
 
@@ -99,8 +99,8 @@ module _ (w : Word) (n : ℕ) where
         )
 
   -- A row line that is read has the groups that its word and its cell ask for.
-  pub rowLine_sound : (line : ℕ) (h : Heading) (fs : Fields) (gs : List Group) → row_line_lem line h w n fs ≡ read gs → SoundGroups w n gs
-  unfolding row_line_lem row_idle
+  pub rowLine_sound : (line : ℕ) (h : Heading) (fs : Fields) (gs : List Group) → row_line line h w n fs ≡ read gs → SoundGroups w n gs
+  unfolding row_line row_idle
   rowLine_sound line h fs gs =
       bind_read (form No.library_form line (rows_after h w fs)) _ gs
       (λ hs formed. then-read _ (read hs) gs
@@ -173,7 +173,7 @@ library_line-sound line cells outside fs r before p =
     let entry : SoundEntry (length cells) (word_line CC) (begun h) = record { space = known.1; header = known.0; cc = refl; co = refl; sc = refl; so = refl } in
     sound-reading cells (inside (word_line CC) (begun h)) r before entry (cc))
 library_line-sound line cells (inside (word_line w) c) fs r before p =
-    bind_read (row_line_lem line c.heading w c.pins fs) _ r
+    bind_read (row_line line c.heading w c.pins fs) _ r
     (λ gs took last.
     sound-reading cells (inside (line_after w) (with_groups w gs c)) r before (entry_kept (length cells) w c gs p (rowLine_sound w c.pins line c.heading fs gs took)) (cc))
 library_line-sound line cells (inside end_line c) fs r before p =

@@ -147,8 +147,8 @@ unfoldable pub rows_after : Heading → Word → Fields → Option (List Group)
 rows_after h w [] = none
 rows_after h w (f ∷ fs) = pick (same_bytes f (word_bytes w) && rows_form h word fs) (some (groups_of h fs)) none
 
-unfoldable pub row_line_lem : ℕ → Heading → Word → ℕ → Fields → Read (List Group)
-row_line_lem line h w n fs = do
+unfoldable pub row_line : ℕ → Heading → Word → ℕ → Fields → Read (List Group)
+row_line line h w n fs = do
   gs ← form No.library_form line (rows_after h w fs)
   weigh line
       ((No.groups_bad, not (eqb (length gs) (group_count w n)) || any_of above_rows gs)
@@ -247,7 +247,7 @@ library_line line cells outside fs = do
   h ← name_line line cells fs
   read (record { cells = cells; place = inside (word_line CC) (begun h) })
 library_line line cells (inside (word_line w) c) fs = do
-  gs ← row_line_lem line c.heading w c.pins fs
+  gs ← row_line line c.heading w c.pins fs
   read (record { cells = cells; place = inside (line_after w) (with_groups w gs c) })
 library_line line cells (inside end_line c) fs = do
   form No.library_form line (end_after fs)
@@ -271,5 +271,5 @@ library t = library_from 1 (record { cells = []; place = outside }) (lines t)
 
 -- Opens the page's definitions, where a figure computes with them.
 unfoldable pub library_open : ℕ
-unfolding bytes_open lines_open numeral_open refusal_open cells_open holds row_digits is_row is_join is_z may_join may_end rows_form join_first with_row groups_of any_of above_rows above names_none observes_not word_bytes group_count column_count idle empty_group excepted row_idle rows_after row_line_lem heading_of header_of name_after end_after cell_named name_used pins_bad name_line line_after begun word_groups with_groups library_line library_end library_from library
+unfolding bytes_open lines_open numeral_open refusal_open cells_open holds row_digits is_row is_join is_z may_join may_end rows_form join_first with_row groups_of any_of above_rows above names_none observes_not word_bytes group_count column_count idle empty_group excepted row_idle rows_after row_line heading_of header_of name_after end_after cell_named name_used pins_bad name_line line_after begun word_groups with_groups library_line library_end library_from library
 library_open = 0

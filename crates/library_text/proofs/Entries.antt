@@ -12,7 +12,7 @@ use Rattle.text.proofs.FieldLaws.{name_form-length}
 use Rattle.library_table.specs.Cells.{Heading, Group, Cell}
 use Rattle.library_table.specs.declared.Word.{Word}
 use Rattle.library_table.specs.declared.Word.TheVariants.{CC, CO, SC, SO}
-use Rattle.library_table.specs.Library.{Fields, holds, rows_after, name_line, word, rows_form, any_of, above_rows, groups_of, word_bytes, word_line, end_line, line_after, Place, outside, inside, Reading, begun, word_groups, with_groups, row_line_lem, library_line}
+use Rattle.library_table.specs.Library.{Fields, holds, rows_after, name_line, word, rows_form, any_of, above_rows, groups_of, word_bytes, word_line, end_line, line_after, Place, outside, inside, Reading, begun, word_groups, with_groups, row_line, library_line}
 use Rattle.library_table.specs.Layout.{heading_number, library_words, LibraryHolds}
 use Rattle.library_text.specs.Groups.{number_heading}
 use Rattle.library_text.specs.Passes.{counted_words, asked_of, none_passed, stored, row_number, RowsRead}
@@ -200,7 +200,7 @@ module _ (n : ℕ) (cells : List Cell) (w : Word) (c : Cell) (fs : Fields) where
   abbrev heading : Heading
   heading = c.heading
 
-  entry-line : row_number heading w c.pins fs ≡ 0 → row_line_lem n heading w c.pins fs ≡ read (groups_of heading (drop 1 fs))
+  entry-line : row_number heading w c.pins fs ≡ 0 → row_line n heading w c.pins fs ≡ read (groups_of heading (drop 1 fs))
   unfolding pick
   entry-line e = rowLine_number n heading w c.pins fs ∙ rw (eq-eqb (row_number heading w c.pins fs) 0 e)
 

@@ -14,7 +14,7 @@ use Rattle.text.proofs.Cursors.{field_nth, field_last}
 use Rattle.text.proofs.Laws.{fields_from-start}
 use Rattle.library_table.specs.Cells.{Heading, plain, deep, Cell}
 use Rattle.library_table.specs.declared.Word.{Word}
-use Rattle.library_table.specs.Library.{Fields, holds, word, rows_form, groups_of, any_of, above_rows, above, word_bytes, group_count, column_count, row_idle, rows_after, row_line_lem, Header, heading_of, header_of, name_after, end_after, cell_named, name_used, pins_bad, name_line}
+use Rattle.library_table.specs.Library.{Fields, holds, word, rows_form, groups_of, any_of, above_rows, above, word_bytes, group_count, column_count, row_idle, rows_after, row_line, Header, heading_of, header_of, name_after, end_after, cell_named, name_used, pins_bad, name_line}
 use Rattle.library_table.specs.Layout.{heading_number, LibraryHolds}
 use Rattle.library_text.specs.Groups.{number_heading}
 use Rattle.library_text.specs.Passes.{row_number}
@@ -32,19 +32,19 @@ weighed line i j k false false true a p q r = rw (ne_eqb k 0 (λ e. omega arith)
 weighed line i j k false false false a p q r = refl
 
 pub rowLine_number : (line : ℕ) (h : Heading) (w : Word) (n : ℕ) (fs : Fields)
-    → row_line_lem line h w n fs ≡ pick (eqb (row_number h w n fs) 0) (read (groups_of h (drop 1 fs))) (refused (row_number h w n fs) line)
-unfolding row_line_lem row_number rows_after form ◌>>=◌ holds pick
+    → row_line line h w n fs ≡ pick (eqb (row_number h w n fs) 0) (read (groups_of h (drop 1 fs))) (refused (row_number h w n fs) line)
+unfolding row_line row_number rows_after form ◌>>=◌ holds pick
 rowLine_number line h w n [] = refl
 rowLine_number line h w n (f ∷ fs) = by_test (same_bytes f (word_bytes w) && rows_form h word fs) good bad
   where
     good : (same_bytes f (word_bytes w) && rows_form h word fs) ≡ true
-        → row_line_lem line h w n (f ∷ fs) ≡ pick (eqb (row_number h w n (f ∷ fs)) 0) (read (groups_of h fs)) (refused (row_number h w n (f ∷ fs)) line)
+        → row_line line h w n (f ∷ fs) ≡ pick (eqb (row_number h w n (f ∷ fs)) 0) (read (groups_of h fs)) (refused (row_number h w n (f ∷ fs)) line)
     good e =
         rw e
         (weighed line No.groups_bad No.bit_above No.row_idle (not (eqb (length (groups_of h fs)) (group_count w n)) || any_of above_rows (groups_of h fs)) (any_of (any_of (above (column_count w n))) (groups_of h fs)) (row_idle w n (groups_of h fs)) (groups_of h fs) (omega arith) (omega arith) (omega arith))
 
     bad : (same_bytes f (word_bytes w) && rows_form h word fs) ≡ false
-        → row_line_lem line h w n (f ∷ fs) ≡ pick (eqb (row_number h w n (f ∷ fs)) 0) (read (groups_of h fs)) (refused (row_number h w n (f ∷ fs)) line)
+        → row_line line h w n (f ∷ fs) ≡ pick (eqb (row_number h w n (f ∷ fs)) 0) (read (groups_of h fs)) (refused (row_number h w n (f ∷ fs)) line)
     bad e = rw e refl
 
 -- A heading by its number is the one that a field is.

@@ -9,7 +9,7 @@ use Rattle.reading.specs.Refusal.{Read, refused, read, ◌>>=◌, ◌>>◌, weig
 use Rattle.reading.proofs.Laws.{by_test, clash, each_member, refused-read, same-refusal}
 use Rattle.library_table.specs.declared.Word.{Word}
 use Rattle.library_table.specs.Cells.{Group, Cell}
-use Rattle.library_table.specs.Library.{Fields, any_of, above_rows, above, group_count, column_count, row_idle, rows_after, row_line_lem, Header, name_used, pins_bad, name_after, name_line, end_after, Place, outside, inside, word_line, end_line, Reading, line_after, begun, with_groups, library_line, library_end, library_from, library}
+use Rattle.library_table.specs.Library.{Fields, any_of, above_rows, above, group_count, column_count, row_idle, rows_after, row_line, Header, name_used, pins_bad, name_after, name_line, end_after, Place, outside, inside, word_line, end_line, Reading, line_after, begun, with_groups, library_line, library_end, library_from, library}
 use Rattle.text.specs.Lines.{lines}
 use Rattle.netlist_table.specs.Netlist.{Statement, causes, admit, admitted}
 use Rattle.paper_laws.specs.Topmost.{Least, StatementCause, TopmostStatement, TopmostStatement.here, TopmostStatement.later, NetlistTopmost, NameCause, NameCause.used, NameCause.pins, NameCause.many, RowsCause, RowsCause.groups, RowsCause.bits, RowsCause.idle, FormOr, PlaceCause, LineCause, TopmostLine, TopmostLine.here, TopmostLine.later, TopmostLine.broken_off, LibraryTopmost}
@@ -180,7 +180,7 @@ module _ (Cause : ℕ → Type 0) (a b c : ℕ) (p q r : Bool) (order : (a < b) 
   three-refused line n h =
       weigh-least line three three_ascend n (record { is = from n h.is; least = λ m k. h.least m (to m k) })
 
--- The conditions of `name_line` and `row_line_lem`, as they stand there.
+-- The conditions of `name_line` and `row_line`, as they stand there.
 abbrev name_conditions : List Cell → Header → Conditions
 name_conditions cells h =
     (No.name_used, name_used h.name cells) ∷ (No.pins_bad, pins_bad h.pins) ∷ (No.cells_many, leb Size.cells (length cells)) ∷ []
@@ -230,7 +230,7 @@ module _ (line : ℕ) where
   then-stops (read u) a f n l e r = refused-read (sym (rw r.1 at e))
 
   line-found : (cells : List Cell) (p : Place) (fs : Fields) (n l : ℕ) → library_line line cells p fs ≡ refused n l → (l ≡ line) × Least (PlaceCause cells p fs) n
-  unfolding library_line name_line row_line_lem form ◌>>◌ ◌>>=◌
+  unfolding library_line name_line row_line form ◌>>◌ ◌>>=◌
   line-found cells outside fs n l e = by (name_after fs) refl
     where
       by : (o : Option Header) → name_after fs ≡ o → (l ≡ line) × Least (FormOr (name_after fs) (NameCause cells)) n
@@ -248,7 +248,7 @@ module _ (line : ℕ) where
       by (some u) q = refused-read (sym (rw q at e))
 
   line_refused : (cells : List Cell) (p : Place) (fs : Fields) (n : ℕ) → Least (PlaceCause cells p fs) n → library_line line cells p fs ≡ refused n line
-  unfolding library_line name_line row_line_lem form ◌>>◌ ◌>>=◌
+  unfolding library_line name_line row_line form ◌>>◌ ◌>>=◌
   line_refused cells outside fs n h = by (name_after fs) refl h
     where
       by : (o : Option Header) → name_after fs ≡ o → Least (FormOr o (NameCause cells)) n → library_line line cells outside fs ≡ refused n line

@@ -19,7 +19,7 @@ use Rattle.writer.proofs.Octal.{octal_digits, octal_value, octal_read}
 use Rattle.library_table.specs.Cells.{plain, Row, row_of, depth_bits, Group, Cell}
 use Rattle.library_table.specs.declared.Word.{Word}
 use Rattle.library_table.specs.declared.Word.TheVariants.{CC, CO, SC, SO}
-use Rattle.library_table.specs.Library.{Fields, holds, row_digits, is_row, is_join, is_z, Before, word, row, join, may_join, may_end, rows_form, join_first, with_row, groups_of, any_of, above_rows, above, word_bytes, group_count, column_count, row_idle, rows_after, row_line_lem, heading_of, header_of, name_after, end_after, cell_named, name_used, pins_bad, name_line, line_after, begun, with_groups, library_line, library_end, library_from, library}
+use Rattle.library_table.specs.Library.{Fields, holds, row_digits, is_row, is_join, is_z, Before, word, row, join, may_join, may_end, rows_form, join_first, with_row, groups_of, any_of, above_rows, above, word_bytes, group_count, column_count, row_idle, rows_after, row_line, heading_of, header_of, name_after, end_after, cell_named, name_used, pins_bad, name_line, line_after, begun, with_groups, library_line, library_end, library_from, library}
 use Rattle.truth_tables.specs.Entries.{row_number, row_bytes, group_bytes, groups_bytes, line_bytes, name_bytes, entry_bytes}
 
 -- ---- a row's field
@@ -153,8 +153,8 @@ pub record GoodLine (w : Word) (n : ℕ) (gs : List Group) : Type 0 where
   pub within : any_of (any_of (above (column_count w n))) gs ≡ false
   pub useful : row_idle w n gs ≡ false
 
-line_read_lem : (line : ℕ) (w : Word) (n : ℕ) (gs : List Group) → GoodLine w n gs → row_line_lem line plain w n (word_bytes w ∷ groups_fields gs) ≡ read gs
-unfolding row_line_lem rows_after form weigh pick ◌>>=◌ ◌>>◌ may_end
+line_read_lem : (line : ℕ) (w : Word) (n : ℕ) (gs : List Group) → GoodLine w n gs → row_line line plain w n (word_bytes w ∷ groups_fields gs) ≡ read gs
+unfolding row_line rows_after form weigh pick ◌>>=◌ ◌>>◌ may_end
 line_read_lem line w n gs g =
     rw (same_bytes_refl (word_bytes w), line-form gs g.rows word refl, line-groups gs g.rows, eq-eqb (length gs) (group_count w n) g.count, g.few, g.within, g.useful) refl
 

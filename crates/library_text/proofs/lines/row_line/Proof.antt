@@ -1,4 +1,4 @@
--- `row_line_lem` meets its contract.
+-- `row_line` meets its contract.
 use Rattle.common_laws.proofs.Base.{List, ℕ, arith, rules}
 use Rattle.text.specs.Lines.{fields}
 use Rattle.library_table.specs.Library.{Reading}
