@@ -21,8 +21,7 @@ use netlist_admission::some_undeclared;
 use reading::Refusal;
 use table::clear;
 
-// Walks the records, from the progress that the entry and the library led to. By hand, since the covered
-// forms have no slice of structs.
+// Walks the records, from the progress that the entry and the library led to.
 fn walk(table: &mut [u32], library: &[u32], records: &[Record], mut progress: Progress) -> Progress
     ensures { Walked library.now progress table.old records.now result
         table.new × (length table.new ≡ length table.old) }
@@ -91,7 +90,7 @@ fn close(
 }
 
 // Analyses a library text and a netlist of records. Entry refusals leave all that was lent untouched,
-// later ones leave it zero. By hand, since it takes the records.
+// later ones leave it zero.
 pub fn analyse_records(
     lib: &[u8],
     records: &[Record],
