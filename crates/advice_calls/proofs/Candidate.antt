@@ -1,5 +1,6 @@
 -- One line more, by whether it may be padded.
 use Rattle.common_laws.proofs.Base.{Bool, true, false, List, ◌≡◌, sym, ◌∙◌, ap, ℕ, ◌+◌, ◌*◌, ◌-◌, add-one, length, sets}
+use Rattle.std.proofs.Common.{Option}
 use Rattle.sizes.specs.Sizes as Size
 use Rattle.reading.specs.Choice.{pick}
 use Rattle.cost.specs.Cost.{never}
@@ -14,7 +15,7 @@ use Rattle.advice_calls.specs.Parts.{Barred, may_pad, left_of, Stands, TrialsFit
 use Rattle.advice_calls.proofs.LinesLaws.{above, may-allowed}
 use Rattle.advice_calls.proofs.Ranks.{four, RanksLaid}
 
-module _ {library netlist links numbers : List ℕ} {cells : List Cell} {ss : List Statement} (s : Stands library netlist links numbers cells ss)
+module _ {library netlist numbers : List ℕ} {cells : List Cell} {ss : List Statement} (s : Stands library netlist numbers cells ss)
     {forbidden : List ℕ} {barred : List Bool} (b : Barred forbidden barred) where
   module _ (l : ℕ) (range : InRange l) {may : Bool} (told : may ≡ may_pad netlist barred l) where
     is_allowed_lem : may ≡ allowed ss forbidden l
@@ -28,7 +29,7 @@ module _ {library netlist links numbers : List ℕ} {cells : List Cell} {ss : Li
       may_free = allowed-free cells ss s.holds.sound forbidden l (sym is_allowed_lem ∙ t)
 
       module _ (left : Left) (e : left ≡ left_of (leaves cells ss l)) where
-        pub considered : (found r : Advice) → r ≡ before l left.largest found → Considered cells ss forbidden l found r
+        pub considered : (found r : Option Advice) → r ≡ before l left.largest found → Considered cells ss forbidden l found r
         unfolding left_of pick
         considered found r h =
             h ∙ ap (λ (x : Left). before l x.largest found) e ∙ rw (← is_allowed_lem, t)
@@ -46,7 +47,7 @@ module _ {library netlist links numbers : List ℕ} {cells : List Cell} {ss : Li
             }
 
     module _ (t : may ≡ false) where
-      pub passed : (found : Advice) → Considered cells ss forbidden l found found
+      pub passed : (found : Option Advice) → Considered cells ss forbidden l found found
       unfolding pick
       passed found = rw (← is_allowed_lem, t)
 
@@ -57,13 +58,13 @@ module _ {library netlist links numbers : List ℕ} {cells : List Cell} {ss : Li
       unranked count table after h = record { counts = rw (← is_allowed_lem, t); lays = h ∙ rw (← is_allowed_lem, t) }
 
 -- Where the array holds the numbers again, the next line may be tried.
-pub laid-still : {library netlist links numbers before after : List ℕ} {barred : List Bool} → after ≡ numbers → TrialsFit library netlist links numbers before barred
-    → TrialsFit library netlist links numbers after barred
+pub laid-still : {library netlist numbers before after : List ℕ} {barred : List Bool} → after ≡ numbers → TrialsFit library netlist numbers before barred
+    → TrialsFit library netlist numbers after barred
 laid-still e f = record { cells = f.cells; statements = f.statements; forbidden = f.forbidden; stands = f.stands; laid = e; bars = f.bars }
 
 -- ---- the loops' ends
 
-pub best-ends : (cells : List Cell) (ss : List Statement) (forbidden : List ℕ) (l : ℕ) (found : Advice) → l ≡ 0
+pub best-ends : (cells : List Cell) (ss : List Statement) (forbidden : List ℕ) (l : ℕ) (found : Option Advice) → l ≡ 0
     → found ≡ best (λ m. largest (leaves cells ss m)) (above (allowed ss forbidden) l) → found ≡ advice cells ss forbidden
 unfolding advice allowed_lines
 best-ends cells ss forbidden l found is e = rw is at e

@@ -29,6 +29,7 @@ use Rattle.calculation.proofs.Bounds.{observing-visited}
 use Rattle.calculation.proofs.Pads.{both-sound, pad-added, pad-figures}
 use Rattle.calculation.proofs.Visits.{listed_at}
 use Rattle.calculation.proofs.Acceptance.{gate-cell, gate-pin}
+use Rattle.sweep_links.specs.Lines.{Links}
 use Rattle.sweep_links.proofs.Lines.{driver-noted}
 use Rattle.sweep_reruns.specs.Trial.{PadTried}
 use Rattle.sweep_runs.proofs.FourRuns.{stands, observe-fits}
@@ -37,7 +38,8 @@ use Rattle.trial_back.specs.Back as Back
 use Rattle.advice_calls.specs.Parts.{cost_at, Stands}
 use Rattle.advice_calls.proofs.PadCosts.{stands-long, stands-bounded, cost-left, tried-long}
 
-module _ {library netlist links numbers : List ℕ} {cells : List Cell} {ss : List Statement} (s : Stands library netlist links numbers cells ss) where
+module _ {library netlist numbers : List ℕ} {cells : List Cell} {ss : List Statement} (s : Stands library netlist numbers cells ss) {links : List ℕ}
+    (linked : Links library netlist links) where
   -- ---- who stands behind a line
 
   -- The line of a pin stands behind that of its gate.
@@ -49,10 +51,10 @@ module _ {library netlist links numbers : List ℕ} {cells : List Cell} {ss : Li
       let inside : t.0 < get_or netlist 0 0 = omega (arith, t.1, count) in
       let own : gate_line netlist t.0 0 ≡ g.line =
       rw s.holds.statements_stand (Held.own_line s.holds.sound.netlist s.holds.past t.0 t.1) ∙ ap (λ (h : Gate). h.line) t.2 in
-      let fits = observe-fits s.holds s.linked combinational {xs = numbers} (stands-long s) (stands-bounded s) in
+      let fits = observe-fits s.holds combinational {xs = numbers} (stands-long s) (stands-bounded s) in
       let range : (1 ≤ g.line) × (g.line ≤ Size.lines) = unfold InRange in (gate-sound cells ss s.holds.sound.netlist g listed).line in
       let driver : get_or links (Size.drivers_at + g.line) 0 ≡ t.0 + 1 =
-      driver-noted s.linked.driven g.line t.0 range.1 inside own
+      driver-noted linked.driven g.line t.0 range.1 inside own
       (λ h b e. let q : h ≡ t.0 = fits.links_fit.needs.once h t.0 b inside (e ∙ sym own) in omega (arith, q)) in
       let back : get_or links (Size.drivers_at + g.line) 0 - 1 ≡ t.0 = omega (arith, driver) in
       let few : i - 1 < Size.pins = omega (arith, high, (gate-cell s.holds.sound g listed).header.most-pins) in
@@ -178,14 +180,11 @@ module _ {library netlist links numbers : List ℕ} {cells : List Cell} {ss : Li
 
   -- ---- what the walk back asks
 
-  pub back_fits : (l : ℕ) → InRange l → {tried : List ℕ} → length tried ≡ Size.numbers → BackFits netlist links numbers tried l
+  pub back_fits : (l : ℕ) → InRange l → BackFits netlist links l
   unfolding InRange
-  back_fits l range size =
+  back_fits l range =
       record {
         low = range.0;
         most = range.1;
-        lines_stand = stands s.holds;
-        drivers = λ x h. omega (arith, (s.linked.driven.last x h).below);
-        long_standing = stands-long s;
-        long_tried = size;
+        walk = record { lines_stand = stands s.holds; drivers = λ x h. omega (arith, (linked.driven.last x h).below) };
       }

@@ -1,6 +1,7 @@
 -- The lines from the highest down, and which of them may be padded.
-use Rattle.common_laws.proofs.Base.{Bool, true, false, not, ◌&&◌, ◌||◌, List, [], ◌∷◌, ◌≡◌, refl, sym, ◌∙◌, ap, ℕ, zero, suc, ◌-◌, ◌≤◌, ◌<◌, ℕ_discrete, arith, eq-eqb, ne_eqb, eqb}
-use Rattle.common_laws.proofs.Base.{length, get_or, drop, set, replicate, length-replicate, length-set, get_or-replicate, drop-cons, drop-length, get_or-set_same, get_or-set_other}
+use Rattle.common_laws.proofs.Base.{Bool, true, false, not, ◌&&◌, ◌||◌, or-false, List, [], ◌∷◌, ◌≡◌, refl, sym, ◌∙◌, ap, ℕ, zero, suc, add-one, ◌+◌, ◌-◌, ◌≤◌, ◌<◌, ℕ_discrete, arith, eq-eqb, ne_eqb, eqb}
+use Rattle.common_laws.proofs.Base.{length, get_or, take, set, replicate, length-replicate, length-set, get_or-replicate, take-suc, get_or-set_same, get_or-set_other}
+use Rattle.std.proofs.Common.{Option, Some, None}
 use Rattle.sizes.specs.Sizes as Size
 use Rattle.sizes.specs.Places.{output_place}
 use Rattle.reading.specs.Choice.{pick}
@@ -10,11 +11,10 @@ use Rattle.netlist_table.specs.Netlist.{Statement, member, mentioned, is_output,
 use Rattle.netlist_table.specs.Layout.{output_word}
 use Rattle.netlist_table.specs.Lines.{mention_at}
 use Rattle.netlist_table.specs.Sound.{InRange}
-use Rattle.netlist_table.proofs.Causes.{flag-zero}
+use Rattle.netlist_table.proofs.Causes.{flag-zero, member-append}
 use Rattle.netlist_table.proofs.HeldLines.{mention_held}
 use Rattle.netlist_table.proofs.Places.{output-word}
 use Rattle.calculation.specs.declared.Advice.{Advice}
-use Rattle.calculation.specs.declared.Advice.TheVariants.{NoneAllowed}
 use Rattle.calculation.specs.Advice.{allowed, allowed_lines, before, best}
 use Rattle.calculation.specs.Stored.{Holds}
 use Rattle.advice_calls.specs.Parts.{Barred, Bars, may_pad}
@@ -62,7 +62,7 @@ module _ (p : ℕ → Bool) where
   above-few l = where-few (Size.lines - l) (suc l)
 
   -- The best of them, with one more.
-  pub best-next : (f : ℕ → ℕ) (l : ℕ) → 1 ≤ l → l ≤ Size.lines → (found r : Advice) → found ≡ best f (above p l)
+  pub best-next : (f : ℕ → ℕ) (l : ℕ) → 1 ≤ l → l ≤ Size.lines → (found r : Option Advice) → found ≡ best f (above p l)
       → r ≡ pick (p l) (before l (f l) found) found → r ≡ best f (above p (l - 1))
   unfolding best pick
   best-next f l low high found r e s =
@@ -71,7 +71,7 @@ module _ (p : ℕ → Bool) where
       (λ t. rw (t, e, above-next l low high, t))
       (λ t. rw (t, e, above-next l low high, t))
 
-  pub best-begins : (f : ℕ → ℕ) → NoneAllowed ≡ best f (above p Size.lines)
+  pub best-begins : (f : ℕ → ℕ) → None ≡ best f (above p Size.lines)
   unfolding best
   best-begins f = rw above-none
 
@@ -102,46 +102,30 @@ barred-none =
       says = λ l h. get_or-replicate Size.line_places l false false (omega arith);
     }
 
-pub barred-next : (entry : ℕ) (xs : List ℕ) (before after : List Bool) → Barred xs before → Bars entry before after → Barred (entry ∷ xs) after
-unfolding member
-barred-next entry xs before after b s =
+or-turned : (x y : Bool) → (x || y) ≡ (y || x)
+or-turned x true = by_test x (λ t. rw t) (λ t. rw t)
+or-turned x false = by_test x (λ t. rw t) (λ t. rw t)
+
+-- One entry more of a list.
+pub barred-next : (forbidden : List ℕ) (i : ℕ) → i < length forbidden → (before after : List Bool) → Barred (take i forbidden) before
+    → Bars (get_or forbidden i 0) before after → Barred (take (i + 1) forbidden) after
+barred-next forbidden i inside before after b s =
     record {
       size = s.size ∙ b.size;
-      says = λ l h. s.says l h ∙ ap (λ (x : Bool). eqb entry l || x) (b.says l h);
+      says = λ l h. s.says l h ∙ ap (λ (x : Bool). eqb (get_or forbidden i 0) l || x) (b.says l h) ∙ sym (named l);
     }
+  where
+    alone : (l : ℕ) → member l (get_or forbidden i 0 ∷ []) ≡ eqb (get_or forbidden i 0) l
+    alone l = unfold member in or-false (eqb (get_or forbidden i 0) l)
 
--- From the last entry of a list to the first.
-module _ (forbidden : List ℕ) where
-  pub barred-begins : (barred : List Bool) → Barred [] barred → Barred (drop (length forbidden) forbidden) barred
-  barred-begins barred b = rw (drop-length forbidden) b
-
-  pub barred-on : (i : ℕ) → (i ≡ 0 → ⊥) → i ≤ length forbidden → {entry : ℕ} → entry ≡ get_or forbidden (i - 1) 0 → (before after : List Bool)
-      → Barred (drop i forbidden) before → Bars entry before after → Barred (drop (i - 1) forbidden) after
-  barred-on i some high is before after b s =
-      let e : suc (i - 1) ≡ i = omega arith in
-      rw (drop-cons forbidden (i - 1) 0 (omega arith), e) (barred-next (get_or forbidden (i - 1) 0) (drop i forbidden) before after b (rw is at s))
-
-  pub barred-ends : (i : ℕ) → i ≡ 0 → (barred : List Bool) → Barred (drop i forbidden) barred → Barred forbidden barred
-  barred-ends i is barred b = rw is at b
-
--- One entry.
-module _ (entry : ℕ) (before : List Bool) (size : length before ≡ Size.line_places) where
-  pub bars-here : entry < Size.line_places → Bars entry before (set before entry true)
-  bars-here inside = record { size = length-set before entry true; says = λ l h. place l (ℕ_discrete l entry) }
-    where
-      place : (l : ℕ) → Dec (l ≡ entry) → get_or (set before entry true) l false ≡ (eqb entry l || get_or before l false)
-      place l (yes e) = rw (e, get_or-set_same before entry true false (omega arith), eq-eqb entry entry refl)
-      place l (no e) = rw (get_or-set_other before entry l true false e, ne_eqb entry l (λ q. e (sym q)))
-
-  pub bars-none : Size.line_places ≤ entry → Bars entry before before
-  bars-none past = record { size = refl; says = λ l h. rw (ne_eqb entry l (λ q. omega arith)) }
+    named : (l : ℕ) → member l (take (i + 1) forbidden) ≡ (eqb (get_or forbidden i 0) l || member l (take i forbidden))
+    named l =
+        rw (add-one i, take-suc forbidden i 0 inside)
+        (member-append l (take i forbidden) (get_or forbidden i 0 ∷ [])
+        ∙ ap (λ (x : Bool). member l (take i forbidden) || x) (alone l)
+        ∙ or-turned (member l (take i forbidden)) (eqb (get_or forbidden i 0) l))
 
 -- ---- which lines may be padded
-
--- As the code reads them.
-pub may-told : (netlist : List ℕ) (barred : List Bool) (l : ℕ) {said : Bool} {place output : ℕ} → said ≡ mention_at netlist l → place ≡ l
-    → output ≡ get_or netlist (output_place place) 0 → (said && (not (get_or barred place false) && eqb output 0)) ≡ may_pad netlist barred l
-may-told netlist barred l s p o = rw (s, o, p)
 
 module _ {library netlist : List ℕ} {cells : List Cell} {ss : List Statement} (h : Holds library netlist cells ss) where
   output-free : (l : ℕ) → InRange l → eqb (get_or netlist (output_place l) 0) 0 ≡ not (is_output l ss)

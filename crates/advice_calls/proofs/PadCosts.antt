@@ -21,7 +21,6 @@ use Rattle.calculation.specs.declared.Counts.{Counts}
 use Rattle.calculation.specs.Advice.{observed_with, leaves, largest, count_where, figures, total}
 use Rattle.calculation.proofs.Laws.{node-inside, own-figures, numbers-length, numbers-bounded}
 use Rattle.calculation.proofs.Trials.{co-rests, tried-observed}
-use Rattle.sweep_links.specs.Lines.{Links}
 use Rattle.sweep_reruns.specs.Trial.{TryFits, PadTried}
 use Rattle.advice_calls.specs.declared.lines.Left.{Left}
 use Rattle.advice_calls.specs.Parts.{cost_at, left_of, left_with, Stands}
@@ -78,9 +77,11 @@ module _ (p : ℕ → Bool) (f : ℕ → ℕ) (l : ℕ) (left : Left) (e : left 
       (λ t. rw (t, e, above-next p l low high, t))
 
 module _ (p : ℕ → Bool) (f : ℕ → ℕ) where
-  pub left-begins : record { largest = 0; nevers = 0; overs = 0; figure = 0; total = 0 } ≡ left_of (map f (above p Size.lines))
+  pub left-begins : (left : Left) → left.largest ≡ 0 → left.nevers ≡ 0 → left.overs ≡ 0 → left.figure ≡ 0 → left.total ≡ 0 → left ≡ left_of (map f (above p Size.lines))
   unfolding left_of largest count_where figures total
-  left-begins = rw (above-none p)
+  left-begins left a b c d e =
+      let zero : left ≡ record { largest = 0; nevers = 0; overs = 0; figure = 0; total = 0 } = λ i. record { largest = a i; nevers = b i; overs = c i; figure = d i; total = e i } in
+      rw (above-none p) zero
 
 pub left-ends : (netlist : List ℕ) (f : ℕ → ℕ) (l : ℕ) (left : Left) → l ≡ 0 → left ≡ left_of (map f (above (mention_at netlist) l))
     → left ≡ left_of (map f (mentions_held netlist))
@@ -114,7 +115,7 @@ map-where p f g (suc n) first same =
 pub laid_whole : (numbers before after : List ℕ) → length before ≡ Size.numbers → after ≡ numbers ++ drop Size.numbers before → after ≡ numbers
 laid_whole numbers before after size e = e ∙ rw (drop_of_length-le before (le_of_eq size)) (append-nil numbers)
 
-module _ {library netlist links numbers : List ℕ} {cells : List Cell} {ss : List Statement} (s : Stands library netlist links numbers cells ss) where
+module _ {library netlist numbers : List ℕ} {cells : List Cell} {ss : List Statement} (s : Stands library netlist numbers cells ss) where
   analysed-long : length (analysed cells ss).numbers ≡ Size.numbers
   analysed-long = numbers-length cells ss s.holds.sound (prices_of ss) (own-figures s.holds.sound)
 
@@ -125,7 +126,7 @@ module _ {library netlist links numbers : List ℕ} {cells : List Cell} {ss : Li
   stands-bounded = rw s.stand (numbers-bounded cells ss s.holds.sound (prices_of ss) (own-figures s.holds.sound))
 
   module _ (l : ℕ) (range : InRange l) {tried : List ℕ} (laid : tried ≡ numbers) where
-    pub try_fits : TryFits library netlist links tried l
+    pub try_fits : TryFits library netlist tried l
     try_fits =
         record {
           half =
@@ -133,7 +134,6 @@ module _ {library netlist links numbers : List ℕ} {cells : List Cell} {ss : Li
                 cells = cells;
                 statements = ss;
                 holds = s.holds;
-                linked = s.linked;
                 size = ap length laid ∙ stands-long;
                 costs = rw laid stands-bounded;
               };
@@ -168,12 +168,11 @@ module _ {library netlist links numbers : List ℕ} {cells : List Cell} {ss : Li
 
 -- ---- behind the analysis
 
-pub analysis-stands : {library netlist links : List ℕ} {cells : List Cell} {ss : List Statement} → Holds library netlist cells ss → Links library netlist links
+pub analysis-stands : {library netlist : List ℕ} {cells : List Cell} {ss : List Statement} → Holds library netlist cells ss
     → (before : List ℕ) → length before ≡ Size.numbers → (after : List ℕ) {counts : Counts} → Calculated (prices_of ss) cells ss before after counts
-    → Stands library netlist links after cells ss
-analysis-stands {cells = cells} {ss = ss} h linked before size after c =
+    → Stands library netlist after cells ss
+analysis-stands {cells = cells} {ss = ss} h before size after c =
     record {
       holds = h;
-      linked = linked;
       stand = c.numbers ∙ rw (drop_of_length-le before (le_of_eq size)) (append-nil (analysed cells ss).numbers);
     }

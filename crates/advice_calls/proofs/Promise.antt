@@ -5,10 +5,9 @@ use Rattle.sizes.specs.Sizes as Size
 use Rattle.reading.specs.Choice.{pick}
 use Rattle.reading.specs.Numbers as No
 use Rattle.reading.specs.Refusal.{Read, refused, read, ◌>>=◌, ◌>>◌, weigh}
-use Rattle.reading.specs.Verdict.{verdict_read}
+use Rattle.reading.specs.Answer.{answer_read}
 use Rattle.reading.specs.declared.Refusal.{Refusal}
-use Rattle.reading.specs.declared.Verdict.{Verdict}
-use Rattle.reading.specs.declared.Verdict.TheVariants.{Accepted, Refused}
+use Rattle.std.specs.Prelude.{Result, Ok, Err}
 use Rattle.reading.proofs.Laws.{clash, bind_read, then-read}
 use Rattle.cost.specs.Cost.{never}
 use Rattle.library_table.specs.Cells.{Cell}
@@ -16,10 +15,10 @@ use Rattle.netlist_table.specs.Netlist.{Statement}
 use Rattle.netlist_table.specs.Sound.{InRange}
 use Rattle.netlist_table.proofs.Laws.{mentioned-in-range}
 use Rattle.calculation.specs.declared.Advice.{Advice}
-use Rattle.calculation.specs.declared.Advice.TheVariants.{NoneAllowed, Pad}
+use Rattle.std.specs.Prelude.{Option, Some, None}
 use Rattle.calculation.specs.Acceptance.{BothSound}
 use Rattle.calculation.specs.Stored.{Holds}
-use Rattle.calculation.specs.Advice.{allowed, allowed_lines, leaves, advice, Rank, rank_of, rank_words, no_rank, line_rank, ranks, Says, Best}
+use Rattle.calculation.specs.Advice.{pad, allowed, allowed_lines, leaves, advice, Rank, rank_of, rank_words, no_rank, line_rank, ranks, Says, Best}
 use Rattle.calculation.proofs.AdvisedLine.{allowed-said, leaves-exact, advice_says, same-advice, same-ranks, none-pad}
 use Rattle.demands.specs.Call.{Call, comes, answered, left, Kept, answer_entry, answer_call}
 use Rattle.demands.specs.Outcome.{Given, Pair, entry, read_pair, reading, outcome}
@@ -34,8 +33,10 @@ use Rattle.advice_calls.specs.Promise.{HandedOn, AdviceMeans, AdvicePromised, ra
 use Rattle.advice_calls.proofs.LinesLaws.{allowed-few}
 use Rattle.advice_calls.proofs.Ranks.{four, rank-at, rank-past}
 
-pad-same : (k y l x : ℕ) → ◌≡◌ {A = Read Advice} (read (Pad k y)) (read (Pad l x)) → (k ≡ l) × (y ≡ x)
-pad-same k y l x e = (cc, cc)
+pad-same : (k y l x : ℕ) → ◌≡◌ {A = Read (Option Advice)} (read (pad k y)) (read (pad l x)) → (k ≡ l) × (y ≡ x)
+pad-same k y l x e =
+    let r : ◌≡◌ {A = Advice} (record { line = k; largest = y }) (record { line = l; largest = x }) = cc in
+    (ap (λ (a : Advice). a.line) r, ap (λ (a : Advice). a.largest) r)
 
 -- ---- refusals, of both calls
 
@@ -69,9 +70,9 @@ module _ {B : Type 0} (size : ℕ) (g : Given) (checked : Checked g) (before : L
 
 -- ---- an accepted library and netlist
 
-module _ (g : Given) (checked : Checked g) (forbidden before after : List ℕ) (said : Read Advice)
+module _ (g : Given) (checked : Checked g) (forbidden before after : List ℕ) (said : Read (Option Advice))
     (answers : said ≡ answered (advice_call g forbidden before)) (leaving : after ≡ left (advice_call g forbidden before)) where
-  abbrev found : Pair → Advice
+  abbrev found : Pair → Option Advice
   found p = advice p.cells p.statements forbidden
 
   abbrev laid : Pair → List ℕ
@@ -92,10 +93,10 @@ module _ (g : Given) (checked : Checked g) (forbidden before after : List ℕ) (
     unfolding advice_into
     means = by (found p) refl (advice_says p.cells p.statements sound forbidden)
       where
-        by : (a : Advice) → found p ≡ a → Says p.cells p.statements forbidden a → AdviceMeans p forbidden before after said
-        by NoneAllowed e s =
-            let told : said ≡ read NoneAllowed = came.0 ∙ ap read e in
-            let stays : after ≡ before = came.1 ∙ ap (λ (a : Advice). advice_into a before) e in
+        by : (a : Option Advice) → found p ≡ a → Says p.cells p.statements forbidden a → AdviceMeans p forbidden before after said
+        by None e s =
+            let told : said ≡ read None = came.0 ∙ ap read e in
+            let stays : after ≡ before = came.1 ∙ ap (λ (a : Option Advice). advice_into a before) e in
             record {
               named = λ l x q. absurd (none-pad l x (sym told ∙ q));
               none = (λ q. s, λ q. told);
@@ -103,9 +104,11 @@ module _ (g : Given) (checked : Checked g) (forbidden before after : List ℕ) (
               rest = λ i h. ap (λ (xs : List ℕ). get_or xs i 0) stays;
               same = λ others f. came.0 ∙ ap read (same-advice p.cells p.statements forbidden others f);
             }
-        by (Pad k y) e s =
-            let told : said ≡ read (Pad k y) = came.0 ∙ ap read e in
-            let stored : after ≡ set before 0 y = came.1 ∙ ap (λ (a : Advice). advice_into a before) e in
+        by (Some a) e s =
+            let k = a.line in
+            let y = a.largest in
+            let told : said ≡ read (Some a) = came.0 ∙ ap read e in
+            let stored : after ≡ set before 0 y = came.1 ∙ ap (λ (a : Option Advice). advice_into a before) e in
             record {
               named = λ l x q.
                   let is = pad-same k y l x (sym told ∙ q) in (
@@ -123,10 +126,10 @@ module _ (g : Given) (checked : Checked g) (forbidden before after : List ℕ) (
   on = handed-on advice_size g checked before found laid said answers
 
   -- The line that is named is one of the 1,000.
-  line_named : (l x : ℕ) → said ≡ read (Pad l x) → (1 ≤ l) × (l ≤ Size.lines)
+  line_named : (l x : ℕ) → said ≡ read (pad l x) → (1 ≤ l) × (l ≤ Size.lines)
   unfolding InRange
   line_named l x e =
-      let r = on.was_read (Pad l x) e in
+      let r = on.was_read (pad l x) e in
       let p = r.0 in
       let both = sound p r.1 in
       mentioned-in-range p.cells p.statements both.netlist l
@@ -210,8 +213,8 @@ module _ (g : Given) (checked : Checked g) (forbidden before after : List ℕ) (
 
 -- ---- from what was read and what was made of it
 
-module _ (size : ℕ) (g : Given) (checked : Checked g) (before : List ℕ) {library netlist mid : List ℕ} (v : Verdict)
-    (t : TextsRead size g before library netlist mid (verdict_read v)) where
+module _ (size : ℕ) (g : Given) (checked : Checked g) (before : List ℕ) {library netlist mid : List ℕ} (v : Result (Unit {0}) Refusal)
+    (t : TextsRead size g before library netlist mid (answer_read v)) where
   -- What was read, where the call goes on.
   pub record WasRead : Type 0 where
     pub pair : Pair
@@ -219,10 +222,10 @@ module _ (size : ℕ) (g : Given) (checked : Checked g) (before : List ℕ) {lib
     pub same : mid ≡ before
     pub holds : Holds library netlist pair.cells pair.statements
 
-  pub went_on_lem : v ≡ Accepted → WasRead
-  unfolding verdict_read answer_call
+  pub went_on_lem : v ≡ (Ok tt) → WasRead
+  unfolding answer_read answer_call
   went_on_lem e =
-      let r = was_read_lem (texts_call size g before) tt (sym t.kept.answers ∙ ap verdict_read e) in
+      let r = was_read_lem (texts_call size g before) tt (sym t.kept.answers ∙ ap answer_read e) in
       record {
         pair = r.0;
         comes_to = r.1;
@@ -230,29 +233,29 @@ module _ (size : ℕ) (g : Given) (checked : Checked g) (before : List ℕ) {lib
         holds = t.accepted r.0 r.1;
       }
 
-  pub some-held : v ≡ Accepted → Holding library netlist
+  pub some-held : v ≡ (Ok tt) → Holding library netlist
   some-held e = let r = went_on_lem e in record { cells = r.pair.cells; statements = r.pair.statements; holds = r.holds }
 
-  pub room-kept : v ≡ Accepted → size ≤ length mid
+  pub room-kept : v ≡ (Ok tt) → size ≤ length mid
   room-kept e = let r = went_on_lem e in rw r.same (pair_read size g checked before _ _ r.pair r.comes_to).0
 
   -- A refusal, whatever would have been made and written.
-  refused-on : {B : Type 0} (answer : Pair → B) (writes : Pair → List ℕ) (x : Refusal) → v ≡ Refused x
+  refused-on : {B : Type 0} (answer : Pair → B) (writes : Pair → List ℕ) (x : Refusal) → v ≡ Err x
       → (refused x.number x.line ≡ answered (answer_call size g before answer writes)) × (mid ≡ left (answer_call size g before answer writes))
-  unfolding verdict_read
+  unfolding answer_read
   refused-on answer writes x e =
       let k = promises-on size g checked before answer writes (λ p after said. Unit {0}) (λ p. tt) (λ p. before) mid x.number x.line
-      (subst (λ (o : Read (Unit {0})). Kept (texts_call size g before) mid o) (ap verdict_read e) t.kept) in
+      (subst (λ (o : Read (Unit {0})). Kept (texts_call size g before) mid o) (ap answer_read e) t.kept) in
       (k.kept.answers, k.kept.leaves)
 
-module _ (g : Given) (checked : Checked g) (forbidden before : List ℕ) {library netlist mid : List ℕ} (v : Verdict) where
-  module _ (t : TextsRead advice_size g before library netlist mid (verdict_read v)) where
-    pub advice-refused : (x : Refusal) → v ≡ Refused x → AdvicePromised g forbidden before mid (refused x.number x.line)
+module _ (g : Given) (checked : Checked g) (forbidden before : List ℕ) {library netlist mid : List ℕ} (v : Result (Unit {0}) Refusal) where
+  module _ (t : TextsRead advice_size g before library netlist mid (answer_read v)) where
+    pub advice-refused : (x : Refusal) → v ≡ Err x → AdvicePromised g forbidden before mid (refused x.number x.line)
     advice-refused x e =
         let r = refused-on advice_size g checked before v t _ _ x e in
         advice-kept g checked forbidden before mid (refused x.number x.line) r.0 r.1
 
-    pub advice-found : v ≡ Accepted → (a : Advice) → ((cells : List Cell) (ss : List Statement) → Holds library netlist cells ss → a ≡ advice cells ss forbidden)
+    pub advice-found : v ≡ (Ok tt) → (a : Option Advice) → ((cells : List Cell) (ss : List Statement) → Holds library netlist cells ss → a ≡ advice cells ss forbidden)
         → (after : List ℕ) → after ≡ advice_into a mid → AdvicePromised g forbidden before after (read a)
     unfolding answer_call comes
     advice-found e a is after wrote =
@@ -261,13 +264,13 @@ module _ (g : Given) (checked : Checked g) (forbidden before : List ℕ) {librar
         let same = is r.pair.cells r.pair.statements r.holds in
         advice-kept g checked forbidden before after (read a) (ap read same ∙ sym s.0) (wrote ∙ (λ i. advice_into (same i) (r.same i)) ∙ sym s.1)
 
-  module _ (t : TextsRead Size.ranks g before library netlist mid (verdict_read v)) where
-    pub ranks-refused : (x : Refusal) → v ≡ Refused x → RankPromised g forbidden before mid (refused x.number x.line)
+  module _ (t : TextsRead Size.ranks g before library netlist mid (answer_read v)) where
+    pub ranks-refused : (x : Refusal) → v ≡ Err x → RankPromised g forbidden before mid (refused x.number x.line)
     ranks-refused x e =
         let r = refused-on Size.ranks g checked before v t _ _ x e in
         ranks-kept g checked forbidden before mid (refused x.number x.line) r.0 r.1
 
-    pub ranks-made : v ≡ Accepted → (n : ℕ) (after : List ℕ) → ((cells : List Cell) (ss : List Statement) → Holds library netlist cells ss → AllRanked cells ss forbidden mid after n)
+    pub ranks-made : v ≡ (Ok tt) → (n : ℕ) (after : List ℕ) → ((cells : List Cell) (ss : List Statement) → Holds library netlist cells ss → AllRanked cells ss forbidden mid after n)
         → RankPromised g forbidden before after (read n)
     unfolding answer_call comes
     ranks-made e n after is =

@@ -1,16 +1,13 @@
 -- What the adviser's two calls answer, and what they leave in the answer that they are lent. Document 02, K13.
-use Rattle.std.specs.Prelude.{List, ◌++◌, ℕ, length, set, drop}
+use Rattle.std.specs.Prelude.{List, ◌++◌, ℕ, length, set, drop, Option, Some, None}
 use Rattle.sizes.specs.Sizes as Size
 use Rattle.reading.specs.Refusal.{Read, refused, read}
 use Rattle.calculation.specs.declared.Advice.{Advice}
-use Rattle.calculation.specs.declared.Advice.TheVariants.{NoneAllowed, Pad}
 use Rattle.calculation.specs.Advice.{allowed_lines, advice, ranks}
 use Rattle.demands.specs.Call.{Call, answer_call}
 use Rattle.demands.specs.Outcome.{Given, Pair}
-use Rattle.advice_calls.specs.declared.Advised.{Advised}
-use Rattle.advice_calls.specs.declared.Advised.TheVariants as Advises
-use Rattle.advice_calls.specs.declared.Ranked.{Ranked}
-use Rattle.advice_calls.specs.declared.Ranked.TheVariants as Ranks
+use Rattle.std.specs.Prelude.{Result, Ok, Err}
+use Rattle.reading.specs.declared.Refusal.{Refusal}
 
 -- ---- the advice
 
@@ -19,19 +16,14 @@ abbrev pub advice_size : ℕ
 advice_size = 1
 
 -- "The answer carries that largest CO", in its first entry; where no line is allowed there is none, and it stays as it was.
-unfoldable pub advice_into : Advice → List ℕ → List ℕ
-advice_into NoneAllowed before = before
-advice_into (Pad l x) before = set before 0 x
+unfoldable pub advice_into : Option Advice → List ℕ → List ℕ
+advice_into None before = before
+advice_into (Some a) before = set before 0 a.largest
 
-abbrev pub advice_call : Given → List ℕ → List ℕ → Call Pair Advice (List ℕ)
+abbrev pub advice_call : Given → List ℕ → List ℕ → Call Pair (Option Advice) (List ℕ)
 advice_call g forbidden before =
     answer_call advice_size g before (λ p. advice p.cells p.statements forbidden)
     (λ p. advice_into (advice p.cells p.statements forbidden) before)
-
--- What an answer of the code says.
-unfoldable pub advised_read : Advised → Read Advice
-advised_read (Advises.Found a) = read a
-advised_read (Advises.Refused r) = refused r.number r.line
 
 -- ---- the ranks
 
@@ -41,7 +33,3 @@ abbrev pub rank_call : Given → List ℕ → List ℕ → Call Pair ℕ (List �
 rank_call g forbidden before =
     answer_call Size.ranks g before (λ p. length (allowed_lines p.statements forbidden))
     (λ p. ranks p.cells p.statements forbidden ++ drop Size.ranks before)
-
-unfoldable pub ranked_read : Ranked → Read ℕ
-ranked_read (Ranks.Lines n) = read n
-ranked_read (Ranks.Refused r) = refused r.number r.line

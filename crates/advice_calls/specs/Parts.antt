@@ -9,11 +9,11 @@ use Rattle.library_table.specs.Cells.{Cell}
 use Rattle.netlist_table.specs.Netlist.{Statement, member}
 use Rattle.netlist_table.specs.Lines.{mention_at}
 use Rattle.netlist_table.specs.Sound.{InRange}
+use Rattle.std.specs.Prelude.{Option}
 use Rattle.calculation.specs.declared.Advice.{Advice}
 use Rattle.calculation.specs.Advice.{allowed, allowed_lines, leaves, largest, before, count_where, figures, total, line_rank, ranks}
 use Rattle.calculation.specs.Calculation.{analysed}
 use Rattle.calculation.specs.Stored.{Holds}
-use Rattle.sweep_links.specs.Lines.{Links}
 use Rattle.advice_calls.specs.declared.lines.Left.{Left}
 
 -- ---- which lines may be padded
@@ -68,17 +68,16 @@ pub record Holding (library netlist : List ℕ) : Type 0 where
   pub statements : List Statement
   pub holds : Holds library netlist cells statements
 
--- The same with their links, and the numbers of their analysis.
-pub record Stands (library netlist links numbers : List ℕ) (cells : List Cell) (ss : List Statement) : Type 0 where
+-- The same with the numbers of their analysis.
+pub record Stands (library netlist numbers : List ℕ) (cells : List Cell) (ss : List Statement) : Type 0 where
   pub holds : Holds library netlist cells ss
-  pub linked : Links library netlist links
   pub stand : numbers ≡ (analysed cells ss).numbers
 
 -- One of the 1,000 lines may be tried, in an array that holds the numbers.
-pub record TryLineFits (library netlist links numbers tried : List ℕ) (l : ℕ) : Type 0 where
+pub record TryLineFits (library netlist numbers tried : List ℕ) (l : ℕ) : Type 0 where
   pub cells : List Cell
   pub statements : List Statement
-  pub stands : Stands library netlist links numbers cells statements
+  pub stands : Stands library netlist numbers cells statements
   pub laid : tried ≡ numbers
   pub range : InRange l
 
@@ -88,18 +87,18 @@ pub record LineTried (cells : List Cell) (ss : List Statement) (l : ℕ) (number
   pub back : after ≡ numbers
 
 -- Any line may be, with the lines that some list names barred.
-pub record TrialsFit (library netlist links numbers tried : List ℕ) (barred : List Bool) : Type 0 where
+pub record TrialsFit (library netlist numbers tried : List ℕ) (barred : List Bool) : Type 0 where
   pub cells : List Cell
   pub statements : List Statement
   pub forbidden : List ℕ
-  pub stands : Stands library netlist links numbers cells statements
+  pub stands : Stands library netlist numbers cells statements
   pub laid : tried ≡ numbers
   pub bars : Barred forbidden barred
 
 -- ---- what the loops come to
 
 -- The advice of one line more, below those that were tried.
-abbrev pub Considered : List Cell → List Statement → List ℕ → ℕ → Advice → Advice → Type 0
+abbrev pub Considered : List Cell → List Statement → List ℕ → ℕ → Option Advice → Option Advice → Type 0
 Considered cells ss forbidden l found r =
     r ≡ pick (allowed ss forbidden l) (before l (largest (leaves cells ss l)) found) found
 

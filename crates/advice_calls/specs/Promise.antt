@@ -6,8 +6,8 @@ use Rattle.reading.specs.Numbers as No
 use Rattle.reading.specs.Refusal.{Read, refused, read}
 use Rattle.cost.specs.Cost.{never}
 use Rattle.calculation.specs.declared.Advice.{Advice}
-use Rattle.calculation.specs.declared.Advice.TheVariants.{NoneAllowed, Pad}
-use Rattle.calculation.specs.Advice.{allowed, leaves, Rank, rank_of, advice, ranks, LeavesExact, Best, ForbidSame}
+use Rattle.std.specs.Prelude.{Option, None}
+use Rattle.calculation.specs.Advice.{pad, allowed, leaves, Rank, rank_of, advice, ranks, LeavesExact, Best, ForbidSame}
 use Rattle.demands.specs.Call.{Call, comes, Promises}
 use Rattle.demands.specs.Outcome.{Given, Pair, Accepted, outcome}
 use Rattle.demands.specs.Own.{own_tables}
@@ -28,17 +28,17 @@ pub record HandedOn {B : Type 0} (size : ℕ) (g : Given) (c : Call Pair B (List
 
 -- Of an accepted library and netlist: which line is named, with the answer's first entry; "with no such line, and only then, it
 -- says so"; entries past the first keep their values; and what else the list names, and how often, counts for nothing.
-pub record AdviceMeans (p : Pair) (forbidden before after : List ℕ) (said : Read Advice) : Type 0 where
-  pub named : (l x : ℕ) → said ≡ read (Pad l x) → (get_or after 0 0 ≡ x) × Best p.cells p.statements forbidden l x
-  pub none : (said ≡ read NoneAllowed) ↔ ((m : ℕ) → allowed p.statements forbidden m ≡ false)
-  pub none_leaves : said ≡ read NoneAllowed → after ≡ before
+pub record AdviceMeans (p : Pair) (forbidden before after : List ℕ) (said : Read (Option Advice)) : Type 0 where
+  pub named : (l x : ℕ) → said ≡ read (pad l x) → (get_or after 0 0 ≡ x) × Best p.cells p.statements forbidden l x
+  pub none : (said ≡ read None) ↔ ((m : ℕ) → allowed p.statements forbidden m ≡ false)
+  pub none_leaves : said ≡ read None → after ≡ before
   pub rest : (i : ℕ) → 1 ≤ i → get_or after i 0 ≡ get_or before i 0
   pub same : (others : List ℕ) → ForbidSame p.statements forbidden others → said ≡ read (advice p.cells p.statements others)
 
-pub record AdvicePromised (g : Given) (forbidden before after : List ℕ) (said : Read Advice) : Type 0 where
+pub record AdvicePromised (g : Given) (forbidden before after : List ℕ) (said : Read (Option Advice)) : Type 0 where
   pub promises : Promises (advice_call g forbidden before) (λ p after said. AdviceMeans p forbidden before after said) after said
   pub handed_on : HandedOn advice_size g (advice_call g forbidden before) said
-  pub line : (l x : ℕ) → said ≡ read (Pad l x) → (1 ≤ l) × (l ≤ Size.lines)
+  pub line : (l x : ℕ) → said ≡ read (pad l x) → (1 ≤ l) × (l ≤ Size.lines)
 
 -- ---- the ranks
 

@@ -4,50 +4,42 @@
 // For this crate: `advise_on` and `rank_on`, over the tables of an accepted library and netlist. A pad is tried by
 // `sweep_reruns::try_pad` in a second array that holds the numbers of one analysis, and what it changed is put back by
 // `trial_back::put_back` (D199). specs/Parts.antt says what the parts ask and leave.
-ghost use Rattle.std.specs.Prelude.{true, false, List, [], map, ◌≡◌, ℕ, ◌*◌, ◌-◌, ◌≤◌, ◌<◌, max, length, get_or, replicate};
+ghost use Rattle.std.specs.Prelude.{true, false, List, [], map, ◌≡◌, ℕ, ◌*◌, ◌-◌, ◌≤◌, ◌<◌, length, replicate};
 ghost use Rattle.std.proofs.lemmas.List.Edits.{sets};
 ghost use Rattle.sizes.specs.Sizes as Size;
 ghost use Rattle.reading.specs.Choice.{pick};
-ghost use Rattle.cost.specs.Cost.{◌⊕◌};
 ghost use Rattle.library_table.specs.Cells.{Cell};
 ghost use Rattle.netlist_table.specs.Netlist as Netlist;
 ghost use Rattle.netlist_table.specs.Lines.{mention_at, mentions_held};
 ghost use Rattle.netlist_table.specs.Sound.{InRange};
 ghost use Rattle.calculation.specs.Advice.{leaves, before, advice, rank_words};
 ghost use Rattle.calculation.specs.Stored.{Holds};
+ghost use Rattle.sweep_links.specs.Lines.{Links};
 ghost use Rattle.advice_calls.specs.Parts.{Barred, Bars, may_pad, cost_at, left_of, left_with};
 ghost use Rattle.trial_back.specs.Back.{BackFits, BehindOf, Changed};
 ghost use Rattle.advice_calls.specs.Parts.{Holding, Stands, TryLineFits, LineTried, TrialsFit};
 ghost use Rattle.advice_calls.specs.Parts.{Considered, LineRanked, AllRanked};
 
 use calculation::Advice;
-use cost::{MOST, NEVER, OVER, Spatial};
+use cost::{Cost, MOST, NEVER, OVER, Spatial};
 use netlist_table::lines::{mentioned, unchecked};
+use sweep_links::circuit::Circuit;
 use sweep_links::link;
 use sweep_reruns::try_pad;
 use sweep_runs::{calculate, hand_over};
 use sweep_start::LOW;
-use sweep_sums::kinds::wide;
 use trial_back::put_back;
 
 // ---- which lines may be padded
 
 // Bars the line that an entry of the list names, where it names one.
 fn bar(barred: &mut [bool; sizes::LINE_PLACES], entry: usize)
-    requires { length barred.old ≡ Size.line_places }
     ensures { Bars entry barred.old barred.new }
 {
+    // No `get_mut`: the archive as WebAssembly takes no optional reference (pads/narrow).
     if entry < sizes::LINE_PLACES {
         barred[entry] = true;
     }
-}
-
-// What an entry of the list names.
-fn entry_at(forbidden: &[u32], i: usize) -> usize
-    requires { i < length forbidden.now }
-    ensures { result ≡ get_or forbidden.now i 0 }
-{
-    wide(forbidden[i])
 }
 
 // Bars all lines that the list names.
@@ -55,30 +47,25 @@ fn bar_all(barred: &mut [bool; sizes::LINE_PLACES], forbidden: &[u32])
     requires { Barred [] barred.old }
     ensures { Barred forbidden.now barred.new }
 {
-    let mut i = forbidden.len();
-    while i != 0 {
-        i -= 1;
-        bar(barred, entry_at(forbidden, i));
+    for &entry in forbidden {
+        bar(barred, entry as usize);
     }
 }
 
 // "Allowed means mentioned, not forbidden and not already an output".
 fn may_pad(netlist: &[u32], barred: &[bool; sizes::LINE_PLACES], l: u32) -> bool
-    requires { (l ≤ Size.lines) × (Size.netlist ≤ length netlist.now)
-        × (length barred.now ≡ Size.line_places) }
+    requires { (l ≤ Size.lines) × (Size.netlist ≤ length netlist.now) }
     ensures { result ≡ may_pad netlist.now barred.now l }
 {
-    let place = wide(l);
-    let output = unchecked::output_of(netlist, place);
-    let said = mentioned(netlist, l);
-    said & (!barred[place] & (output == 0))
+    let place = l as usize;
+    mentioned(netlist, l) && !barred[place] && unchecked::output_of(netlist, place) == 0
 }
 
 // ---- what a pad leaves
 
 // Of the CO of some lines: the largest, how many are never and how many over, the largest that is a figure, and the sum
 // of those.
-#[derive(Clone, Copy)]
+#[derive(Clone, Copy, Default)]
 struct Left {
     largest: u32,
     nevers: u32,
@@ -87,49 +74,32 @@ struct Left {
     total: u32,
 }
 
-fn greater(a: u32, b: u32) -> u32
-    ensures { result ≡ max a b }
-{
-    if a < b { b } else { a }
-}
-
-fn sum(a: u32, b: u32) -> u32
-    ensures { result ≡ a ⊕ b }
-{
-    let both = Spatial(a).plus(Spatial(b));
-    both.0
-}
-
 // One cost more.
 fn with_cost(left: Left, x: u32) -> Left
     requires { (left.nevers < Size.lines) × (left.overs < Size.lines) }
     ensures { result ≡ left_with x left }
 {
-    let largest = greater(x, left.largest);
+    let largest = x.max(left.largest);
     if x <= MOST {
+        let cost: Spatial = Cost(x);
         return Left {
             largest,
-            nevers: left.nevers,
-            overs: left.overs,
-            figure: greater(x, left.figure),
-            total: sum(x, left.total),
+            figure: x.max(left.figure),
+            total: cost.plus(Cost(left.total)).0,
+            ..left
         };
     }
     if x == OVER {
         return Left {
             largest,
-            nevers: left.nevers,
             overs: left.overs + 1,
-            figure: left.figure,
-            total: left.total,
+            ..left
         };
     }
     Left {
         largest,
         nevers: left.nevers + 1,
-        overs: left.overs,
-        figure: left.figure,
-        total: left.total,
+        ..left
     }
 }
 
@@ -142,7 +112,7 @@ fn with_line(netlist: &[u32], numbers: &[u32; sizes::NUMBERS], left: Left, l: u3
     if mentioned(netlist, l) {
         with_cost(
             left,
-            numbers[(wide(l) - 1) * sizes::COSTS + sizes::OBSERVED_AT],
+            numbers[(l as usize - 1) * sizes::COSTS + sizes::OBSERVED_AT],
         )
     } else {
         left
@@ -153,34 +123,25 @@ fn with_line(netlist: &[u32], numbers: &[u32; sizes::NUMBERS], left: Left, l: u3
 fn left_by(netlist: &[u32], numbers: &[u32; sizes::NUMBERS]) -> Left
     ensures { result ≡ left_of (map (cost_at numbers.now) (mentions_held netlist.now)) }
 {
-    let mut left = Left {
-        largest: 0,
-        nevers: 0,
-        overs: 0,
-        figure: 0,
-        total: 0,
-    };
-    let mut l: u32 = sizes::LINES as u32;
-    while l != 0 {
+    let mut left = Left::default();
+    for l in (1..sizes::LINE_PLACES as u32).rev() {
         left = with_line(netlist, numbers, left, l);
-        l -= 1;
     }
     left
 }
 
 // Puts back what a trial on a line changed; where the walk ends early, the numbers are laid anew.
 fn lay_back(
-    netlist: &[u32],
-    links: &[sizes::Link; sizes::LINKS],
+    circuit: &Circuit,
     numbers: &[u32; sizes::NUMBERS],
     tried: &mut [u32; sizes::NUMBERS],
     line: usize,
 )
-    requires { BackFits netlist.now links.now numbers.now tried.old line }
+    requires { BackFits circuit.now.netlist.now circuit.now.links.now line }
     ensures { Changed numbers.now tried.old
-        (BehindOf netlist.now links.now) line → tried.new ≡ numbers.now }
+        (BehindOf circuit.now.netlist.now circuit.now.links.now) line → tried.new ≡ numbers.now }
 {
-    if put_back(netlist, links, numbers, tried, line) {
+    if put_back(circuit.netlist, circuit.links, numbers, tried, line) {
         return;
     }
     hand_over(numbers, tried);
@@ -188,56 +149,56 @@ fn lay_back(
 
 // What a pad on a line leaves, tried in an array that holds the numbers of the analysis, and holds them again behind it.
 fn try_line(
-    library: &[u32],
-    netlist: &[u32],
-    links: &[sizes::Link; sizes::LINKS],
+    circuit: &Circuit,
     numbers: &[u32; sizes::NUMBERS],
     tried: &mut [u32; sizes::NUMBERS],
     l: u32,
 ) -> Left
-    requires { TryLineFits library.now netlist.now links.now numbers.now tried.old l }
+    requires { TryLineFits circuit.now.library.now circuit.now.netlist.now numbers.now tried.old l }
     ensures { (cells : List Cell) (ss : List Netlist.Statement)
-        → Stands library.now netlist.now links.now numbers.now cells ss
+        → Stands circuit.now.library.now circuit.now.netlist.now numbers.now cells ss
         → Netlist.mentioned l ss ≡ true → Netlist.is_output l ss ≡ false
         → LineTried cells ss l numbers.now tried.new result }
 {
-    let _count = try_pad(library, netlist, links, tried, l);
-    let left = left_by(netlist, tried);
-    lay_back(netlist, links, numbers, tried, wide(l));
+    let _count = try_pad(circuit, tried, l);
+    let left = left_by(circuit.netlist, tried);
+    lay_back(circuit, numbers, tried, l as usize);
     left
 }
 
 // ---- the advice
 
 // The better of a line and what was found among the lines above it: "Ties go to the lowest line".
-fn better(found: Advice, l: u32, x: u32) -> Advice
+#[tactic(auto, unfolding(calculation::specs::Advice::before, reading::specs::Choice::pick))]
+fn better(found: Option<Advice>, l: u32, x: u32) -> Option<Advice>
     ensures { result ≡ before l x found }
 {
     match found {
-        Advice::NoneAllowed => Advice::Pad(l, x),
-        Advice::Pad(_, y) => { if x <= y { Advice::Pad(l, x) } else { found } }
+        Some(best) if best.largest < x => found,
+        _ => Some(Advice {
+            line: l,
+            largest: x,
+        }),
     }
 }
 
 // The advice with one line more, below those that were tried.
 fn consider(
-    library: &[u32],
-    netlist: &[u32],
-    links: &[sizes::Link; sizes::LINKS],
+    circuit: &Circuit,
     numbers: &[u32; sizes::NUMBERS],
     tried: &mut [u32; sizes::NUMBERS],
     barred: &[bool; sizes::LINE_PLACES],
-    found: Advice,
+    found: Option<Advice>,
     l: u32,
-) -> Advice
-    requires { TrialsFit library.now netlist.now links.now numbers.now tried.old barred.now × InRange l }
+) -> Option<Advice>
+    requires { TrialsFit circuit.now.library.now circuit.now.netlist.now numbers.now tried.old barred.now × InRange l }
     ensures { ((cells : List Cell) (ss : List Netlist.Statement) (forbidden : List ℕ)
-        → Stands library.now netlist.now links.now numbers.now cells ss
+        → Stands circuit.now.library.now circuit.now.netlist.now numbers.now cells ss
         → Barred forbidden barred.now → Considered cells ss forbidden l found result)
         × (tried.new ≡ numbers.now) }
 {
-    if may_pad(netlist, barred, l) {
-        let left = try_line(library, netlist, links, numbers, tried, l);
+    if may_pad(circuit.netlist, barred, l) {
+        let left = try_line(circuit, numbers, tried, l);
         better(found, l, left.largest)
     } else {
         found
@@ -246,36 +207,33 @@ fn consider(
 
 // The best of all allowed lines, from the highest down.
 fn choose(
-    library: &[u32],
-    netlist: &[u32],
-    links: &[sizes::Link; sizes::LINKS],
+    circuit: &Circuit,
     numbers: &[u32; sizes::NUMBERS],
     tried: &mut [u32; sizes::NUMBERS],
     barred: &[bool; sizes::LINE_PLACES],
-) -> Advice
-    requires { TrialsFit library.now netlist.now links.now numbers.now tried.old barred.now }
+) -> Option<Advice>
+    requires { TrialsFit circuit.now.library.now circuit.now.netlist.now numbers.now tried.old barred.now }
     ensures { (cells : List Cell) (ss : List Netlist.Statement) (forbidden : List ℕ)
-        → Stands library.now netlist.now links.now numbers.now cells ss
+        → Stands circuit.now.library.now circuit.now.netlist.now numbers.now cells ss
         → Barred forbidden barred.now → result ≡ advice cells ss forbidden }
 {
-    let mut found = Advice::NoneAllowed;
-    let mut l: u32 = sizes::LINES as u32;
-    while l != 0 {
-        found = consider(library, netlist, links, numbers, tried, barred, found, l);
-        l -= 1;
+    let mut found = None;
+    for l in (1..sizes::LINE_PLACES as u32).rev() {
+        found = consider(circuit, numbers, tried, barred, found, l);
     }
     found
 }
 
 // ---- the ranks
 
-// Lays the four numbers of a line.
+// Lays the four numbers of a line. The table stays a slice whose length is asked for: it may be longer, and its front as an
+// array would be an optional reference (pads/narrow).
 fn put_rank(table: &mut [u32], l: u32, nevers: u32, overs: u32, largest: u32, total: u32)
     requires { (1 ≤ l) × (l ≤ Size.lines) × (Size.ranks ≤ length table.old) }
     ensures { table.new ≡ sets table.old ((l - 1) * Size.rank_words)
         (rank_words (record { nevers = nevers; overs = overs; largest = largest; total = total })) }
 {
-    let at = (wide(l) - 1) * sizes::RANK_WORDS;
+    let at = (l as usize - 1) * sizes::RANK_WORDS;
     table[at] = nevers;
     table[at + 1] = overs;
     table[at + 2] = largest;
@@ -284,9 +242,7 @@ fn put_rank(table: &mut [u32], l: u32, nevers: u32, overs: u32, largest: u32, to
 
 // The rank of a line; how many lines are allowed with it, below those that were tried.
 fn rank_line(
-    library: &[u32],
-    netlist: &[u32],
-    links: &[sizes::Link; sizes::LINKS],
+    circuit: &Circuit,
     numbers: &[u32; sizes::NUMBERS],
     tried: &mut [u32; sizes::NUMBERS],
     barred: &[bool; sizes::LINE_PLACES],
@@ -294,16 +250,16 @@ fn rank_line(
     count: usize,
     l: u32,
 ) -> usize
-    requires { TrialsFit library.now netlist.now links.now numbers.now tried.old barred.now × InRange l
+    requires { TrialsFit circuit.now.library.now circuit.now.netlist.now numbers.now tried.old barred.now × InRange l
         × (Size.ranks ≤ length table.old) × (count < Size.lines) }
     ensures { ((cells : List Cell) (ss : List Netlist.Statement) (forbidden : List ℕ)
-        → Stands library.now netlist.now links.now numbers.now cells ss
+        → Stands circuit.now.library.now circuit.now.netlist.now numbers.now cells ss
         → Barred forbidden barred.now
         → LineRanked cells ss forbidden l count table.old table.new result)
         × (tried.new ≡ numbers.now) }
 {
-    if may_pad(netlist, barred, l) {
-        let left = try_line(library, netlist, links, numbers, tried, l);
+    if may_pad(circuit.netlist, barred, l) {
+        let left = try_line(circuit, numbers, tried, l);
         put_rank(table, l, left.nevers, left.overs, left.figure, left.total);
         count + 1
     } else {
@@ -314,28 +270,22 @@ fn rank_line(
 
 // The ranks of all lines, from the highest down; how many are allowed.
 fn rank_lines(
-    library: &[u32],
-    netlist: &[u32],
-    links: &[sizes::Link; sizes::LINKS],
+    circuit: &Circuit,
     numbers: &[u32; sizes::NUMBERS],
     tried: &mut [u32; sizes::NUMBERS],
     barred: &[bool; sizes::LINE_PLACES],
     table: &mut [u32],
 ) -> usize
-    requires { TrialsFit library.now netlist.now links.now numbers.now tried.old barred.now
+    requires { TrialsFit circuit.now.library.now circuit.now.netlist.now numbers.now tried.old barred.now
         × (Size.ranks ≤ length table.old) }
     ensures { (cells : List Cell) (ss : List Netlist.Statement) (forbidden : List ℕ)
-        → Stands library.now netlist.now links.now numbers.now cells ss
+        → Stands circuit.now.library.now circuit.now.netlist.now numbers.now cells ss
         → Barred forbidden barred.now
         → AllRanked cells ss forbidden table.old table.new result }
 {
     let mut count = 0;
-    let mut l: u32 = sizes::LINES as u32;
-    while l != 0 {
-        count = rank_line(
-            library, netlist, links, numbers, tried, barred, table, count, l,
-        );
-        l -= 1;
+    for l in (1..sizes::LINE_PLACES as u32).rev() {
+        count = rank_line(circuit, numbers, tried, barred, table, count, l);
     }
     count
 }
@@ -349,18 +299,18 @@ fn analyse(
     links: &mut [sizes::Link; sizes::LINKS],
     numbers: &mut [u32; sizes::NUMBERS],
 )
-    requires { Holding library.now netlist.now × (links.old ≡ replicate Size.links 0)
-        × (length numbers.old ≡ Size.numbers) }
-    ensures { (cells : List Cell) (ss : List Netlist.Statement)
+    requires { Holding library.now netlist.now × (links.old ≡ replicate Size.links 0) }
+    ensures linked { Links library.now netlist.now links.new }
+    ensures stands { (cells : List Cell) (ss : List Netlist.Statement)
         → Holds library.now netlist.now cells ss
-        → Stands library.now netlist.now links.new numbers.new cells ss }
+        → Stands library.now netlist.now numbers.new cells ss }
 {
     link(library, netlist, links);
     let _counts = calculate(library, netlist, numbers, LOW);
 }
 
 // The advice over the tables of what was read.
-pub fn advise_on(library: &[u32], netlist: &[u32], forbidden: &[u32]) -> Advice
+pub fn advise_on(library: &[u32], netlist: &[u32], forbidden: &[u32]) -> Option<Advice>
     requires { Holding library.now netlist.now }
     ensures { (cells : List Cell) (ss : List Netlist.Statement)
         → Holds library.now netlist.now cells ss
@@ -369,11 +319,16 @@ pub fn advise_on(library: &[u32], netlist: &[u32], forbidden: &[u32]) -> Advice
     let mut links: [sizes::Link; sizes::LINKS] = [0; sizes::LINKS];
     let mut numbers = [0u32; sizes::NUMBERS];
     analyse(library, netlist, &mut links, &mut numbers);
+    let circuit = Circuit {
+        library,
+        netlist,
+        links: &links,
+    };
     let mut barred = [false; sizes::LINE_PLACES];
     bar_all(&mut barred, forbidden);
     let mut tried = [0u32; sizes::NUMBERS];
     hand_over(&numbers, &mut tried);
-    choose(library, netlist, &links, &numbers, &mut tried, &barred)
+    choose(&circuit, &numbers, &mut tried, &barred)
 }
 
 // The ranks over them; how many lines are allowed.
@@ -386,11 +341,14 @@ pub fn rank_on(library: &[u32], netlist: &[u32], forbidden: &[u32], table: &mut 
     let mut links: [sizes::Link; sizes::LINKS] = [0; sizes::LINKS];
     let mut numbers = [0u32; sizes::NUMBERS];
     analyse(library, netlist, &mut links, &mut numbers);
+    let circuit = Circuit {
+        library,
+        netlist,
+        links: &links,
+    };
     let mut barred = [false; sizes::LINE_PLACES];
     bar_all(&mut barred, forbidden);
     let mut tried = [0u32; sizes::NUMBERS];
     hand_over(&numbers, &mut tried);
-    rank_lines(
-        library, netlist, &links, &numbers, &mut tried, &barred, table,
-    )
+    rank_lines(&circuit, &numbers, &mut tried, &barred, table)
 }

@@ -1,23 +1,20 @@
 -- What is printed of two texts, from the answer of the analysis on tables of the published sizes and a buffer of 65,536 bytes:
 -- 1 cannot arise there, and 17 goes by that buffer.
-use Rattle.common_laws.proofs.Base.{◌||◌, List, [], ◌∷◌, ◌++◌, ◌≡◌, refl, sym, ap, ◌∙◌, ℕ, ◌+◌, ◌≤◌, arith, ltb, length, drop, take-append_seam}
+use Rattle.std.specs.Prelude.{Result, Ok, Err}
+use Rattle.common_laws.proofs.Base.{◌||◌, List, [], ◌∷◌, ◌++◌, ◌≡◌, refl, sym, ap, ◌∙◌, ℕ, arith, ltb, length, drop, take-append_seam}
 use Rattle.sizes.specs.Sizes as Size
-use Rattle.reading.specs.Choice.{pick}
 use Rattle.reading.specs.Numbers as No
 use Rattle.reading.specs.Refusal.{Read, refused, read, ◌>>=◌, ◌>>◌, weigh}
 use Rattle.reading.specs.declared.Refusal.{Refusal}
 use Rattle.reading.proofs.Laws.{refused-read, then-read}
-use Rattle.text.specs.Bytes.{bytes}
 use Rattle.library_table.specs.Cells.{Cell}
 use Rattle.netlist_table.specs.Netlist.{Statement}
 use Rattle.writer.specs.Put.{Put}
 use Rattle.writer.specs.Refused.{refusal_bytes}
 use Rattle.writer.specs.Buffer.{text_within, length_read, shown, ShownBy}
 use Rattle.writer.proofs.Buffer.{answer-prints}
-use Rattle.demands.specs.declared.Answer.{Answer}
-use Rattle.demands.specs.declared.Answer.TheVariants.{Accepted, Refused}
 use Rattle.demands.specs.declared.Summary.{Summary}
-use Rattle.demands.specs.Answer.{answer_read}
+use Rattle.reading.specs.Answer.{answer_read}
 use Rattle.demands.specs.Demands.{Promised}
 use Rattle.demands.specs.Outcome as O
 use Rattle.demands.proofs.EntryChecks.{own-entry}
@@ -125,11 +122,11 @@ module _ (lib net before : List ℕ) where
 
 -- ---- the same by the answer of the code
 
-pub accepted-shown : (r : Answer) (s : Summary) (report : List ℕ) → r ≡ Accepted s → ShownBy (report_length (answer_read r)) report report s.length
+pub accepted-shown : (r : Result Summary Refusal) (s : Summary) (report : List ℕ) → r ≡ Ok s → ShownBy (report_length (answer_read r)) report report s.length
 unfolding answer_read report_length ShownBy ◌>>=◌
 accepted-shown r s report e = rw e (refl, refl)
 
-pub refused-shown : (r : Answer) (x : Refusal) (report last : List ℕ) (next : ℕ) → r ≡ Refused x → Put 0 (refusal_bytes x.number x.line) report last next
+pub refused-shown : (r : Result Summary Refusal) (x : Refusal) (report last : List ℕ) (next : ℕ) → r ≡ Err x → Put 0 (refusal_bytes x.number x.line) report last next
     → ShownBy (report_length (answer_read r)) report last next
 unfolding answer_read report_length ShownBy ◌>>=◌
 refused-shown r x report last next e put = rw e put

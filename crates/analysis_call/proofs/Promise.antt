@@ -1,5 +1,6 @@
 -- From where reading left a call, and its end, to its promise.
-use Rattle.common_laws.proofs.Base.{List, ◌++◌, ◌≡◌, refl, sym, ap, ◌∙◌, ℕ, ltb, length, drop}
+use Rattle.std.specs.Prelude.{Ok, Err}
+use Rattle.common_laws.proofs.Base.{List, ◌++◌, ◌≡◌, refl, ◌∙◌, ℕ, ltb, length, drop}
 use Rattle.sizes.specs.Sizes as Size
 use Rattle.reading.specs.Choice.{pick}
 use Rattle.reading.specs.Numbers as No
@@ -11,13 +12,12 @@ use Rattle.netlist_table.specs.Netlist.{Statement}
 use Rattle.demands.specs.declared.Summary.{Summary}
 use Rattle.demands.specs.Answer.{lent_of}
 use Rattle.demands.specs.Demands.{Promised}
-use Rattle.demands.specs.Outcome.{Given, Lent, Pair, Accepted, entry, outcome, reading, conclude, answer, reports, left, left_from, left_later, filled, zeroed}
+use Rattle.demands.specs.Outcome.{Given, Lent, Accepted, entry, outcome, reading, conclude, answer, reports, left, left_from, left_later, filled, zeroed}
 use Rattle.demands.proofs.Acceptance.{concluded, concludes}
 use Rattle.demands.proofs.Given.{Checked}
 use Rattle.demands.proofs.Promise.{keeps}
-use Rattle.analysis_texts.specs.declared.Progress.{Progress}
-use Rattle.analysis_texts.specs.declared.Progress.TheVariants.{Unrefused, AtEntry, Later}
-use Rattle.analysis_texts.specs.Progress.{PairStands, Reached}
+use Rattle.analysis_texts.specs.declared.Stop.TheVariants.{AtEntry, Later}
+use Rattle.analysis_texts.specs.Progress.{Progress, PairStands, Reached}
 use Rattle.analysis_texts.proofs.Reached.{stands_hold, zeroed-same}
 use Rattle.analysis_call.specs.Finished.{made, Told, Finished}
 
@@ -37,11 +37,11 @@ module _ (g : Given) (m : Lent) (checked : Checked g) (library' netlist' : List 
   pub promised : (s : Progress) → Reached g (entry g m) m.library m.netlist library' netlist' s → (after : Lent) (said : Read Summary)
       → Finished s (lent_of library' netlist' m.numbers m.report) after said → Promised g m after said
   unfolding Reached Finished outcome answer left left_from left_later reading ◌>>◌ ◌>>=◌
-  promised (AtEntry r) h after said f =
+  promised (Err (AtEntry r)) h after said f =
       keeps g checked m after said (rw h.0 f.0) (rw h.0 (f.1 ∙ (λ i. lent_of (h.1 i) (h.2 i) m.numbers m.report)))
-  promised (Later r) h after said f =
+  promised (Err (Later r)) h after said f =
       keeps g checked m after said (rw (h.0, h.1) f.0) (rw (h.0, h.1) (f.1 ∙ zeroed-same m library' netlist' same-library same-netlist))
-  promised Unrefused h after said f =
+  promised (Ok u) h after said f =
       let b = h.1 in
       let cells = b.pair.cells in
       let ss = b.pair.statements in
@@ -62,9 +62,9 @@ module _ (g : Given) (m : Lent) (checked : Checked g) (library' netlist' numbers
       → Told s library' netlist' m.numbers m.report numbers' report' said
       → (said ≡ answer (outcome g m)) × (report' ≡ (left g m).report)
   unfolding Reached Told outcome answer left left_from left_later zeroed reading ◌>>◌ ◌>>=◌
-  told-promised (AtEntry r) h t = rw h.0 t
-  told-promised (Later r) h t = rw (h.0, h.1) t
-  told-promised Unrefused h t =
+  told-promised (Err (AtEntry r)) h t = rw h.0 t
+  told-promised (Err (Later r)) h t = rw (h.0, h.1) t
+  told-promised (Ok u) h t =
       let b = h.1 in
       let cells = b.pair.cells in
       let ss = b.pair.statements in

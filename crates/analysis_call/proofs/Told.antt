@@ -1,11 +1,13 @@
 -- The report that the code writes from the tables is that of the definitions.
-use Rattle.common_laws.proofs.Base.{Bool, true, false, List, [], ◌++◌, ◌≡◌, refl, sym, ap, ◌∙◌, ℕ, ◌+◌, ◌≤◌, ltb, length, drop, List-get_or-append}
+use Rattle.std.specs.Prelude.{Result, Ok, Err}
+use Rattle.common_laws.proofs.Base.{Bool, true, false, List, [], ◌++◌, ◌≡◌, refl, sym, ℕ, ◌≤◌, ltb, length, drop, List-get_or-append}
 use Rattle.sizes.specs.Sizes as Size
 use Rattle.reading.specs.Choice.{pick}
 use Rattle.reading.specs.Numbers as No
 use Rattle.reading.specs.Refusal.{Read, refused, read, ◌>>◌, weigh}
 use Rattle.reading.specs.declared.Refusal.{Refusal}
 use Rattle.reading.proofs.Laws.{by_test}
+use Rattle.reading.specs.Answer.{answer_read}
 use Rattle.library_table.specs.Cells.{Cell}
 use Rattle.netlist_table.specs.Netlist.{Statement, mentioned, some_range, high_price}
 use Rattle.netlist_table.specs.Layout.{netlist_words}
@@ -20,9 +22,7 @@ use Rattle.calculation.specs.declared.Counts.{Counts}
 use Rattle.calculation.proofs.Laws.{end-figures, numbers-length}
 use Rattle.writer.specs.Put.{Put}
 use Rattle.writer.proofs.Steps.{put_then}
-use Rattle.writer.specs.declared.Written.{Written}
-use Rattle.writer.specs.declared.Written.TheVariants.{Length, Refused}
-use Rattle.writer.specs.Buffer.{text_within, length_read, written_read, Writes}
+use Rattle.writer.specs.Buffer.{text_within, length_read, Writes}
 use Rattle.report_text.specs.Report.{high_line}
 use Rattle.report_text.specs.Arguments.{marked}
 use Rattle.report_text.specs.Arguments as R
@@ -86,8 +86,8 @@ concludes-written cells ss space =
 -- ---- the two ends of `conclude`
 
 module _ (cells : List Cell) (ss : List Statement) (nb rb na ra : List ℕ) (k : Counts) (c : Calculated (prices_of ss) cells ss nb na k)
-    (w : Written) (written : Writes (text_within No.report_long (length rb) (reports cells ss)) rb ra w) where
-  ends : Concluded cells ss nb rb na ra (with_counts k (written_read w))
+    (w : Result ℕ Refusal) (written : Writes (text_within No.report_long (length rb) (reports cells ss)) rb ra w) where
+  ends : Concluded cells ss nb rb na ra (with_counts k (answer_read w))
   ends =
       record {
         answers = rw (written.answers, c.counts) (sym (concludes-written cells ss (length rb)));
@@ -95,10 +95,10 @@ module _ (cells : List Cell) (ss : List Statement) (nb rb na ra : List ℕ) (k :
         report = written.leaves;
       }
 
-  pub ends-long : (x : Refusal) → w ≡ Refused x → Concluded cells ss nb rb na ra (refused x.number x.line)
-  unfolding written_read with_counts
+  pub ends-long : (x : Refusal) → w ≡ Err x → Concluded cells ss nb rb na ra (refused x.number x.line)
+  unfolding answer_read with_counts
   ends-long x e = rw e at ends
 
-  pub ends-fitting : (n : ℕ) → w ≡ Length n → Concluded cells ss nb rb na ra (read (record { length = n; counts = k }))
-  unfolding written_read with_counts
+  pub ends-fitting : (n : ℕ) → w ≡ Ok n → Concluded cells ss nb rb na ra (read (record { length = n; counts = k }))
+  unfolding answer_read with_counts
   ends-fitting n e = rw e at ends

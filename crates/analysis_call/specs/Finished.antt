@@ -1,5 +1,5 @@
 -- What the end of a call does: the numbers and the report of what was read, 17, and clearing.
-use Rattle.std.specs.Prelude.{List, ◌++◌, ◌≡◌, ℕ, length, drop, replicate}
+use Rattle.std.specs.Prelude.{List, ◌++◌, ◌≡◌, ℕ, length, drop, replicate, Ok, Err}
 use Rattle.sizes.specs.Sizes as Size
 use Rattle.reading.specs.Numbers as No
 use Rattle.reading.specs.Refusal.{Read, refused, read}
@@ -10,8 +10,8 @@ use Rattle.calculation.specs.Stored.{Holds, Ready}
 use Rattle.writer.specs.Buffer.{text_within, left_by}
 use Rattle.demands.specs.declared.Summary.{Summary}
 use Rattle.demands.specs.Outcome as O
-use Rattle.analysis_texts.specs.declared.Progress.{Progress}
-use Rattle.analysis_texts.specs.declared.Progress.TheVariants.{Unrefused, AtEntry, Later}
+use Rattle.analysis_texts.specs.Progress.{Progress}
+use Rattle.analysis_texts.specs.declared.Stop.TheVariants.{AtEntry, Later}
 
 -- The calculation and the report, or both reports, of accepted cells and statements.
 pub record Concluded (cells : List Cell) (ss : List Statement) (numbers_before report_before numbers_after report_after : List ℕ)
@@ -44,21 +44,21 @@ pub record Holding (library netlist : List ℕ) : Type 0 where
 
 -- What the end asks: where nothing is refused, the tables hold what was read.
 abbrev pub ReadyIfUnrefused : Progress → List ℕ → List ℕ → List ℕ → Type 0
-ReadyIfUnrefused s library netlist numbers = s ≡ Unrefused → Ready library netlist numbers
+ReadyIfUnrefused s library netlist numbers = s ≡ Ok tt → Ready library netlist numbers
 
 -- The end of a call: a refusal at entry leaves what was lent, a later one clears it; else the numbers are made.
 unfoldable pub Finished : Progress → O.Lent → O.Lent → Read Summary → Type 0
-Finished (AtEntry r) before after said = (said ≡ refused r.number r.line) × (after ≡ before)
-Finished (Later r) before after said = (said ≡ refused r.number r.line) × (after ≡ O.zeroed before)
-Finished Unrefused before after said =
+Finished (Err (AtEntry r)) before after said = (said ≡ refused r.number r.line) × (after ≡ before)
+Finished (Err (Later r)) before after said = (said ≡ refused r.number r.line) × (after ≡ O.zeroed before)
+Finished (Ok u) before after said =
     (cells : List Cell) (ss : List Statement) → Holds before.library before.netlist cells ss
     → Made (O.conclude cells ss (length before.report)) before after said
 
 -- The end of a call whose tables are its own, and are not spoken of after a refusal.
 unfoldable pub Told : Progress → (library netlist numbers report numbers' report' : List ℕ) → Read Summary → Type 0
-Told (AtEntry r) library netlist numbers report numbers' report' said = (said ≡ refused r.number r.line) × (report' ≡ report)
-Told (Later r) library netlist numbers report numbers' report' said =
+Told (Err (AtEntry r)) library netlist numbers report numbers' report' said = (said ≡ refused r.number r.line) × (report' ≡ report)
+Told (Err (Later r)) library netlist numbers report numbers' report' said =
     (said ≡ refused r.number r.line) × (report' ≡ replicate (length report) 0)
-Told Unrefused library netlist numbers report numbers' report' said =
+Told (Ok u) library netlist numbers report numbers' report' said =
     (cells : List Cell) (ss : List Statement) → Holds library netlist cells ss
     → Concluded cells ss numbers report numbers' report' said

@@ -1,9 +1,9 @@
 -- What `put_analysis` does: it puts what `scoap` prints (demands/specs/Printed.antt) into a buffer.
-use Rattle.std.specs.Prelude.{List, ◌≡◌, ℕ, length, take}
+use Rattle.std.specs.Prelude.{List, ◌≡◌, ℕ, take}
 use Rattle.sizes.specs.Sizes as Size
 use Rattle.reading.specs.Refusal.{Read, refused, read}
 use Rattle.writer.specs.Refused.{refusal_bytes}
-use Rattle.writer.specs.Buffer.{shown, Prints}
+use Rattle.writer.specs.Buffer.{Prints}
 use Rattle.demands.specs.declared.Summary.{Summary}
 use Rattle.demands.specs.Demands.{Promised}
 use Rattle.demands.specs.Outcome.{Lent, left, given_texts}

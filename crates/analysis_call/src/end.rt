@@ -4,21 +4,20 @@
 // For the crates above, once the library and the netlist are read: `finish`, which `analysis_call` and `analysis_records` call,
 // and `tell`, the same for a caller whose tables nobody sees afterwards.
 ghost use Rattle.std.specs.Prelude.{List};
+ghost use Rattle.reading.specs.Answer.{answer_read};
 ghost use Rattle.library_table.specs.Cells.{Cell};
 ghost use Rattle.netlist_table.specs.Netlist.{Statement};
 ghost use Rattle.calculation.specs.Stored.{Holds, Ready};
 ghost use Rattle.writer.specs.Put.{Put};
-ghost use Rattle.demands.specs.Answer.{answer_read, lent_of};
+ghost use Rattle.demands.specs.Answer.{lent_of};
 ghost use Rattle.demands.specs.Outcome.{second};
 ghost use Rattle.analysis_call.specs.Finished.{Concluded, Holding, ReadyIfUnrefused, Told, Finished};
 
-use analysis_texts::Progress;
-use analysis_texts::entry::clear_all;
-use calculation::Counts;
-use demands::{Answer, Summary};
-use reading::REPORT_LONG;
+use analysis_texts::Stop;
+use analysis_texts::entry::{clear_all, stopped_all};
+use demands::Summary;
+use reading::{Cause, Refusal};
 use sweep_start::{HIGH, LOW};
-use writer::Written;
 
 // The second report of a netlist with ranges, at HIGH, behind the first; nothing where there is no range.
 // Its numbers are its own: the lent table keeps those at LOW.
@@ -38,7 +37,12 @@ fn put_second(library: &[u32], netlist: &[u32], report: &mut [u8], at: usize) ->
 }
 
 // Calculates and reports, from tables that hold an accepted library and netlist.
-fn conclude(library: &[u32], netlist: &[u32], numbers: &mut [u32], report: &mut [u8]) -> Answer
+fn conclude(
+    library: &[u32],
+    netlist: &[u32],
+    numbers: &mut [u32],
+    report: &mut [u8],
+) -> Result<Summary, Refusal>
     requires { Ready library.now netlist.now numbers.old }
     ensures { (cells : List Cell) (ss : List Statement)
         → Holds library.now netlist.now cells ss
@@ -48,14 +52,8 @@ fn conclude(library: &[u32], netlist: &[u32], numbers: &mut [u32], report: &mut 
     let counts = sweep_runs::calculate(library, netlist, numbers, LOW);
     let low = report_text::put_report(report, 0, netlist, numbers, counts);
     let end = put_second(library, netlist, report, low);
-    let written = writer::close(report, end, REPORT_LONG);
-    match written {
-        Written::Refused(r) => Answer::Refused(r),
-        Written::Length(n) => Answer::Accepted(Summary {
-            length: n,
-            counts: counts,
-        }),
-    }
+    let length = writer::close(report, end, Cause::ReportLong.number())?;
+    Ok(Summary { length, counts })
 }
 
 // The end of a call whose tables are its own: its refusal, or the numbers and the report. After a refusal nobody sees the
@@ -65,19 +63,20 @@ pub fn tell(
     netlist: &[u32],
     numbers: &mut [u32],
     report: &mut [u8],
-    progress: Progress,
-) -> Answer
+    progress: Result<(), Stop>,
+) -> Result<Summary, Refusal>
     requires { ReadyIfUnrefused progress library.now netlist.now numbers.old }
     ensures { Told progress library.now netlist.now numbers.old report.old
         numbers.new report.new (answer_read result) }
 {
+    // The one call that clears its report alone: the others ask `stopped` or `stopped_all` of `analysis_texts::entry`.
     match progress {
-        Progress::AtEntry(r) => Answer::Refused(r),
-        Progress::Later(r) => {
+        Err(Stop::AtEntry(r)) => Err(r),
+        Err(Stop::Later(r)) => {
             table::clear_bytes(report);
-            Answer::Refused(r)
+            Err(r)
         }
-        Progress::Unrefused => conclude(library, netlist, numbers, report),
+        Ok(()) => conclude(library, netlist, numbers, report),
     }
 }
 
@@ -87,8 +86,8 @@ pub fn finish(
     netlist: &mut [u32],
     numbers: &mut [u32],
     report: &mut [u8],
-    progress: Progress,
-) -> Answer
+    progress: Result<(), Stop>,
+) -> Result<Summary, Refusal>
     requires { ReadyIfUnrefused progress library.old netlist.old numbers.old }
     ensures { Finished progress
         (lent_of library.old netlist.old numbers.old report.old)
@@ -96,20 +95,13 @@ pub fn finish(
         (answer_read result) }
 {
     match progress {
-        Progress::AtEntry(r) => Answer::Refused(r),
-        Progress::Later(r) => {
-            clear_all(library, netlist, numbers, report);
-            Answer::Refused(r)
-        }
-        Progress::Unrefused => {
+        Err(stop) => Err(stopped_all(stop, library, netlist, numbers, report)),
+        Ok(()) => {
             let answer = conclude(library, netlist, numbers, report);
-            match answer {
-                Answer::Accepted(s) => Answer::Accepted(s),
-                Answer::Refused(r) => {
-                    clear_all(library, netlist, numbers, report);
-                    Answer::Refused(r)
-                }
+            if answer.is_err() {
+                clear_all(library, netlist, numbers, report);
             }
+            answer
         }
     }
 }

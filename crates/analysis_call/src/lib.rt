@@ -14,7 +14,8 @@ pub mod end;
 pub mod printed;
 
 ghost use Rattle.sizes.specs.Sizes as Size;
-ghost use Rattle.demands.specs.Answer.{answer_read, lent_of};
+ghost use Rattle.reading.specs.Answer.{answer_read};
+ghost use Rattle.demands.specs.Answer.{lent_of};
 ghost use Rattle.demands.specs.Demands.{Promised};
 ghost use Rattle.demands.specs.Outcome.{given_texts};
 ghost use Rattle.analysis_texts.specs.Tables.{ZeroIfOwn, Zero};
@@ -22,8 +23,9 @@ ghost use Rattle.analysis_call.specs.Own.{ReportPromised};
 
 use crate::end::{finish, tell};
 use analysis_texts::{Tables, read_texts};
-use demands::Answer;
+use demands::Summary;
 use netlist_table::Rules;
+use reading::Refusal;
 
 // As `analyse`, where the library and the netlist table may be the caller's own.
 pub fn analyse_into(
@@ -34,7 +36,7 @@ pub fn analyse_into(
     numbers: &mut [u32],
     report: &mut [u8],
     tables: Tables,
-) -> Answer
+) -> Result<Summary, Refusal>
     requires { ZeroIfOwn tables Size.library library.old × ZeroIfOwn tables Size.netlist netlist.old }
     ensures { Promised (given_texts lib.now net.now)
         (lent_of library.old netlist.old numbers.old report.old)
@@ -62,7 +64,7 @@ pub fn report_into(
     netlist: &mut [u32],
     found: &mut [u32],
     report: &mut [u8],
-) -> Answer
+) -> Result<Summary, Refusal>
     requires { Zero library.old netlist.old }
     ensures { ReportPromised (given_texts lib.now net.now)
         (lent_of library.old netlist.old found.old report.old)
@@ -89,7 +91,7 @@ pub fn analyse(
     netlist: &mut [u32],
     numbers: &mut [u32],
     report: &mut [u8],
-) -> Answer
+) -> Result<Summary, Refusal>
     ensures { Promised (given_texts lib.now net.now)
         (lent_of library.old netlist.old numbers.old report.old)
         (lent_of library.new netlist.new numbers.new report.new)

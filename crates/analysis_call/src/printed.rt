@@ -5,7 +5,6 @@
 ghost use Rattle.analysis_call.specs.Printed.{Printed};
 
 use analysis_texts::Tables;
-use demands::Answer;
 
 // What `scoap` prints of a library and a netlist: the report, or the refusal. Its tables are its own, and its report
 // buffer is the one lent, which is long enough for every report.
@@ -25,7 +24,7 @@ pub fn put_analysis(lib: &[u8], net: &[u8], report: &mut [u8; sizes::REPORT_BYTE
         Tables::Own,
     );
     match answer {
-        Answer::Accepted(s) => s.length,
-        Answer::Refused(r) => writer::put_refusal(report, 0, r),
+        Ok(s) => s.length,
+        Err(r) => writer::show(report, Err(r)),
     }
 }

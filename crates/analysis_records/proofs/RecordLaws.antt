@@ -1,6 +1,10 @@
 -- What the proofs of this crate cite of the definitions.
-use Rattle.common_laws.proofs.Base.{Bool, true, false, ◌&&◌, List, [], ◌∷◌, ◌++◌, inl, Option, ◌≡◌, refl, sym, ap, ◌∙◌, ℕ, ◌+◌, ◌≤◌, ◌<◌, add-one, arith, eqb, ltb, length, get_or}
-use Rattle.common_laws.proofs.Base.{drop, drop_of_length-le, drop-cons, ne_eqb, le-ltb, eqb-true, eqb-false}
+use Rattle.std.specs.Prelude.{Option as Maybe, Some, None, Result, Ok, Err, cond}
+use Rattle.std.specs.Bool.{then_some}
+use Rattle.std.specs.List.{list_all, list_any, position_or_len}
+use Rattle.std.specs.Option.{unwrap_or}
+use Rattle.common_laws.proofs.Base.{Bool, true, false, ◌&&◌, ◌||◌, List, [], ◌∷◌, ◌++◌, Option, ◌≡◌, refl, sym, ap, ◌∙◌, ℕ, suc, ◌+◌, ◌≤◌, arith, eqb, ltb, length}
+use Rattle.common_laws.proofs.Base.{take, drop, ne_eqb, le-ltb, ltb-false, eqb-true, eqb-false}
 use Rattle.sizes.specs.Sizes as Size
 use Rattle.table.specs.Blocks.{fitted}
 use Rattle.reading.specs.Choice.{pick}
@@ -11,49 +15,50 @@ use Rattle.library_table.proofs.Names.{holds-told}
 use Rattle.netlist_table.specs.declared.RawStatement.{RawStatement}
 use Rattle.netlist_table.specs.Netlist.{Statement, line_bad, any_line_bad}
 use Rattle.netlist_table.specs.Admission.{StandsFor, Admits, words_after}
-use Rattle.analysis_texts.specs.declared.Progress.{Progress}
-use Rattle.analysis_texts.specs.declared.Progress.TheVariants.{Unrefused}
+use Rattle.reading.specs.Cause.{refusal_number}
+use Rattle.reading.specs.declared.Cause.{Cause}
+use Rattle.reading.specs.declared.Refusal.{Refusal}
+use Rattle.reading.proofs.Causes.{number-test, at_line}
 use Rattle.analysis_records.specs.declared.record.Record.{Record}
 use Rattle.analysis_records.specs.Records.{all_zero, pins_before, ends_in_zeros, mark_form, gate_form, record_form}
-use Rattle.analysis_records.specs.Steps.{progress_after, RecordChecked, Stepped}
+use Rattle.analysis_records.specs.Steps.{answer_after, RecordChecked, Checked}
 
--- ---- the pins from a place on
+-- ---- the pins
 
-module _ (ps : List ℕ) (i : ℕ) where
-  module _ (h : i < length ps) where
-    pub before-end : get_or ps i 0 ≡ 0 → pins_before (drop i ps) ≡ []
-    unfolding pins_before pick
-    before-end z = rw (drop-cons ps i 0 h, z)
+pub zeros_all : (ps : List ℕ) → list_all (λ p. eqb p 0) ps ≡ all_zero ps
+unfolding all_zero
+zeros_all [] = refl
+zeros_all (p ∷ ps) = ap (λ (b : Bool). eqb p 0 && b) (zeros_all ps)
 
-    module _ (n : get_or ps i 0 ≡ 0 → ⊥) where
-      pub before_more : pins_before (drop i ps) ≡ get_or ps i 0 ∷ pins_before (drop (i + 1) ps)
-      unfolding pins_before pick
-      before_more = rw (drop-cons ps i 0 h, ne_eqb (get_or ps i 0) 0 n, add-one i)
+pub bad_any : (ps : List ℕ) → list_any line_bad ps ≡ any_line_bad ps
+unfolding any_line_bad
+bad_any [] = refl
+bad_any (p ∷ ps) = ap (λ (b : Bool). line_bad p || b) (bad_any ps)
 
-      pub bad_more : line_bad (get_or ps i 0) ≡ false → any_line_bad (pins_before (drop i ps)) ≡ any_line_bad (pins_before (drop (i + 1) ps))
-      unfolding any_line_bad
-      bad_more b = rw (before_more, b)
+pub before_place : (ps : List ℕ) → position_or_len (λ p. eqb p 0) ps ≡ length (pins_before ps)
+unfolding pins_before pick
+before_place [] = refl
+before_place (p ∷ ps) = by_test (eqb p 0) (λ t. rw t) (λ t. rw t (omega (arith, before_place ps)))
 
-      pub bad-here : line_bad (get_or ps i 0) ≡ true → any_line_bad (pins_before (drop i ps)) ≡ true
-      unfolding any_line_bad
-      bad-here b = rw (before_more, b)
+pub before_most : (ps : List ℕ) → length (pins_before ps) ≤ length ps
+unfolding pins_before pick
+before_most [] = omega arith
+before_most (p ∷ ps) = by_test (eqb p 0) (λ t. rw t (omega arith)) (λ t. rw t (omega (arith, before_most ps)))
 
-      pub zero-not : all_zero (drop i ps) ≡ false
-      unfolding all_zero
-      zero-not = rw (drop-cons ps i 0 h, ne_eqb (get_or ps i 0) 0 n)
+pub before_front : (ps : List ℕ) → take (length (pins_before ps)) ps ≡ pins_before ps
+unfolding pins_before pick
+before_front [] = refl
+before_front (p ∷ ps) = by_test (eqb p 0) (λ t. rw t) (λ t. rw t (ap (λ (l : List ℕ). p ∷ l) (before_front ps)))
 
-    pub zero_more : get_or ps i 0 ≡ 0 → all_zero (drop i ps) ≡ all_zero (drop (i + 1) ps)
-    unfolding all_zero
-    zero_more z = rw (drop-cons ps i 0 h, z, add-one i)
-
-  module _ (h : length ps ≤ i) where
-    pub before-none : pins_before (drop i ps) ≡ []
-    unfolding pins_before
-    before-none = rw (drop_of_length-le ps h)
-
-    pub zero-none : all_zero (drop i ps) ≡ true
-    unfolding all_zero
-    zero-none = rw (drop_of_length-le ps h)
+-- The place of the first 0, or the length where there is none.
+pub before_found : (ps : List ℕ) (r : Maybe ℕ)
+    → r ≡ cond (ltb (position_or_len (λ p. eqb p 0) ps) (length ps)) (Some (position_or_len (λ p. eqb p 0) ps)) None
+    → unwrap_or r (length ps) ≡ length (pins_before ps)
+before_found ps r e =
+    let place = position_or_len (λ p. eqb p 0) ps in
+    by_test (ltb place (length ps))
+    (λ t. rw (e, t) (before_place ps))
+    (λ t. rw (e, t) (omega (arith, ltb-false place (length ps) t, before_place ps, before_most ps)))
 
 -- ---- a record's form
 
@@ -81,14 +86,13 @@ ends-fitted (p ∷ ps) h =
     (λ t. rw t (ap (λ (l : List ℕ). p ∷ l) (ends-fitted ps (rw t at h))))
 
 module _ (rec : Record) (p : RawStatement) (line : p.line ≡ rec.line) where
-  pub gate_says : (n : ℕ) → rec.kind ≡ 2 → length rec.pins ≡ Size.pins → n ≡ length (pins_before rec.pins) → p.form ≡ all_zero (drop n rec.pins) → p.kind ≡ 2 → p.cell ≡ rec.cell → p.pins ≡ rec.pins → p.count ≡ n → p.bad ≡ any_line_bad (pins_before rec.pins)
-      → StandsFor p (record_form rec)
+  pub gate_says : (n : ℕ) → rec.kind ≡ 2 → length rec.pins ≡ Size.pins → n ≡ length (pins_before rec.pins) → p.kind ≡ 2 → p.cell ≡ rec.cell → p.pins ≡ rec.pins → p.count ≡ n → p.bad ≡ any_line_bad (pins_before rec.pins)
+      → StandsFor (then_some (all_zero (drop n rec.pins)) p) (record_form rec)
   unfolding record_form gate_form pick StandsFor
-  gate_says n k e before form kind cell pins count bad =
-      let ends : p.form ≡ ends_in_zeros rec.pins = form ∙ ap (λ (m : ℕ). all_zero (drop m rec.pins)) before ∙ sym (ends-behind rec.pins) in
+  gate_says n k e before kind cell pins count bad =
+      let ends : all_zero (drop n rec.pins) ≡ ends_in_zeros rec.pins = ap (λ (m : ℕ). all_zero (drop m rec.pins)) before ∙ sym (ends-behind rec.pins) in
       by_test (ends_in_zeros rec.pins)
-      (λ t. rw (k, t) (record {
-        form = ends ∙ t;
+      (λ t. rw (k, ends, t) (record {
         kind = kind;
         cell = cell;
         line = line;
@@ -96,48 +100,63 @@ module _ (rec : Record) (p : RawStatement) (line : p.line ≡ rec.line) where
         count = count ∙ before;
         bad = bad;
       }))
-      (λ t. rw (k, t) (inl (ends ∙ t)))
+      (λ t. rw (k, ends, t) tt)
 
-  pub mark_says : (rec.kind ≡ 2 → ⊥) → p.form ≡ ((ltb rec.kind 4 && eqb rec.cell 0) && all_zero rec.pins) → p.kind ≡ rec.kind → StandsFor p (record_form rec)
+  pub mark_says : (rec.kind ≡ 2 → ⊥) → p.kind ≡ rec.kind
+      → StandsFor (then_some ((ltb rec.kind 4 && eqb rec.cell 0) && all_zero rec.pins) p) (record_form rec)
   unfolding record_form mark_form pick StandsFor
-  mark_says k form kind =
-      let known : (m : ℕ) → rec.kind ≡ m → p.form ≡ ((ltb m 4 && eqb rec.cell 0) && all_zero rec.pins) = λ m e. form ∙ ap (λ (x : ℕ). (ltb x 4 && eqb rec.cell 0) && all_zero rec.pins) e in
+  mark_says k kind =
       by_test (eqb rec.kind 0)
       (λ z.
       let e = eqb-true rec.kind 0 z in
       by_test (eqb rec.cell 0 && all_zero rec.pins)
-      (λ t. rw (z, t) (record { form = known 0 e ∙ t; kind = kind ∙ e; line = line }))
-      (λ t. rw (z, t) (inl (known 0 e ∙ t))))
+      (λ t. rw (e, t) (record { kind = kind ∙ e; line = line }))
+      (λ t. rw (e, t) tt))
       (λ z. by_test (eqb rec.kind 1)
       (λ o.
       let e = eqb-true rec.kind 1 o in
       by_test (eqb rec.cell 0 && all_zero rec.pins)
-      (λ t. rw (z, o, t) (record { form = known 1 e ∙ t; kind = kind ∙ e; line = line }))
-      (λ t. rw (z, o, t) (inl (known 1 e ∙ t))))
+      (λ t. rw (e, t) (record { kind = kind ∙ e; line = line }))
+      (λ t. rw (e, t) tt))
       (λ o. by_test (eqb rec.kind 3)
       (λ n.
       let e = eqb-true rec.kind 3 n in
       by_test (eqb rec.cell 0 && all_zero rec.pins)
-      (λ t. rw (z, o, ne_eqb rec.kind 2 k, n, t) (record { form = known 3 e ∙ t; kind = kind ∙ e; line = line }))
-      (λ t. rw (z, o, ne_eqb rec.kind 2 k, n, t) (inl (known 3 e ∙ t))))
+      (λ t. rw (e, t) (record { kind = kind ∙ e; line = line }))
+      (λ t. rw (e, t) tt))
       (λ n.
       let high : ltb rec.kind 4 ≡ false = le-ltb rec.kind 4 (omega (arith, k, eqb-false rec.kind 0 z, eqb-false rec.kind 1 o, eqb-false rec.kind 3 n)) in
-      rw (z, o, ne_eqb rec.kind 2 k, n) (inl (form ∙ ap (λ (b : Bool). (b && eqb rec.cell 0) && all_zero rec.pins) high)))))
+      rw (z, o, ne_eqb rec.kind 2 k, n, high) tt)))
+
+module _ (rec : Record) where
+  abbrev Good : Bool
+  Good = (ltb rec.kind 4 && eqb rec.cell 0) && all_zero rec.pins
+
+  -- A mark that is told, and one of bad form.
+  pub mark_told : (p : RawStatement) → p.kind ≡ rec.kind → p.line ≡ rec.line → (rec.kind ≡ 2 → ⊥) → Good ≡ true → StandsFor (Some p) (record_form rec)
+  mark_told p kind line k e = rw e at (mark_says rec p line k kind)
+
+  pub mark_none : (rec.kind ≡ 2 → ⊥) → Good ≡ false → StandsFor None (record_form rec)
+  mark_none k e =
+      let p : RawStatement = record { kind = rec.kind; cell = 0; line = rec.line; pins = []; count = 0; bad = false } in
+      rw e at (mark_says rec p refl k refl)
 
 -- ---- one step
 
-module _ (lib : List ℕ) (place : ℕ) (s : Progress) (rec : Record) (ts : List ℕ) where
-  pub stepped_stays : (s ≡ Unrefused → ⊥) → Stepped lib place s rec ts s ts
-  stepped_stays n = record { stays = λ m. (refl, refl); checks = λ z. absurd (n z) }
+-- The answer of a check, at a record's place.
+pub answer_at : (r : Result (Unit {0}) Cause) (place : ℕ) → at_line r place ≡ answer_after (refusal_number r) place
+unfolding at_line refusal_number answer_after pick
+answer_at (Ok u) place = refl
+answer_at (Err cause) place = rw (number-test cause)
 
+module _ (lib : List ℕ) (place : ℕ) (rec : Record) (ts : List ℕ) where
   -- From what `admit` ensures of the record's plain numbers.
-  pub stepped_checks : (p : RawStatement) (number : ℕ) (r : Progress) (us : List ℕ) → s ≡ Unrefused → StandsFor p (record_form rec) → r ≡ progress_after number place
+  pub stepped : (p : Maybe RawStatement) (number : ℕ) (r : Result (Unit {0}) Refusal) (us : List ℕ) → StandsFor p (record_form rec) → r ≡ answer_after number place
       → ((cells : List Cell) (w : Option Statement) → CellsTold lib cells → StandsFor p w → Admits cells w ts number us)
-      → Stepped lib place s rec ts r us
+      → Checked lib place rec ts r us
   unfolding RecordChecked
-  stepped_checks p number r us z said e ensures = record {
-    stays = λ n. absurd (n z);
-    checks = λ _ cells held ss so start.
+  stepped p number r us said e ensures = record {
+    checks = λ cells held ss so start.
         let h = ensures cells (record_form rec) (holds-told lib cells held) said ss so start in
-        (e ∙ ap (λ (k : ℕ). progress_after k place) h.answers, h.leaves ∙ ap (λ (k : ℕ). words_after k ss (record_form rec) ++ start.past) h.answers);
+        (e ∙ ap (λ (k : ℕ). answer_after k place) h.answers, h.leaves ∙ ap (λ (k : ℕ). words_after k ss (record_form rec) ++ start.past) h.answers);
   }

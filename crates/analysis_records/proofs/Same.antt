@@ -4,12 +4,11 @@ use Rattle.common_laws.proofs.Base.{Bool, or-false, List, [], ◌∷◌, Option,
 use Rattle.sizes.specs.Sizes as Size
 use Rattle.reading.specs.Numbers as No
 use Rattle.text.specs.Bytes.{bytes}
-use Rattle.text.specs.Lines.{lines}
 use Rattle.reading.specs.Refusal.{Read, refused, read, ◌>>=◌, ◌>>◌, weigh}
 use Rattle.library_table.specs.Cells.{Cell}
 use Rattle.library_table.specs.Library.{library}
 use Rattle.netlist_table.specs.declared.Rules.TheVariants.{New}
-use Rattle.netlist_table.specs.Netlist.{Statement, admitted, line_forms, text_statements, declared, netlist, netlist_open}
+use Rattle.netlist_table.specs.Netlist.{Statement, admitted, text_statements, declared, netlist, netlist_open}
 use Rattle.demands.specs.Outcome.{Lent, Pair, pair_of, given_by, given_texts, text_long, table_short, conclude, read_pair, reading, entry, outcome, answer, left, left_from}
 use Rattle.analysis_records.specs.declared.record.Record.{Record}
 use Rattle.analysis_records.specs.Records.{all_zero, pins_before, ends_in_zeros, mark_form, gate_form, record_form, record_forms, record_statements, from_records}

@@ -7,86 +7,60 @@
 pub mod record;
 
 ghost use Rattle.std.specs.Prelude.{◌≡◌, length};
-ghost use Rattle.demands.specs.Answer.{answer_read, lent_of};
-ghost use Rattle.analysis_call.specs.Finished.{ReadyIfUnrefused, Finished};
-ghost use Rattle.analysis_records.specs.Outcome.{RecordsPromised, Prepared};
-ghost use Rattle.analysis_records.specs.Walk.{declared_progress, Walked};
+ghost use Rattle.reading.specs.Answer.{answer_read};
+ghost use Rattle.demands.specs.Answer.{lent_of};
+ghost use Rattle.demands.specs.Outcome.{entry_by};
+ghost use Rattle.analysis_texts.specs.Progress.{Reached};
+ghost use Rattle.analysis_records.specs.Outcome.{given_records, RecordsPromised};
+ghost use Rattle.analysis_records.specs.Walk.{declared_by, Walked};
 
 pub use crate::record::Record;
 use crate::record::step;
 use analysis_call::end::finish;
-use analysis_texts::{Progress, Tables, begin};
-use demands::Answer;
+use analysis_texts::{Stop, Tables, begin};
+use demands::Summary;
 use netlist_admission::some_undeclared;
-use reading::Refusal;
+use reading::{Cause, Refusal};
 use table::clear;
 
-// Walks the records, from the progress that the entry and the library led to.
-fn walk(table: &mut [u32], library: &[u32], records: &[Record], mut progress: Progress) -> Progress
-    ensures { Walked library.now progress table.old records.now result
-        table.new × (length table.new ≡ length table.old) }
+// Walks the records in order, up to the first that is refused.
+fn walk(table: &mut [u32], library: &[u32], records: &[Record]) -> Result<(), Refusal>
+    ensures { Walked library.now table.old records.now result table.new }
 {
-    let mut i = 0;
-    while i < records.len() {
-        let rec = records[i];
-        i += 1;
-        progress = step(table, library, i, progress, rec);
+    for (i, rec) in records.iter().enumerate() {
+        step(table, library, i + 1, Ok(()), *rec)?;
     }
-    progress
+    Ok(())
 }
 
-// The entry and the library; behind them the netlist table is cleared for the walk.
-fn prepare(lib: &[u8], library: &mut [u32], netlist: &mut [u32], numbers: usize) -> Progress
-    ensures { Prepared lib.now library.old netlist.old numbers result
-        library.new netlist.new }
+// Behind the last record: 20 where a line is read or marked that is neither driven nor open.
+fn declare(netlist: &[u32]) -> Result<(), Refusal>
+    ensures { result ≡ declared_by netlist.now }
 {
-    let begun = begin(lib, 0, library, netlist.len(), numbers, Tables::Lent);
-    match begun {
-        Progress::AtEntry(_) => begun,
-        Progress::Later(_) => begun,
-        Progress::Unrefused => {
-            clear(netlist, sizes::NETLIST);
-            begun
-        }
+    if some_undeclared(netlist) {
+        Err(Cause::Undeclared.at(0))
+    } else {
+        Ok(())
     }
 }
 
-// Behind the last record: 20 where nothing is refused so far, and a line is read or marked that is neither
-// driven nor open.
-fn declare(netlist: &[u32], progress: Progress) -> Progress
-    ensures { result ≡ declared_progress netlist.now progress }
-{
-    match progress {
-        Progress::AtEntry(_) => progress,
-        Progress::Later(_) => progress,
-        Progress::Unrefused => {
-            if some_undeclared(netlist) {
-                return Progress::Later(Refusal {
-                    number: reading::UNDECLARED,
-                    line: 0,
-                });
-            }
-            progress
-        }
-    }
-}
-
-// The end of a call, with what comes behind the last record.
-fn close(
+// The entry, the library and the records, each into its table; the netlist table is cleared for the walk.
+fn read_records(
+    lib: &[u8],
+    records: &[Record],
     library: &mut [u32],
     netlist: &mut [u32],
-    numbers: &mut [u32],
-    report: &mut [u8],
-    progress: Progress,
-) -> Answer
-    requires { ReadyIfUnrefused (declared_progress netlist.old progress) library.old netlist.old numbers.old }
-    ensures { Finished (declared_progress netlist.old progress)
-        (lent_of library.old netlist.old numbers.old report.old)
-        (lent_of library.new netlist.new numbers.new report.new)
-        (answer_read result) }
+    numbers: usize,
+) -> Result<(), Stop>
+    ensures { Reached (given_records lib.now records.now)
+        (entry_by (length lib.now) 0 (length library.old) (length netlist.old) numbers)
+        library.old netlist.old library.new netlist.new result }
 {
-    let declared = declare(netlist, progress);
-    finish(library, netlist, numbers, report, declared)
+    begin(lib, 0, library, netlist.len(), numbers, Tables::Lent)?;
+    clear(netlist, sizes::NETLIST);
+    walk(netlist, library, records)?;
+    declare(netlist)?;
+    Ok(())
 }
 
 // Analyses a library text and a netlist of records. Entry refusals leave all that was lent untouched,
@@ -98,13 +72,12 @@ pub fn analyse_records(
     netlist: &mut [u32],
     numbers: &mut [u32],
     report: &mut [u8],
-) -> Answer
+) -> Result<Summary, Refusal>
     ensures { RecordsPromised lib.now records.now
         (lent_of library.old netlist.old numbers.old report.old)
         (lent_of library.new netlist.new numbers.new report.new)
         (answer_read result) }
 {
-    let begun = prepare(lib, library, netlist, numbers.len());
-    let progress = walk(netlist, library, records, begun);
-    close(library, netlist, numbers, report, progress)
+    let progress = read_records(lib, records, library, netlist, numbers.len());
+    finish(library, netlist, numbers, report, progress)
 }

@@ -3,15 +3,14 @@
 //
 // Open to others: the type `Record`, which `analysis_records` hands on. For the crates above: `step`, one record of a list
 // (specs/Steps.antt); specs/Records.antt has which statement a record is.
-ghost use Rattle.std.specs.Prelude.{◌≡◌, length, drop};
+ghost use Rattle.std.specs.Prelude.{◌≡◌, ◌≤◌, length};
 ghost use Rattle.sizes.specs.Sizes as Size;
 ghost use Rattle.netlist_table.specs.Netlist.{any_line_bad};
 ghost use Rattle.netlist_table.specs.Admission.{StandsFor};
 ghost use Rattle.analysis_records.specs.Records.{all_zero, pins_before, record_form};
 ghost use Rattle.analysis_records.specs.Steps.{Stepped};
 
-use analysis_texts::Progress;
-use netlist_admission::admit;
+use netlist_admission::{admit, mark};
 use netlist_table::{RawStatement, line_bad};
 use reading::Refusal;
 
@@ -33,105 +32,59 @@ const KINDS: u32 = 4;
 // How many pins stand before the first 0. That there are eight in all is said for a caller that has
 // them from a struct.
 fn pins_before(pins: [u32; sizes::PINS]) -> usize
-    ensures { (result ≡ length (pins_before pins)) × (length pins ≡ Size.pins) }
+    ensures { (result ≡ length (pins_before pins)) × (result ≤ Size.pins) × (length pins ≡ Size.pins) }
 {
-    let mut i = 0;
-    while i < sizes::PINS {
-        if pins[i] == 0 {
-            return i;
-        }
-        i += 1;
-    }
-    i
+    pins.iter().position(|&pin| pin == 0).unwrap_or(sizes::PINS)
 }
 
-// Whether the pins from a place on are 0.
-fn zero_from(pins: [u32; sizes::PINS], from: usize) -> bool
-    ensures { result ≡ all_zero (drop from pins) }
+// Whether the pins are all 0.
+fn all_zero(pins: &[u32]) -> bool
+    ensures { result ≡ all_zero pins.now }
 {
-    let mut i = from;
-    while i < sizes::PINS {
-        if pins[i] != 0 {
-            return false;
-        }
-        i += 1;
-    }
-    true
+    pins.iter().all(|&pin| pin == 0)
 }
 
-// Whether a pin before the first 0 is out of range.
-fn pins_bad(pins: [u32; sizes::PINS]) -> bool
-    ensures { result ≡ any_line_bad (pins_before pins) }
+// Whether a pin is out of range.
+fn pins_bad(pins: &[u32]) -> bool
+    ensures { result ≡ any_line_bad pins.now }
 {
-    let mut i = 0;
-    while i < sizes::PINS {
-        let l = pins[i];
-        if l == 0 {
-            return false;
-        }
-        if line_bad(l) {
-            return true;
-        }
-        i += 1;
-    }
-    false
+    pins.iter().any(|&l| line_bad(l))
 }
 
-// A record's statement over plain numbers.
-fn take_apart(rec: Record) -> RawStatement
+// A record's statement over plain numbers, where it has good form.
+fn take_apart(rec: Record) -> Option<RawStatement>
     ensures { StandsFor result (record_form rec) }
 {
     let pins = rec.pins;
     let kind = rec.kind;
     if kind == GATE {
         let n = pins_before(pins);
-        return RawStatement {
-            form: zero_from(pins, n),
+        return all_zero(&pins[n..]).then_some(RawStatement {
             kind: GATE,
             cell: rec.cell,
             line: rec.line,
-            pins: pins,
+            pins,
             count: n,
-            bad: pins_bad(pins),
-        };
+            bad: pins_bad(&pins[..n]),
+        });
     }
-    let known = kind < KINDS;
     let no_cell = rec.cell == 0;
-    let no_pins = zero_from(pins, 0);
-    RawStatement {
-        form: known & no_cell & no_pins,
-        kind: kind,
-        cell: 0,
-        line: rec.line,
-        pins: [0; sizes::PINS],
-        count: 0,
-        bad: false,
+    if KINDS <= kind || !no_cell || !all_zero(&pins) {
+        return None;
     }
+    Some(mark(kind, rec.line))
 }
 
-// Checks and stores one record. Nothing happens once a refusal stands.
+// Checks and stores one record, the place of which is its refusal's line, where none before it was refused.
 pub fn step(
     table: &mut [u32],
     library: &[u32],
     place: usize,
-    progress: Progress,
+    so_far: Result<(), Refusal>,
     rec: Record,
-) -> Progress
-    ensures { Stepped library.now place progress rec table.old result table.new }
+) -> Result<(), Refusal>
+    ensures { Stepped library.now place so_far rec table.old result table.new }
 {
-    match progress {
-        Progress::AtEntry(_) => progress,
-        Progress::Later(_) => progress,
-        Progress::Unrefused => {
-            let s = take_apart(rec);
-            let number = admit(table, library, s);
-            if number == 0 {
-                return Progress::Unrefused;
-            }
-            Progress::Later(Refusal {
-                number: number,
-                line: place,
-            })
-        }
-    }
+    so_far?;
+    admit(table, library, take_apart(rec)).map_err(|cause| cause.at(place))
 }

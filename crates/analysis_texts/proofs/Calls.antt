@@ -1,18 +1,19 @@
 -- A call over two texts that is lent one answer, from where reading left it: its promise, refused or accepted.
-use Rattle.common_laws.proofs.Base.{◌||◌, List, [], ◌∷◌, ◌≡◌, refl, sym, ap, subst, ◌∙◌, ℕ, ◌≤◌, ◌<◌, length, replicate}
+use Rattle.std.specs.Prelude.{Ok, Err}
+use Rattle.common_laws.proofs.Base.{List, ◌≡◌, sym, ◌∙◌, ℕ, ◌≤◌, ◌<◌, length, replicate}
 use Rattle.sizes.specs.Sizes as Size
 use Rattle.reading.specs.Numbers as No
-use Rattle.reading.specs.Refusal.{Read, refused, read, weigh}
+use Rattle.reading.specs.Refusal.{Read, refused, read}
 use Rattle.reading.specs.declared.Refusal.{Refusal}
 use Rattle.calculation.specs.Stored.{Holds}
 use Rattle.demands.specs.Call.{Call, comes, Promises, answer_entry, answer_call}
-use Rattle.demands.specs.Outcome.{Given, Pair, entry_by, text_long, given_by, given_texts}
+use Rattle.demands.specs.Outcome.{Given, Pair, entry_by, given_by, given_texts}
 use Rattle.demands.proofs.Call.{entry-short, entry-texts, come-to, promises-entry, promises-texts, promises-made}
 use Rattle.demands.proofs.EntryChecks.{own-entry_by}
 use Rattle.demands.proofs.Given.{texts-checked}
-use Rattle.analysis_texts.specs.declared.Progress.{Progress}
-use Rattle.analysis_texts.specs.declared.Progress.TheVariants.{Unrefused, AtEntry, Later}
-use Rattle.analysis_texts.specs.Progress.{Reached}
+use Rattle.analysis_texts.specs.declared.Stop.{Stop}
+use Rattle.analysis_texts.specs.declared.Stop.TheVariants.{AtEntry, Later}
+use Rattle.analysis_texts.specs.Progress.{Progress, refusal_of, left_at, Reached}
 use Rattle.analysis_texts.specs.Tables.{Zero}
 use Rattle.analysis_texts.proofs.Reached.{stands_hold}
 
@@ -42,7 +43,7 @@ module _ {B : Type 0} (size : ℕ) (lib net before : List ℕ) (answer : Pair �
         (λ i. entry_by (length lib) (length net) (length (z.cells i)) (length (z.statements i)) Size.numbers)
         ∙ own-entry_by lib net ∙ sym (entry-texts size g before room)
 
-    pub held-call : s ≡ Unrefused → Held call library' netlist'
+    pub held-call : s ≡ Ok tt → Held call library' netlist'
     unfolding Reached answer_call
     held-call e =
         let q = rw e at r in
@@ -53,21 +54,27 @@ module _ {B : Type 0} (size : ℕ) (lib net before : List ℕ) (answer : Pair �
         }
 
     module _ (Own : Pair → List ℕ → Read B → Type 0) where
-      pub entry-call : (x : Refusal) → s ≡ AtEntry x → Promises call Own before (refused x.number x.line)
+      entry-call : (x : Refusal) → s ≡ Err (AtEntry x) → Promises call Own before (refused x.number x.line)
       unfolding Reached
       entry-call x e =
           let q = rw e at r in
           promises-entry size g (texts-checked lib net) before answer writes Own x.number x.line (sym entry-same ∙ q.0)
 
-      pub later_call : (x : Refusal) → s ≡ Later x → (after : List ℕ) → after ≡ replicate (length before) 0
+      later_call : (x : Refusal) → s ≡ Err (Later x) → (after : List ℕ) → after ≡ replicate (length before) 0
           → Promises call Own after (refused x.number x.line)
       unfolding Reached
       later_call x e after zero =
           let q = rw e at r in
           promises-texts size g (texts-checked lib net) before answer writes Own (sym entry-same ∙ q.0) x.number x.line q.1 after zero
 
+      pub stopped-call : (stop : Stop) → s ≡ Err stop → (after : List ℕ) → after ≡ left_at stop before (replicate (length before) 0)
+          → (x : Refusal) → x ≡ refusal_of stop → Promises call Own after (refused x.number x.line)
+      unfolding left_at
+      stopped-call (AtEntry r) e after left x told = rw (left, told) (entry-call r e)
+      stopped-call (Later r) e after left x told = rw told (later_call r e after left)
+
       -- From what was made of the tables.
-      pub made-call : s ≡ Unrefused → (after : List ℕ) (x : B)
+      pub made-call : s ≡ Ok tt → (after : List ℕ) (x : B)
           → ((p : Pair) → Holds library' netlist' p.cells p.statements → (x ≡ answer p) × (after ≡ writes p) × Own p after (read x))
           → Promises call Own after (read x)
       made-call e after x made =

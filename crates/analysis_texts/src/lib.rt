@@ -2,7 +2,7 @@
 // calculated here. demands/specs/Outcome.antt has what reading comes to (`entry`, `read_pair`), specs/Progress.antt how
 // far a call has come then.
 //
-// For the crates above: `Progress`, `Tables`; `read_texts`, over two texts; `begin`, the entry and the library text alone,
+// For the crates above: `Stop`, `Tables`; `read_texts`, over two texts; `begin`, the entry and the library text alone,
 // behind which a caller reads its netlist itself.
 //
 // Module `entry`: the checks at entry, and what a later refusal clears.
@@ -14,23 +14,43 @@ ghost use Rattle.std.specs.Prelude.{◌≡◌, length};
 ghost use Rattle.sizes.specs.Sizes as Size;
 ghost use Rattle.table.specs.Blocks.{cleared};
 ghost use Rattle.demands.specs.Outcome.{entry_by, given_by};
-ghost use Rattle.analysis_texts.specs.Progress.{Begun, NetlistFits, TextRead, Reached};
+ghost use Rattle.analysis_texts.specs.declared.Stop.TheVariants.{Later};
+ghost use Rattle.analysis_texts.specs.Progress.{refusal_of, Begun, NetlistFits, TextRead, Reached};
 ghost use Rattle.analysis_texts.specs.Tables.{ZeroIfOwn};
 
 use crate::entry::entry;
 use library_text::lines::read_lines;
 use netlist_table::Rules;
 use netlist_text::read_all;
-use reading::{Refusal, Verdict};
+use reading::Refusal;
 use table::clear;
 
-// How far a call has come: nothing is refused so far; refused at entry, with all that was lent as it
-// was; or refused later.
+// Where a call stops: refused at entry, with all that was lent as it was; or refused later.
 #[derive(Clone, Copy)]
-pub enum Progress {
-    Unrefused,
+pub enum Stop {
     AtEntry(Refusal),
     Later(Refusal),
+}
+
+// What reading refuses behind the entry stops a call later.
+impl From<Refusal> for Stop {
+    ghost from_gives = { λ r stop. stop ≡ Later r };
+
+    fn from(r: Refusal) -> Stop {
+        Self::Later(r)
+    }
+}
+
+// The refusal, whichever it is, for a call that leaves nothing to be cleared.
+impl From<Stop> for Refusal {
+    ghost from_gives = { λ stop r. r ≡ refusal_of stop };
+
+    fn from(stop: Stop) -> Refusal {
+        match stop {
+            Stop::AtEntry(r) => r,
+            Stop::Later(r) => r,
+        }
+    }
 }
 
 // Whose the library and the netlist table are: a call's own, zero as it makes them, or lent, with anything in them.
@@ -59,52 +79,34 @@ pub fn begin(
     netlist: usize,
     numbers: usize,
     tables: Tables,
-) -> Progress
+) -> Result<(), Stop>
     requires { ZeroIfOwn tables Size.library library.old }
     ensures { Begun lib.now net library.old netlist numbers result library.new }
 {
-    let entered = entry(lib.len(), net, library.len(), netlist, numbers);
-    match entered {
-        Verdict::Refused(r) => Progress::AtEntry(r),
-        Verdict::Accepted => {
-            clear_lent(library, sizes::LIBRARY, tables);
-            let cells = read_lines(lib, library);
-            match cells {
-                Verdict::Refused(r) => Progress::Later(r),
-                Verdict::Accepted => Progress::Unrefused,
-            }
-        }
-    }
+    entry(lib.len(), net, library.len(), netlist, numbers).map_err(Stop::AtEntry)?;
+    clear_lent(library, sizes::LIBRARY, tables);
+    read_lines(lib, library)?;
+    Ok(())
 }
 
-// Reads the netlist text by the rules named, against the cells of the library table. Nothing happens once a refusal stands.
+// Reads the netlist text by the rules named, against the cells of the library table.
 fn read_netlist(
     rules: Rules,
     net: &[u8],
     library: &[u32],
     netlist: &mut [u32],
-    begun: Progress,
     tables: Tables,
-) -> Progress
-    requires { NetlistFits begun net.now netlist.old × ZeroIfOwn tables Size.netlist netlist.old }
-    ensures { TextRead rules net.now library.now netlist.old begun
-        netlist.new result }
+) -> Result<(), Stop>
+    requires { NetlistFits net.now netlist.old × ZeroIfOwn tables Size.netlist netlist.old }
+    ensures { TextRead rules net.now library.now netlist.old netlist.new result }
 {
-    match begun {
-        Progress::AtEntry(_) => begun,
-        Progress::Later(_) => begun,
-        Progress::Unrefused => {
-            clear_lent(netlist, sizes::NETLIST, tables);
-            let statements = read_all(rules, net, library, netlist);
-            match statements {
-                Verdict::Refused(bad) => Progress::Later(bad),
-                Verdict::Accepted => Progress::Unrefused,
-            }
-        }
-    }
+    clear_lent(netlist, sizes::NETLIST, tables);
+    read_all(rules, net, library, netlist)?;
+    Ok(())
 }
 
-// The entry and both texts, the netlist by the rules named. Of the numbers table it takes the length.
+// The entry and both texts, the netlist by the rules named. Of the numbers table it takes the length. The texts and the tables
+// are parameters of their own, as the calls that README and docs name have them (what may not change), which hand them on.
 pub fn read_texts(
     rules: Rules,
     lib: &[u8],
@@ -113,13 +115,13 @@ pub fn read_texts(
     netlist: &mut [u32],
     numbers: usize,
     tables: Tables,
-) -> Progress
+) -> Result<(), Stop>
     requires { ZeroIfOwn tables Size.library library.old × ZeroIfOwn tables Size.netlist netlist.old }
     ensures { Reached (given_by rules lib.now net.now)
         (entry_by (length lib.now) (length net.now)
         (length library.old) (length netlist.old) numbers)
         library.old netlist.old library.new netlist.new result }
 {
-    let begun = begin(lib, net.len(), library, netlist.len(), numbers, tables);
-    read_netlist(rules, net, library, netlist, begun, tables)
+    begin(lib, net.len(), library, netlist.len(), numbers, tables)?;
+    read_netlist(rules, net, library, netlist, tables)
 }

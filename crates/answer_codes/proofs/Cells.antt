@@ -4,9 +4,11 @@ use Rattle.reading.specs.Numbers as No
 use Rattle.reading.specs.Refusal.{Read, refused, read}
 use Rattle.reading.proofs.Bounds.{Within, any_number}
 use Rattle.reading.proofs.Laws.{by_test, refused-read}
+use Rattle.reading.specs.Answer.{answer_read}
 use Rattle.text.specs.Bytes.{text}
-use Rattle.writer.specs.declared.Written.{Written}
-use Rattle.writer.specs.Buffer.{text_within, code_lines, code_of, length_read, written_read, LineBelow, Writes}
+use Rattle.std.specs.Prelude.{Result, Ok, Err}
+use Rattle.reading.specs.declared.Refusal.{Refusal}
+use Rattle.writer.specs.Buffer.{text_within, code_lines, code_of, length_read, LineBelow, Writes}
 use Rattle.writer.proofs.Buffer.{text-fits, text-long}
 use Rattle.truth_entry.specs.Generated.{generated_into}
 use Rattle.truth_entry.specs.Bounded.{Bounded, LongBelow}
@@ -31,20 +33,20 @@ unfolding Bounded length_read
 bounded-small room (refused k l) b n e = refused-read e
 bounded-small room (read text) b n e = let same : length text ≡ n = cc in omega (arith, b)
 
-module _ (line before after : List ℕ) (w : Written) (c : Writes (generated_into line (length before)) before after w) where
+module _ (line before after : List ℕ) (w : Result ℕ Refusal) (c : Writes (generated_into line (length before)) before after w) where
   abbrev came : Read (List ℕ)
   came = generated_into line (length before)
 
-  within : Within any_number last_line (written_read w)
+  within : Within any_number last_line (answer_read w)
   within = rw c.answers (bounded-within (length before) came (bounded line (length before)))
 
-  pub cell-line : LineBelow (written_read w)
-  cell-line = line-below (written_read w) within
+  pub cell-line : LineBelow (answer_read w)
+  cell-line = line-below (answer_read w) within
 
-  pub cell-coded : LongBelow (length before) (written_read w) → (said : ℕ) → said ≡ code_of (written_read w) → CellCoded line before after said
+  pub cell-coded : LongBelow (length before) (answer_read w) → (said : ℕ) → said ≡ code_of (answer_read w) → CellCoded line before after said
   cell-coded long said is =
       let small = bounded-small (length before) came (bounded line (length before)) in
-      let t = tells (written_read w) within (λ n e. small n (sym c.answers ∙ e)) said is in
+      let t = tells (answer_read w) within (λ n e. small n (sym c.answers ∙ e)) said is in
       record {
         answers = rw (← c.answers) t;
         leaves = c.leaves;
@@ -75,11 +77,11 @@ module _ (number space : ℕ) (text : List ℕ) (some : 1 ≤ number) (short : l
   text-tells : (said : ℕ) → said ≡ code_of (length_read (text_within number space text)) → Tells (length_read (text_within number space text)) said
   text-tells = tells _ text-within text-small
 
-module _ (before after : List ℕ) (w : Written) (c : Writes (built_in_within (length before)) before after w) where
-  pub built-in-line : LineBelow (written_read w)
+module _ (before after : List ℕ) (w : Result ℕ Refusal) (c : Writes (built_in_within (length before)) before after w) where
+  pub built-in-line : LineBelow (answer_read w)
   built-in-line = rw c.answers (within-line _)
 
-  pub built-in-coded : (said : ℕ) → said ≡ code_of (written_read w) → BuiltInCoded before after said
+  pub built-in-coded : (said : ℕ) → said ≡ code_of (answer_read w) → BuiltInCoded before after said
   built-in-coded said is =
       let told = text-tells No.report_long (length before) (text built_in) (omega arith) (omega (arith, size)) said in
       record {

@@ -1,6 +1,8 @@
 -- The laws of the one number, for every call alike: from what a call comes to and what its code answered to what the number
 -- tells, and back from the number to the refusal.
 use Rattle.common_laws.proofs.Base.{true, true≢false, ◌≡◌, refl, sym, ap, ◌∙◌, ℕ, zero, suc, ◌/◌, ◌%◌, ◌≤◌, ◌<◌, arith, leb-true, le-leb}
+use Rattle.std.specs.Prelude.{Result, Ok, Err, MatchResult, IsOkAnd}
+use Rattle.reading.specs.Answer.{answer_read}
 use Rattle.reading.specs.Numbers as No
 use Rattle.reading.specs.Refusal.{Read, refused, read, ◌>>=◌}
 use Rattle.reading.specs.declared.Refusal.{Refusal}
@@ -11,6 +13,14 @@ use Rattle.writer.proofs.Buffer.{decoded, told_line}
 use Rattle.answer_codes.specs.Number.{last_line, told_by, Tells}
 
 -- ---- what the code answers: a number or a refusal, by its cases
+
+-- An answer whose value is mapped to a number.
+pub mapped : {A : Type 0} (f : A → ℕ) (r : Result A Refusal) (m : Result ℕ Refusal)
+    → MatchResult r (λ x. IsOkAnd m (λ y. y ≡ f x)) (λ e. m ≡ Err e) → answer_read m ≡ told_by f (answer_read r)
+unfolding answer_read told_by ◌>>=◌
+mapped f (Ok a) (Ok n) h = ap read h
+mapped f (Ok a) (Err e) h = absurd h
+mapped f (Err e) m h = rw h refl
 
 module _ {A : Type 0} (f : A → ℕ) (o : Read A) where
   pub code_accepted : (a : A) → o ≡ read a → f a ≡ code_of (told_by f o)

@@ -7,9 +7,9 @@ use Rattle.reading.specs.Refusal.{Read, refused, read, ◌>>=◌, weigh}
 use Rattle.reading.specs.declared.Refusal.{Refusal}
 use Rattle.reading.proofs.Bounds.{Within, any_number, within_bind, within-then, within-weigh}
 use Rattle.reading.proofs.Laws.{by_test, clash, refused-read, then-read, bind_refused, then-refused}
-use Rattle.writer.specs.declared.Written.{Written}
-use Rattle.writer.specs.declared.Written.TheVariants.{Length, Refused}
-use Rattle.writer.specs.Buffer.{text_within, length_read, left_by, written_read, code_lines, code_of, LineBelow, Refuses}
+use Rattle.reading.specs.Answer.{answer_read}
+use Rattle.std.specs.Prelude.{Result, Ok, Err}
+use Rattle.writer.specs.Buffer.{text_within, length_read, left_by, code_lines, code_of, LineBelow, Refuses}
 use Rattle.writer.proofs.Buffer.{text-fits, text-long, length-within}
 use Rattle.cost.specs.Cost.{most}
 use Rattle.calculation.specs.Calculation.{analysed}
@@ -31,18 +31,18 @@ use Rattle.answer_codes.proofs.Number.{tells, line-below, told-read, told-number
 -- ---- a text whose length the number does not tell
 
 module _ (number : ℕ) where
-  module _ (w : Written) (text : List ℕ) where
-    pub limits_short : (n : ℕ) → w ≡ Length n → n ≤ most_told → Limits number (written_read w) text text (written_read (Length n))
-    unfolding written_read is_told pick
+  module _ (w : Result ℕ Refusal) (text : List ℕ) where
+    pub limits_short : (n : ℕ) → w ≡ Ok n → n ≤ most_told → Limits number (answer_read w) text text (answer_read (Ok n))
+    unfolding answer_read is_told pick
     limits_short n e h = rw e (record { answers = rw (le-leb n most_told h) refl; leaves = rw (le-leb n most_told h) refl })
 
-    pub limits_refused : (r : Refusal) → w ≡ Refused r → Limits number (written_read w) text text (written_read (Refused r))
-    unfolding written_read is_told pick
+    pub limits_refused : (r : Refusal) → w ≡ Err r → Limits number (answer_read w) text text (answer_read (Err r))
+    unfolding answer_read is_told pick
     limits_refused r e = rw e (record { answers = refl; leaves = refl })
 
-    pub limits_long : (n : ℕ) → w ≡ Length n → most_told < n → (after : List ℕ) (said : Written) → Refuses number 0 text after said
-        → Limits number (written_read w) text after (written_read said)
-    unfolding written_read is_told pick
+    pub limits_long : (n : ℕ) → w ≡ Ok n → most_told < n → (after : List ℕ) (said : Result ℕ Refusal) → Refuses number 0 text after said
+        → Limits number (answer_read w) text after (answer_read said)
+    unfolding answer_read is_told pick
     limits_long n e h after said r =
         rw e (record { answers = rw (lt-leb n most_told h) r.answers; leaves = rw (lt-leb n most_told h) r.leaves })
 
@@ -129,8 +129,8 @@ module _ (lib net before : List ℕ) (l v kind : ℕ) where
 
 -- ---- the number
 
-module _ (lib net before : List ℕ) (tables : Lent) (l v kind : ℕ) (w : Written) (p : PlanPromised (given_texts lib net) (own_tables before) tables l v kind (written_read w))
-    (same : length tables.report ≡ length before) (after : List ℕ) (r : Written) (limits : Limits No.plan_long (written_read w) tables.report after (written_read r)) where
+module _ (lib net before : List ℕ) (tables : Lent) (l v kind : ℕ) (w : Result ℕ Refusal) (p : PlanPromised (given_texts lib net) (own_tables before) tables l v kind (answer_read w))
+    (same : length tables.report ≡ length before) (after : List ℕ) (r : Result ℕ Refusal) (limits : Limits No.plan_long (answer_read w) tables.report after (answer_read r)) where
   abbrev came-to : Read (List ℕ)
   came-to = plan_outcome (given_texts lib net) (own_tables before) l v kind
 
@@ -140,19 +140,19 @@ module _ (lib net before : List ℕ) (tables : Lent) (l v kind : ℕ) (w : Writt
       ap (λ (m : Lent). m.report) p.leaves
       ∙ text-left (given_texts lib net) (texts-checked lib net) (own_tables before) l v kind
 
-  said-refused : (k line : ℕ) → came-to ≡ refused k line → written_read w ≡ refused k line
+  said-refused : (k line : ℕ) → came-to ≡ refused k line → answer_read w ≡ refused k line
   unfolding length_read
   said-refused k line e = p.answers ∙ ap length_read e
 
-  said_read : (text : List ℕ) → came-to ≡ read text → written_read w ≡ read (length text)
+  said_read : (text : List ℕ) → came-to ≡ read text → answer_read w ≡ read (length text)
   unfolding length_read
   said_read text e = p.answers ∙ ap length_read e
 
-  told : (written_read r ≡ length_read (plan_told lib net before l v kind)) × (after ≡ left_by (plan_told lib net before l v kind) before)
+  told : (answer_read r ≡ length_read (plan_told lib net before l v kind)) × (after ≡ left_by (plan_told lib net before l v kind) before)
   unfolding plan_told
-  told = limited No.plan_long refl before tables.report after same (written_read w) (written_read r) limits came-to p.answers left
+  told = limited No.plan_long refl before tables.report after same (answer_read w) (answer_read r) limits came-to p.answers left
 
-  pub plan-line : LineBelow (written_read r)
+  pub plan-line : LineBelow (answer_read r)
   plan-line = rw told.0 (line-below _ (told-within lib net before l v kind))
 
   -- Where 19 is not told, what is told is what `write_plan` wrote.
@@ -163,7 +163,7 @@ module _ (lib net before : List ℕ) (tables : Lent) (l v kind : ℕ) (w : Writt
       (λ t. rw e (told-fits No.plan_long text (leb-true (length text) most_told t)))
       (λ t. absurd (h (rw e (told-long No.plan_long text (leb-false (length text) most_told t)))))
 
-  module _ (said : ℕ) (is : said ≡ code_of (written_read r)) where
+  module _ (said : ℕ) (is : said ≡ code_of (answer_read r)) where
     number : Tells (length_read (plan_told lib net before l v kind)) said
     number =
         tells (length_read (plan_told lib net before l v kind)) (told-within lib net before l v kind) (told-small lib net before l v kind) said

@@ -18,9 +18,9 @@ use Rattle.demands.proofs.Given.{texts-checked}
 use Rattle.demands.proofs.EntryChecks.{own-fit}
 use Rattle.demands.proofs.EntryChecks as Entry
 use Rattle.demands.proofs.Room.{entry-number, entry-short, pair-number}
-use Rattle.analysis_texts.specs.declared.Progress.{Progress}
-use Rattle.analysis_texts.specs.declared.Progress.TheVariants.{Unrefused, AtEntry, Later}
-use Rattle.analysis_texts.specs.Progress.{Reached}
+use Rattle.analysis_texts.specs.declared.Stop.{Stop}
+use Rattle.analysis_texts.specs.declared.Stop.TheVariants.{AtEntry, Later}
+use Rattle.analysis_texts.specs.Progress.{Progress, refusal_of, Reached}
 use Rattle.analysis_texts.proofs.Reached.{stands_hold}
 use Rattle.chip_loops.specs.Marks.{without_loops, read_once}
 use Rattle.netlist_table.specs.Gates.{gates_held}
@@ -29,6 +29,7 @@ use Rattle.chip_call.proofs.Laws.{qualifying_says}
 use Rattle.answer_codes.specs.Number.{last_line}
 use Rattle.answer_codes.specs.Qualifies.{qualifies_read, qualifies_number, QualifiesCoded}
 use Rattle.answer_codes.proofs.Number.{code_accepted, code_refused, code_line, told-within, tells_by, by_accepted, by_refused, line-below, told-read, told-number}
+use Rattle.std.specs.Prelude.{Result, Ok, Err}
 
 -- Nothing stands past the published size of a table of its own.
 no_rest : (n : ℕ) (xs : List ℕ) → xs ++ drop n (replicate n 0) ≡ xs
@@ -105,30 +106,38 @@ module _ (lib net : List ℕ) where
       (h : Reached given
       (O.entry_by (length lib) (length net) (length {A = ℕ} (replicate Size.library 0)) (length {A = ℕ} (replicate Size.netlist 0)) Size.numbers)
       (replicate Size.library 0) (replicate Size.netlist 0) library' netlist' s) where
-    at-entry : (r : Refusal) → s ≡ AtEntry r → qualifies_read lib net ≡ refused r.number r.line
+    at-entry : (r : Refusal) → s ≡ Err (AtEntry r) → qualifies_read lib net ≡ refused r.number r.line
     unfolding Reached qualifies_read ◌>>◌
     at-entry r e = let q = rw e at h in rw (← own-entry, q.0) refl
 
-    later : (r : Refusal) → s ≡ Later r → qualifies_read lib net ≡ refused r.number r.line
+    later : (r : Refusal) → s ≡ Err (Later r) → qualifies_read lib net ≡ refused r.number r.line
     unfolding Reached qualifies_read ◌>>◌
     later r e = let q = rw e at h in rw (← own-entry, q.0) q.1
 
-    pub entry-line : (r : Refusal) → s ≡ AtEntry r → r.line < code_lines
+    pub entry-line : (r : Refusal) → s ≡ Err (AtEntry r) → r.line < code_lines
     entry-line r e = code_line said_of came r (at-entry r e) came-line
 
-    pub later_line : (r : Refusal) → s ≡ Later r → r.line < code_lines
+    pub later_line : (r : Refusal) → s ≡ Err (Later r) → r.line < code_lines
     later_line r e = code_line said_of came r (later r e) came-line
 
     coded-refused : (r : Refusal) → came ≡ refused r.number r.line → (n : ℕ) → n ≡ refusal_code r.number r.line → QualifiesCoded lib net n
     coded-refused r e n is = coded n (code_refused said_of came r e n is) (λ p q. refused-read (sym e ∙ q))
 
-    pub qualifies-entry : (r : Refusal) → s ≡ AtEntry r → (n : ℕ) → n ≡ refusal_code r.number r.line → QualifiesCoded lib net n
+    pub qualifies-entry : (r : Refusal) → s ≡ Err (AtEntry r) → (n : ℕ) → n ≡ refusal_code r.number r.line → QualifiesCoded lib net n
     qualifies-entry r e = coded-refused r (at-entry r e)
 
-    pub qualifies_later : (r : Refusal) → s ≡ Later r → (n : ℕ) → n ≡ refusal_code r.number r.line → QualifiesCoded lib net n
+    pub qualifies_later : (r : Refusal) → s ≡ Err (Later r) → (n : ℕ) → n ≡ refusal_code r.number r.line → QualifiesCoded lib net n
     qualifies_later r e = coded-refused r (later r e)
 
-    pub qualifies-accepted : s ≡ Unrefused → (n : ℕ) → n ≡ qualifying library' netlist' → QualifiesCoded lib net n
+    pub stopped_line : (stop : Stop) → s ≡ Err stop → (refusal_of stop).line < code_lines
+    stopped_line (AtEntry r) e = entry-line r e
+    stopped_line (Later r) e = later_line r e
+
+    pub qualifies-stopped : (stop : Stop) → s ≡ Err stop → (n : ℕ) → n ≡ refusal_code (refusal_of stop).number (refusal_of stop).line → QualifiesCoded lib net n
+    qualifies-stopped (AtEntry r) e n is = qualifies-entry r e n is
+    qualifies-stopped (Later r) e n is = qualifies_later r e n is
+
+    pub qualifies-accepted : s ≡ (Ok tt) → (n : ℕ) → n ≡ qualifying library' netlist' → QualifiesCoded lib net n
     unfolding Reached qualifies_read ◌>>◌
     qualifies-accepted e n is =
         let q = rw e at h in

@@ -4,9 +4,10 @@ use Rattle.reading.specs.Numbers as No
 use Rattle.reading.specs.Refusal.{Read, refused, read}
 use Rattle.reading.proofs.Bounds.{Within, any_number}
 use Rattle.writer.specs.Buffer.{code_lines, code_of, LineBelow}
-use Rattle.demands.specs.declared.Answer.{Answer}
+use Rattle.std.specs.Prelude.{Result, Ok, Err}
+use Rattle.reading.specs.declared.Refusal.{Refusal}
 use Rattle.demands.specs.declared.Summary.{Summary}
-use Rattle.demands.specs.Answer.{answer_read}
+use Rattle.reading.specs.Answer.{answer_read}
 use Rattle.demands.specs.Demands.{PairRead, longest, Promised}
 use Rattle.demands.specs.Outcome.{Lent, given_texts}
 use Rattle.demands.specs.Outcome as O
@@ -87,7 +88,7 @@ module _ (lib net before : List ℕ) (after : Lent) (came : Read Summary) (p : P
         }
 
 -- From the answer of the code. Its tables are its own; the promise speaks of those that an analysis leaves.
-module _ (lib net before report : List ℕ) (r : Answer) (h : ReportPromised (given_texts lib net) (own_tables before) report (answer_read r)) where
+module _ (lib net before report : List ℕ) (r : Result Summary Refusal) (h : ReportPromised (given_texts lib net) (own_tables before) report (answer_read r)) where
   abbrev tables : Lent
   tables = O.left (given_texts lib net) (own_tables before)
 

@@ -4,9 +4,16 @@ use Rattle.reading.specs.Choice.{pick}
 use Rattle.reading.specs.Refusal.{Read}
 use Rattle.writer.specs.Buffer.{code_lines}
 use Rattle.demands.specs.Outcome.{given_texts}
+use Rattle.standing_change.specs.declared.Course.{Course}
+use Rattle.standing_change.specs.declared.Course.TheVariants.{WentOn, BegunAgain}
 use Rattle.standing_change.specs.Calls.{comes, answer_of, table_after}
 use Rattle.standing_change.specs.Promise.{ChangePromised}
 use Rattle.answer_codes.specs.Number.{told_by, Tells}
+
+-- Of the course that a change took.
+abbrev pub course_number : Course → ℕ
+course_number WentOn = 1
+course_number BegunAgain = 0
 
 -- 1 where the sweeps went on, 0 where the netlist was analysed from the beginning, or the refusal.
 abbrev pub told_number : Read Bool → Read ℕ

@@ -14,118 +14,79 @@ pub mod qualifies;
 
 ghost use Rattle.std.specs.Prelude.{◌≡◌};
 ghost use Rattle.reading.specs.Numbers as No;
-ghost use Rattle.writer.specs.Buffer.{LineBelow, code_of, written_read};
-ghost use Rattle.demands.specs.Answer.{answer_read};
-ghost use Rattle.advice_calls.specs.Calls.{advised_read, ranked_read};
-ghost use Rattle.budget_call.specs.Promise.{steps_read};
-ghost use Rattle.standing_calls.specs.Calls.{pads_read};
+ghost use Rattle.writer.specs.Buffer.{LineBelow, code_of};
+ghost use Rattle.reading.specs.Answer.{answer_read};
 ghost use Rattle.standing_change.specs.Calls.{changed_read};
 ghost use Rattle.answer_codes.specs.Number.{Limits};
 ghost use Rattle.answer_codes.specs.Advice.{advice_line, line_read};
-ghost use Rattle.answer_codes.specs.Change.{told_number};
+ghost use Rattle.answer_codes.specs.Change.{course_number, told_number};
 ghost use Rattle.answer_codes.specs.Coded.{report_length};
 
-use advice_calls::{Advised, Ranked};
-use budget_call::Steps;
 use calculation::Advice;
-use demands::Answer;
-use reading::PLAN_LONG;
-use standing_calls::Pads;
-use standing_change::Changed;
-use writer::{Written, refusal_code};
+use demands::Summary;
+use reading::{Cause, Refusal};
+use standing_change::Course;
+use writer::code;
+
+fn length_of(summary: Summary) -> usize
+    ensures { result ≡ summary.length }
+{
+    summary.length
+}
 
 // A report's length, or the refusal, by one number.
-pub fn answer_code(answer: Answer) -> u64
+pub fn answer_code(answer: Result<Summary, Refusal>) -> u64
     requires { LineBelow (report_length (answer_read answer)) }
     ensures { result ≡ code_of (report_length (answer_read answer)) }
 {
-    match answer {
-        Answer::Accepted(s) => s.length as u64,
-        Answer::Refused(r) => refusal_code(r),
-    }
+    code(answer.map(length_of))
 }
 
 // The longest text whose length is told from a refusal.
 const MOST_TOLD: usize = sizes::CODE_LINES - 1;
 
 // A longer text of a plan counts as longer than its buffer.
-pub fn limit_plan(text: &mut [u8], written: Written) -> Written
-    ensures { Limits No.plan_long (written_read written) text.old text.new (written_read result) }
+pub fn limit_plan(text: &mut [u8], written: Result<usize, Refusal>) -> Result<usize, Refusal>
+    ensures { Limits No.plan_long (answer_read written) text.old text.new (answer_read result) }
 {
     match written {
-        Written::Length(n) => {
-            if n <= MOST_TOLD {
-                Written::Length(n)
-            } else {
-                writer::refuse(text, PLAN_LONG, 0)
-            }
-        }
-        Written::Refused(r) => Written::Refused(r),
-    }
-}
-
-// A count of pads, or the refusal, by one number.
-pub fn pads_code(pads: Pads) -> u64
-    requires { LineBelow (pads_read pads) }
-    ensures { result ≡ code_of (pads_read pads) }
-{
-    match pads {
-        Pads::Count(n) => n as u64,
-        Pads::Refused(r) => refusal_code(r),
-    }
-}
-
-// A count of steps, or the refusal, by one number.
-pub fn steps_code(steps: Steps) -> u64
-    requires { LineBelow (steps_read steps) }
-    ensures { result ≡ code_of (steps_read steps) }
-{
-    match steps {
-        Steps::Made(n) => n as u64,
-        Steps::Refused(r) => refusal_code(r),
+        Ok(n) if MOST_TOLD < n => writer::refuse(text, Cause::PlanLong.at(0)),
+        _ => written,
     }
 }
 
 // The line that an advice names, 0 where none is allowed.
-fn line_number(found: Advice) -> u64
+fn line_number(found: Option<Advice>) -> usize
     ensures { result ≡ advice_line found }
 {
     match found {
-        Advice::NoneAllowed => 0,
-        Advice::Pad(l, _) => l as u64,
+        Some(advice) => advice.line as usize,
+        None => 0,
     }
 }
 
 // An advice, or a refusal, by one number.
-pub fn advised_code(advised: Advised) -> u64
-    requires { LineBelow (line_read (advised_read advised)) }
-    ensures { result ≡ code_of (line_read (advised_read advised)) }
+pub fn advised_code(advised: Result<Option<Advice>, Refusal>) -> u64
+    requires { LineBelow (line_read (answer_read advised)) }
+    ensures { result ≡ code_of (line_read (answer_read advised)) }
 {
-    match advised {
-        Advised::Found(found) => line_number(found),
-        Advised::Refused(r) => refusal_code(r),
+    code(advised.map(line_number))
+}
+
+// 1 where the sweeps went on, 0 where the netlist was analysed from the beginning.
+fn course_number(course: Course) -> usize
+    ensures { result ≡ course_number course }
+{
+    match course {
+        Course::WentOn => 1,
+        Course::BegunAgain => 0,
     }
 }
 
-// How many lines are allowed, or a refusal, by one number.
-pub fn ranked_code(ranked: Ranked) -> u64
-    requires { LineBelow (ranked_read ranked) }
-    ensures { result ≡ code_of (ranked_read ranked) }
-{
-    match ranked {
-        Ranked::Lines(n) => n as u64,
-        Ranked::Refused(r) => refusal_code(r),
-    }
-}
-
-// 1 where the sweeps went on, 0 where the netlist was analysed from the beginning, or the refusal, by one number.
-pub fn change_code(changed: Changed) -> u64
+// Which course a change took, or the refusal, by one number.
+pub fn change_code(changed: Result<Course, Refusal>) -> u64
     requires { LineBelow (told_number (changed_read changed)) }
     ensures { result ≡ code_of (told_number (changed_read changed)) }
 {
-    match changed {
-        Changed::WentOn => 1,
-        Changed::BegunAgain => 0,
-        Changed::Refused(r) => refusal_code(r),
-    }
+    code(changed.map(course_number))
 }

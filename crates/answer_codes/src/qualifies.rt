@@ -1,12 +1,12 @@
 // Of which netlists document 02, K8, speaks, asked of two texts and told by one number for C.
 //
-// For the crates above: `qualifies_code`, 0, 1 or 2 as `chip_call::qualifies` answers of two texts, read into tables of its own,
-// or the refusal, by one number. Nothing is calculated. What it promises is said by specs/Qualifies.antt of crate
-// `answer_codes`.
+// For the crates above: `qualifies_code`, 0, 1 or 2 as `chip_call::qualifies` answers of two texts, read into tables of its
+// own, by `Theorems::number`, or the refusal, by one number. Nothing is calculated. specs/Qualifies.antt says what it promises.
 ghost use Rattle.answer_codes.specs.Qualifies.{QualifiesCoded};
 
-use analysis_texts::{Progress, Tables, read_texts};
+use analysis_texts::{Tables, read_texts};
 use netlist_table::Rules;
+use reading::Refusal;
 use writer::refusal_code;
 
 pub fn qualifies_code(lib: &[u8], net: &[u8]) -> u64
@@ -24,8 +24,7 @@ pub fn qualifies_code(lib: &[u8], net: &[u8]) -> u64
         Tables::Own,
     );
     match progress {
-        Progress::AtEntry(r) => refusal_code(r),
-        Progress::Later(r) => refusal_code(r),
-        Progress::Unrefused => chip_call::qualifies(&library, &netlist) as u64,
+        Ok(()) => chip_call::qualifies(&library, &netlist).number() as u64,
+        Err(stop) => refusal_code(Refusal::from(stop)),
     }
 }

@@ -10,13 +10,13 @@ use Rattle.calculation.specs.Budget.{best_within, best_words}
 use Rattle.calculation.specs.Stored.{Holds}
 use Rattle.calculation.proofs.Laws.{within-budget}
 use Rattle.demands.specs.Outcome.{Pair, entry_by, given_texts}
-use Rattle.analysis_texts.specs.declared.Progress.{Progress}
-use Rattle.analysis_texts.specs.declared.Progress.TheVariants.{Unrefused, AtEntry, Later}
-use Rattle.analysis_texts.specs.Progress.{Reached}
+use Rattle.analysis_texts.specs.declared.Stop.{Stop}
+use Rattle.analysis_texts.specs.Progress.{Progress, refusal_of, left_at, Reached}
 use Rattle.analysis_texts.specs.Tables.{Zero}
-use Rattle.analysis_texts.proofs.Calls.{short-call, entry-call, later_call, held-call, made-call}
+use Rattle.analysis_texts.proofs.Calls.{short-call, stopped-call, held-call, made-call}
 use Rattle.budget_call.specs.Parts.{FillFits, Filled}
 use Rattle.budget_call.specs.Promise.{BestFound, BestPromised}
+use Rattle.std.specs.Prelude.{Result, Ok, Err}
 
 module _ (lib net : List ℕ) (budget : ℕ) (before : List ℕ) where
   abbrev steps : Pair → ℕ
@@ -40,19 +40,16 @@ module _ (lib net : List ℕ) (budget : ℕ) (before : List ℕ) where
     zero : Zero (replicate Size.library 0) (replicate Size.netlist 0)
     zero = record { cells = refl; statements = refl }
 
-    pub call-entry : (r : Refusal) → s ≡ AtEntry r → BestPromised lib net budget before before (refused r.number r.line)
-    call-entry = entry-call Size.best lib net before steps words room zero library' netlist' s h Own
+    pub call-stopped : (stop : Stop) → s ≡ Err stop → (after : List ℕ) → after ≡ left_at stop before (replicate (length before) 0)
+        → (r : Refusal) → r ≡ refusal_of stop → BestPromised lib net budget before after (refused r.number r.line)
+    call-stopped = stopped-call Size.best lib net before steps words room zero library' netlist' s h Own
 
-    pub call_later : (r : Refusal) → s ≡ Later r → (after : List ℕ) → after ≡ replicate (length before) 0
-        → BestPromised lib net budget before after (refused r.number r.line)
-    call_later = later_call Size.best lib net before steps words room zero library' netlist' s h Own
-
-    pub fill_fits : s ≡ Unrefused → FillFits library' netlist' before
+    pub fill_fits : s ≡ (Ok tt) → FillFits library' netlist' before
     fill_fits e =
         let b = held-call Size.best lib net before steps words room zero library' netlist' s h e in
         record { cells = b.pair.cells; statements = b.pair.statements; holds = b.holds; room = room }
 
-    pub call-made : s ≡ Unrefused → (after : List ℕ) (x : ℕ)
+    pub call-made : s ≡ (Ok tt) → (after : List ℕ) (x : ℕ)
         → ((cells : List Cell) (ss : List Statement) → Holds library' netlist' cells ss → Filled cells ss budget before after x)
         → BestPromised lib net budget before after (read x)
     call-made e after x f =

@@ -7,8 +7,8 @@ use Rattle.netlist_table.specs.Netlist.{Statement}
 use Rattle.calculation.specs.Budget.{best_within, best_words, WithinBudget}
 use Rattle.demands.specs.Call.{Call, Promises, answer_call}
 use Rattle.demands.specs.Outcome.{Pair, given_texts}
-use Rattle.budget_call.specs.declared.Steps.{Steps}
-use Rattle.budget_call.specs.declared.Steps.TheVariants.{Made, Refused}
+use Rattle.std.specs.Prelude.{Result, Ok, Err}
+use Rattle.reading.specs.declared.Refusal.{Refusal}
 
 -- "The answer carries the number of steps". "Entries past a table's published size keep their values on acceptance." Nothing is
 -- swept, and nothing reported.
@@ -16,11 +16,6 @@ abbrev pub best_call : (lib net : List ℕ) → ℕ → List ℕ → Call Pair �
 best_call lib net budget before =
     answer_call Size.best (given_texts lib net) before (λ p. (best_within p.cells p.statements budget).steps)
     (λ p. best_words p.cells p.statements budget ++ drop Size.best before)
-
--- What an answer of the code says.
-unfoldable pub steps_read : Steps → Read ℕ
-steps_read (Made steps) = read steps
-steps_read (Refused r) = refused r.number r.line
 
 -- Of an accepted library and netlist: the number of steps, and K12's sentences over the buffer.
 pub record BestFound (cells : List Cell) (ss : List Statement) (budget : ℕ) (after : List ℕ) (said : Read ℕ) : Type 0 where

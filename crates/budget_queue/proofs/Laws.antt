@@ -3,7 +3,7 @@ use Rattle.common_laws.proofs.Base.{List, ◌≡◌, refl, ◌∙◌, ap, ℕ, z
 use Rattle.common_laws.proofs.Base.{get_or, set, replicate, length-replicate, get_or-replicate, get_or-set_same, get_or-set_other}
 use Rattle.sizes.specs.Sizes as Size
 use Rattle.cost.specs.Cost.{never}
-use Rattle.budget_queue.specs.Queue.{key, cost_at, leaf_at, Least, Queue, Empty, Put, PutFits, Front}
+use Rattle.budget_queue.specs.Queue.{key, cost_at, leaf_at, Least, Queue, NoCost, Put, Front}
 
 -- ---- a store
 
@@ -71,44 +71,40 @@ SameLeaves q p = (i : ℕ) → i < Size.leaves → get_or q (Size.leaves + i) 0 
 pub leaves-step : (q p : List ℕ) (at a : ℕ) → at < Size.leaves → SameLeaves q p → SameLeaves (set q at a) p
 leaves-step q p at a h s i l = get_or-set_other q at (Size.leaves + i) a 0 (λ f. omega arith) ∙ s i l
 
--- A cost that stands there already.
-pub put_same : {q : List ℕ} {leaf cost : ℕ} → Queue q → cost_at q leaf ≡ cost → Put leaf cost q q
-put_same q e = record { queue = q; here = e; others = λ i h d. refl }
-
 -- What a put leaves.
-pub put_done : (q p : List ℕ) (leaf cost : ℕ) → PutFits leaf cost p → length q ≡ Size.queue → Above q 1 → SameLeaves q (set p (Size.leaves + leaf) (key cost leaf)) → Put leaf cost p q
-put_done q p leaf cost f size above same =
-    record {
-      queue =
-          record {
-            size = size;
-            inner = λ i a b. above i a b (λ e. omega arith);
-            bounded = λ i h. bounded i h (ℕ_discrete i leaf);
-            own = λ i h l. own i h l (ℕ_discrete i leaf);
-          };
-      here = here-cost;
-      others = λ i h d. other-cost i h d;
-    }
-  where
-    here-key : get_or q (Size.leaves + leaf) 0 ≡ key cost leaf
-    here-key = same leaf f.inside ∙ get_or-set_same p (Size.leaves + leaf) (key cost leaf) 0 (omega (arith, f.inside, f.queue.size))
+module _ (q p : List ℕ) (leaf cost : ℕ) (queue : Queue p) (inside : leaf < Size.leaves) (most : cost ≤ never)
+    (size : length q ≡ Size.queue) (above : Above q 1) (same : SameLeaves q (set p (Size.leaves + leaf) (key cost leaf))) where
+  here-key : get_or q (Size.leaves + leaf) 0 ≡ key cost leaf
+  here-key = same leaf inside ∙ get_or-set_same p (Size.leaves + leaf) (key cost leaf) 0 (omega (arith, inside, queue.size))
 
-    other_key : (i : ℕ) → i < Size.leaves → (i ≡ leaf → ⊥) → get_or q (Size.leaves + i) 0 ≡ get_or p (Size.leaves + i) 0
-    other_key i h d = same i h ∙ get_or-set_other p (Size.leaves + leaf) (Size.leaves + i) (key cost leaf) 0 (λ e. d (omega arith))
+  other_key : (i : ℕ) → i < Size.leaves → (i ≡ leaf → ⊥) → get_or q (Size.leaves + i) 0 ≡ get_or p (Size.leaves + i) 0
+  other_key i h d = same i h ∙ get_or-set_other p (Size.leaves + leaf) (Size.leaves + i) (key cost leaf) 0 (λ e. d (omega arith))
 
-    here-cost : cost_at q leaf ≡ cost
-    here-cost = unfold cost_at in rw here-key (omega (arith, f.inside))
+  here-cost : cost_at q leaf ≡ cost
+  here-cost = unfold cost_at in rw here-key (omega (arith, inside))
 
-    other-cost : (i : ℕ) → i < Size.leaves → (i ≡ leaf → ⊥) → cost_at q i ≡ cost_at p i
-    other-cost i h d = unfold cost_at in rw (other_key i h d)
+  other-cost : (i : ℕ) → i < Size.leaves → (i ≡ leaf → ⊥) → cost_at q i ≡ cost_at p i
+  other-cost i h d = unfold cost_at in rw (other_key i h d)
 
-    bounded : (i : ℕ) → i < Size.leaves → Dec (i ≡ leaf) → cost_at q i ≤ never
-    bounded i h (yes e) = rw (e, here-cost) f.bounded
-    bounded i h (no e) = rw (other-cost i h e) (f.queue.bounded i h)
+  bounded : (i : ℕ) → i < Size.leaves → Dec (i ≡ leaf) → cost_at q i ≤ never
+  bounded i h (yes e) = rw (e, here-cost) most
+  bounded i h (no e) = rw (other-cost i h e) (queue.bounded i h)
 
-    own : (i : ℕ) → i < Size.leaves → cost_at q i < never → Dec (i ≡ leaf) → leaf_at q i ≡ i
-    own i h l (yes e) = rw e (unfold leaf_at in rw here-key (omega (arith, f.inside)))
-    own i h l (no e) = unfold leaf_at in rw (other_key i h e) (unfold leaf_at in f.queue.own i h (rw (other-cost i h e) at l))
+  own : (i : ℕ) → i < Size.leaves → cost_at q i < never → Dec (i ≡ leaf) → leaf_at q i ≡ i
+  own i h l (yes e) = rw e (unfold leaf_at in rw here-key (omega (arith, inside)))
+  own i h l (no e) = unfold leaf_at in rw (other_key i h e) (unfold leaf_at in queue.own i h (rw (other-cost i h e) at l))
+
+  pub put_queue : Queue q
+  put_queue =
+      record {
+        size = size;
+        inner = λ i a b. above i a b (λ e. omega arith);
+        bounded = λ i h. bounded i h (ℕ_discrete i leaf);
+        own = λ i h l. own i h l (ℕ_discrete i leaf);
+      }
+
+  pub put_done : Put leaf cost p q
+  put_done = record { here = here-cost; others = λ i h d. other-cost i h d }
 
 -- ---- the root
 
@@ -156,30 +152,39 @@ module _ (q : List ℕ) (queue : Queue q) where
       place (yes g) s t = let e : i ≡ Size.leaves + (i - Size.leaves) = omega arith in (i - Size.leaves, omega arith, ap (λ (k : ℕ). get_or q k 0) e)
       place (no g) s t = lower (omega arith) (s (omega arith)) (t (omega arith)) (dec_le (get_or q (2 * i) 0) (get_or q (2 * i + 1) 0))
 
-  pub front_of : Front q (get_or q 1 0 % Size.leaves) (get_or q 1 0 / Size.leaves)
-  front_of =
+  root-leaf : FromLeaf 1
+  root-leaf = from_leaf Size.queue 1 (omega arith) (omega arith) (omega arith)
+
+  below : (i : ℕ) → i < Size.leaves → get_or q 1 0 ≤ get_or q (Size.leaves + i) 0
+  below i h = root_least (Size.leaves + i) (Size.leaves + i) (le_refl (Size.leaves + i)) (omega arith) (omega arith)
+
+  pub root-bounded : get_or q 1 0 / Size.leaves ≤ never
+  root-bounded = let t = root-leaf in rw t.2 (unfold cost_at in queue.bounded t.0 t.1)
+
+  root-cost : (i : ℕ) → i < Size.leaves → get_or q 1 0 / Size.leaves ≤ cost_at q i
+  root-cost i h = unfold cost_at in omega (arith, below i h)
+
+  pub front_none : never ≤ get_or q 1 0 / Size.leaves → NoCost q
+  front_none n i h = omega (arith, root-cost i h, queue.bounded i h)
+
+  pub front_some : get_or q 1 0 / Size.leaves < never → Front q (get_or q 1 0 % Size.leaves) (get_or q 1 0 / Size.leaves)
+  front_some l =
       record {
         inside = omega arith;
-        bounded = rw t.2 (unfold cost_at in queue.bounded t.0 t.1);
-        least = λ i h. unfold cost_at in omega (arith, below i h);
-        here = λ l. here l;
-        first = λ l i h e. first l i h e;
+        bounded = l;
+        least = root-cost;
+        here = rw root_own (unfold cost_at in rw (← t.2));
+        first = first;
       }
     where
       t : FromLeaf 1
-      t = from_leaf Size.queue 1 (omega arith) (omega arith) (omega arith)
+      t = root-leaf
 
-      below : (i : ℕ) → i < Size.leaves → get_or q 1 0 ≤ get_or q (Size.leaves + i) 0
-      below i h = root_least (Size.leaves + i) (Size.leaves + i) (le_refl (Size.leaves + i)) (omega arith) (omega arith)
+      root_own : get_or q 1 0 % Size.leaves ≡ t.0
+      root_own = rw t.2 (unfold leaf_at in queue.own t.0 t.1 (unfold cost_at in rw t.2 at l))
 
-      root_own : get_or q 1 0 / Size.leaves < never → get_or q 1 0 % Size.leaves ≡ t.0
-      root_own l = rw t.2 (unfold leaf_at in queue.own t.0 t.1 (unfold cost_at in rw t.2 at l))
-
-      here : get_or q 1 0 / Size.leaves < never → cost_at q (get_or q 1 0 % Size.leaves) ≡ get_or q 1 0 / Size.leaves
-      here l = rw (root_own l) (unfold cost_at in rw (← t.2))
-
-      first : get_or q 1 0 / Size.leaves < never → (i : ℕ) → i < Size.leaves → cost_at q i ≡ get_or q 1 0 / Size.leaves → get_or q 1 0 % Size.leaves ≤ i
-      first l i h e =
+      first : (i : ℕ) → i < Size.leaves → cost_at q i ≡ get_or q 1 0 / Size.leaves → get_or q 1 0 % Size.leaves ≤ i
+      first i h e =
           let o : get_or q (Size.leaves + i) 0 % Size.leaves ≡ i = unfold leaf_at in queue.own i h (rw e l) in
           let d : get_or q (Size.leaves + i) 0 / Size.leaves ≡ get_or q 1 0 / Size.leaves = unfold cost_at in e in
           omega (arith, below i h)
@@ -199,26 +204,23 @@ module _ (n x : ℕ) where
   unfolding cost_at
   cost-alike i h = rw (get_or-replicate n (Size.leaves + i) x 0 h) refl
 
-pub empty-queue : Empty (replicate Size.queue none)
-empty-queue =
-    record {
-      queue =
-          record {
-            size = length-replicate Size.queue none;
-            inner = λ i a b. least-alike Size.queue none i (omega arith);
-            bounded = λ i h. le_of_eq (cost i h);
-            own = λ i h l. absurd (omega (arith, cost i h));
-          };
-      none = cost;
-    }
-  where
-    cost : (i : ℕ) → i < Size.leaves → cost_at (replicate Size.queue none) i ≡ never
-    cost i h = cost-alike Size.queue none i (omega arith)
+cost : (i : ℕ) → i < Size.leaves → cost_at (replicate Size.queue none) i ≡ never
+cost i h = cost-alike Size.queue none i (omega arith)
 
 -- The length is a variable, so that no list is computed.
-alike : (n : ℕ) {x y : ℕ} → x ≡ y → Empty (replicate n y) → Empty (replicate n x)
-alike n e h = rw e h
+alike : (P : List ℕ → Type 0) (n : ℕ) {x y : ℕ} → x ≡ y → P (replicate n y) → P (replicate n x)
+alike P n e h = rw e h
 
 -- The same of a key that is that of never.
-pub empty-key : {x : ℕ} → x ≡ none → Empty (replicate Size.queue x)
-empty-key e = alike Size.queue e empty-queue
+pub empty-queue : {x : ℕ} → x ≡ none → Queue (replicate Size.queue x)
+empty-queue e =
+    alike Queue Size.queue e
+    (record {
+      size = length-replicate Size.queue none;
+      inner = λ i a b. least-alike Size.queue none i (omega arith);
+      bounded = λ i h. le_of_eq (cost i h);
+      own = λ i h l. absurd (omega (arith, cost i h));
+    })
+
+pub empty_costs : {x : ℕ} → x ≡ none → NoCost (replicate Size.queue x)
+empty_costs e = alike NoCost Size.queue e cost

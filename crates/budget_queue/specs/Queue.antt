@@ -20,7 +20,7 @@ leaf_at q i = get_or q (Size.leaves + i) 0 % Size.leaves
 unfoldable pub Least : List ℕ → ℕ → Type 0
 Least q i = get_or q i 0 ≡ min (get_or q (2 * i) 0) (get_or q (2 * i + 1) 0)
 
--- A queue: all inner places have the lower key, no cost is above never, and a key whose cost is below never tells its own leaf.
+-- A queue, which every `CostQueue` is: all inner places have the lower key, no cost is above never, and a key whose cost is below never tells its own leaf.
 pub record Queue (q : List ℕ) : Type 0 where
   pub size : length q ≡ Size.queue
   pub inner : (i : ℕ) → 1 ≤ i → i < Size.leaves → Least q i
@@ -28,26 +28,18 @@ pub record Queue (q : List ℕ) : Type 0 where
   pub own : (i : ℕ) → i < Size.leaves → cost_at q i < never → leaf_at q i ≡ i
 
 -- No leaf has a cost below never.
-pub record Empty (q : List ℕ) : Type 0 where
-  pub queue : Queue q
-  pub none : (i : ℕ) → i < Size.leaves → cost_at q i ≡ never
+abbrev pub NoCost : List ℕ → Type 0
+NoCost q = (i : ℕ) → i < Size.leaves → cost_at q i ≡ never
 
 -- A cost was put at a leaf, and no other changed.
 pub record Put (leaf cost : ℕ) (before after : List ℕ) : Type 0 where
-  pub queue : Queue after
   pub here : cost_at after leaf ≡ cost
   pub others : (i : ℕ) → i < Size.leaves → (i ≡ leaf → ⊥) → cost_at after i ≡ cost_at before i
 
--- What `put` asks.
-pub record PutFits (leaf cost : ℕ) (q : List ℕ) : Type 0 where
-  pub queue : Queue q
-  pub inside : leaf < Size.leaves
-  pub bounded : cost ≤ never
-
--- The cheapest leaf, and of equal ones the first; its cost is never where there is none.
+-- The cheapest leaf and its cost, which is below never; of equal ones the first.
 pub record Front (q : List ℕ) (leaf cost : ℕ) : Type 0 where
   pub inside : leaf < Size.leaves
-  pub bounded : cost ≤ never
+  pub bounded : cost < never
   pub least : (i : ℕ) → i < Size.leaves → cost ≤ cost_at q i
-  pub here : cost < never → cost_at q leaf ≡ cost
-  pub first : cost < never → (i : ℕ) → i < Size.leaves → cost_at q i ≡ cost → leaf ≤ i
+  pub here : cost_at q leaf ≡ cost
+  pub first : (i : ℕ) → i < Size.leaves → cost_at q i ≡ cost → leaf ≤ i

@@ -1,6 +1,6 @@
 -- The bids of a netlist's values, out of the tables: those of gates are their least row sums, and a number that is stored
 -- changes none but those of the gates that read its line.
-use Rattle.common_laws.proofs.Base.{Bool, List, ◌∷◌, ◌++◌, List-as-Memᴰ, List-Memᴰ-head, List-Memᴰ-tail, ◌⊎◌, inl, inr, ◌≡◌, refl, sym, ap, ◌∙◌, subst, ℕ, zero, suc, ◌+◌, ◌-◌, ◌/◌}
+use Rattle.common_laws.proofs.Base.{Bool, List, ◌++◌, List-as-Memᴰ, ◌⊎◌, inl, inr, ◌≡◌, refl, sym, ap, ◌∙◌, subst, ℕ, zero, suc, ◌+◌, ◌-◌, ◌/◌}
 use Rattle.common_laws.proofs.Base.{◌%◌, ◌≤◌, ◌<◌, ℕ_discrete, dec_le, arith, lt-ltb, length, get_or, set}
 use Rattle.sizes.specs.Sizes as Size
 use Rattle.sizes.specs.Places.{leaf_of, leaf_place}
@@ -41,7 +41,7 @@ use Rattle.calculation.proofs.Bounds.{all_from, all_listed, gates_apiece}
 use Rattle.calculation.proofs.PlansAlike.{start_first}
 use Rattle.sweep_groups.specs.Tables.{gate_visit}
 use Rattle.sweep_groups.proofs.Bridge as B
-use Rattle.budget_queue.specs.Queue.{cost_at, Put, Front}
+use Rattle.budget_queue.specs.Queue.{cost_at, Put, NoCost, Front}
 use Rattle.budget_run.specs.Steps.{bid_of, LeafAmong, GateBids, Stale, Reads}
 use Rattle.budget_run.specs.Queued.{leaf_bid}
 
@@ -253,7 +253,7 @@ module _ (cells : List Cell) (ss : List Statement) (sound : BothSound cells ss) 
 
 -- ---- from the front of the queue to the cheapest bid
 
-module _ (cells : List Cell) (ss : List Statement) (xs q : List ℕ) (bids : (i : ℕ) → i < Size.leaves → cost_at q i ≡ leaf_bid cells ss xs i) (leaf cost : ℕ) (front : Front q leaf cost) where
+module _ (cells : List Cell) (ss : List Statement) (xs q : List ℕ) (bids : (i : ℕ) → i < Size.leaves → cost_at q i ≡ leaf_bid cells ss xs i) where
   abbrev S : System
   S = system cells ss
 
@@ -264,18 +264,21 @@ module _ (cells : List Cell) (ss : List Statement) (xs q : List ℕ) (bids : (i 
       let high : l ≤ Size.lines = unfold InRange in p.0.1 in
       rw (← leaf_node l v low p.1) (sym (bids (leaf_of l v) (omega (arith, p.1))))
 
-  bid-least : (m : ℕ) → List-as-Memᴰ m values → cost ≤ bid S xs m
-  bid-least m i =
+  value-least : (cost : ℕ) → ((i : ℕ) → i < Size.leaves → cost ≤ cost_at q i) → (m : ℕ) → List-as-Memᴰ m values → cost ≤ bid S xs m
+  value-least cost least m i =
       let t = value_of m i in
       let low : t.0 ≤ Size.lines = unfold InRange in t.2.0.1 in
-      rw (t.3, value-bid t.0 t.1 t.2) (front.least (leaf_of t.0 t.1) (omega (arith, t.2.1)))
+      rw (t.3, value-bid t.0 t.1 t.2) (least (leaf_of t.0 t.1) (omega (arith, t.2.1)))
 
-  pub front-none : never ≤ cost → (m : ℕ) → List-as-Memᴰ m values → never ≤ bid S xs m
-  front-none h m i = omega (arith, bid-least m i)
+  pub front-none : NoCost q → (m : ℕ) → List-as-Memᴰ m values → never ≤ bid S xs m
+  front-none none = value-least never (λ i h. omega (arith, none i h))
 
-  module _ (below : cost < never) where
+  module _ (leaf cost : ℕ) (front : Front q leaf cost) where
+    bid-least : (m : ℕ) → List-as-Memᴰ m values → cost ≤ bid S xs m
+    bid-least = value-least cost front.least
+
     pub front-bid : bid S xs (leaf_place leaf) ≡ cost
-    front-bid = sym (bids leaf front.inside) ∙ front.here below
+    front-bid = sym (bids leaf front.inside) ∙ front.here
 
     pub front_first : First S xs values (leaf_place leaf)
     front_first =
@@ -294,6 +297,6 @@ module _ (cells : List Cell) (ss : List Statement) (xs q : List ℕ) (bids : (i 
             let low : 1 ≤ t.0 = unfold InRange in t.2.0.0 in
             let high : t.0 ≤ Size.lines = unfold InRange in t.2.0.1 in
             let q : cost_at q (leaf_of t.0 t.1) ≡ cost = sym (value-bid t.0 t.1 t.2) ∙ ap (bid S xs) (sym t.3) ∙ e ∙ front-bid in
-            let f : leaf ≤ leaf_of t.0 t.1 = front.first below (leaf_of t.0 t.1) (omega (arith, t.2.1)) q in
+            let f : leaf ≤ leaf_of t.0 t.1 = front.first (leaf_of t.0 t.1) (omega (arith, t.2.1)) q in
             let g : leaf_place (leaf_of t.0 t.1) ≡ m = leaf_node t.0 t.1 low t.2.1 ∙ sym t.3 in
             rw (← g) (omega (arith, t.2.1))

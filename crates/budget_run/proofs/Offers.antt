@@ -1,6 +1,7 @@
 -- The offer of a gate out of the tables, from what the parts of `offer_of` read.
-use Rattle.common_laws.proofs.Base.{Bool, true, List, ◌⊎◌, inl, inr, ◌≡◌, refl, sym, ap, ap₂, subst, ◌∙◌, ℕ, zero, suc, ◌+◌, ◌*◌, ◌-◌, ◌%◌, ◌≤◌, ◌<◌, ℕ_discrete, le_refl, arith}
+use Rattle.common_laws.proofs.Base.{Bool, true, List, ◌⊎◌, inl, inr, ◌≡◌, refl, sym, ap, ap₂, ◌∙◌, ℕ, zero, suc, ◌+◌, ◌*◌, ◌-◌, ◌%◌, ◌≤◌, ◌<◌, ℕ_discrete, le_refl, arith}
 use Rattle.common_laws.proofs.Base.{lt-ltb, le-ltb, length, get_or}
+use Rattle.std.proofs.Common.{Option, Some, None, SomeIff}
 use Rattle.sizes.specs.Sizes as Size
 use Rattle.sizes.specs.Places.{group_place, leaf_of, leaf_place}
 use Rattle.reading.specs.Choice.{pick}
@@ -14,16 +15,16 @@ use Rattle.sweep_groups.specs.Tables.{read_row, group_columns, gate_pins, role_c
 use Rattle.sweep_groups.specs.Fits.{Gathered, GatherFits, GateFits, LeastFits}
 use Rattle.sweep_links.specs.Lines.{Highest, pin_gate, pin_line, Chained}
 use Rattle.sweep_turns.proofs.Groups as Group
-use Rattle.budget_queue.specs.Queue.{cost_at, Queue, Put}
-use Rattle.budget_run.specs.Steps.{bid_of, gate_offer, gate_bid, GateReady, OutputStands, Refreshed, LeafAmong, GateBids, Stale, Fresh, Reads, GateOf, Passed}
+use Rattle.budget_queue.specs.Queue.{cost_at, Put}
+use Rattle.budget_run.specs.Steps.{bid_of, gate_offer, gate_bid, GateReady, OutputStands, Refreshed, LeafAmong, GateBids, Stale, Fresh, Reads, Passed}
 
 -- ---- the offer of a gate
 
-module _ (library netlist links numbers : List ℕ) (g e : ℕ) (fits : GateReady library netlist links numbers g) (value : e ≤ 1)
+module _ (library netlist numbers : List ℕ) (g e : ℕ) (fits : GateReady library netlist numbers g) (value : e ≤ 1)
     (lines : List ℕ) (pins group : ℕ) (lines_are : lines ≡ gate_lines netlist g) (pins-are : pins ≡ gate_pins library netlist g)
     (group_is : group ≡ group_place (gate_cell netlist g) (visit_group 0 0 e)) where
   gate-fits : GateFits library netlist g
-  gate-fits = fits.ready.tables_fit.gates g fits.inside
+  gate-fits = fits.tables_fit.gates g fits.inside
 
   pub least_fits_lem : (wired : Bool) (costs : List ℕ) → length costs ≡ Size.columns → LeastFits wired 0 library group pins costs
   least_fits_lem = Group.least_fits_lem 0 (omega arith) library netlist g e gate-fits value lines pins group lines_are pins-are group_is
@@ -80,7 +81,6 @@ pub refreshed : {library netlist xs q p r : List ℕ} {g : ℕ} → OutputStands
     → Refreshed library netlist xs g q r
 refreshed {library} {netlist} {xs} {q} {p} {r} {g} o a b =
     record {
-      queue = b.queue;
       here = here;
       others = λ i h d. b.others i h (λ e. d 1 (omega arith) e) ∙ a.others i h (λ e. d 0 (omega arith) e);
     }
@@ -96,18 +96,17 @@ refreshed {library} {netlist} {xs} {q} {p} {r} {g} o a b =
 module _ (library netlist xs : List ℕ) (among : ℕ → Type 0) (q₀ : List ℕ) where
   -- The gates of which `left` holds are still to be taken anew.
   pub record Partly (left : ℕ → Type 0) (q : List ℕ) : Type 0 where
-    pub queue : Queue q
     pub stale : (bids : ℕ → ℕ) → GateBids library netlist xs bids → Stale netlist among q₀ bids → Stale netlist left q bids
 
-  pub partly-start : (left : ℕ → Type 0) → ((g : ℕ) → g < get_or netlist 0 0 → among g → left g) → Queue q₀ → Partly left q₀
-  partly-start left all q = record { queue = q; stale = λ bids b t i j. onward bids i (t i j) }
+  pub partly-start : (left : ℕ → Type 0) → ((g : ℕ) → g < get_or netlist 0 0 → among g → left g) → Partly left q₀
+  partly-start left all = record { stale = λ bids b t i j. onward bids i (t i j) }
     where
       onward : (bids : ℕ → ℕ) (i : ℕ) → (cost_at q₀ i ≡ bids i) ⊎ LeafAmong netlist among i → (cost_at q₀ i ≡ bids i) ⊎ LeafAmong netlist left i
       onward bids i (inl e) = inl e
       onward bids i (inr w) = inr (record { gate = w.gate; value = w.value; inside = w.inside; small = w.small; listed = all w.gate w.inside w.listed; same = w.same })
 
   pub partly-same : (left less : ℕ → Type 0) → ((g : ℕ) → left g → less g) → {q : List ℕ} → Partly left q → Partly less q
-  partly-same left less all {q} h = record { queue = h.queue; stale = λ bids b t i j. onward bids i (h.stale bids b t i j) }
+  partly-same left less all {q} h = record { stale = λ bids b t i j. onward bids i (h.stale bids b t i j) }
     where
       onward : (bids : ℕ → ℕ) (i : ℕ) → (cost_at q i ≡ bids i) ⊎ LeafAmong netlist left i → (cost_at q i ≡ bids i) ⊎ LeafAmong netlist less i
       onward bids i (inl e) = inl e
@@ -118,7 +117,6 @@ module _ (library netlist xs : List ℕ) (among : ℕ → Type 0) (q₀ : List �
       → Partly left q → Refreshed library netlist xs gate q r → Partly less r
   partly-on left less gate all l {q} {r} h t =
       record {
-        queue = t.queue;
         stale = λ bids b u i j. stale bids b i j (ℕ_discrete i (leaf_of (gate_line netlist gate 0) 0)) (ℕ_discrete i (leaf_of (gate_line netlist gate 0) 1)) (h.stale bids b u i j);
       }
     where
@@ -157,11 +155,22 @@ module _ (library netlist xs : List ℕ) (among : ℕ → Type 0) (q₀ : List �
 
   -- None is left.
   pub partly-all : (left : ℕ → Type 0) → ((g : ℕ) → g < get_or netlist 0 0 → left g → ⊥) → {q : List ℕ} → Partly left q → Fresh library netlist xs among q₀ q
-  partly-all left none {q} h = record { queue = h.queue; fresh = λ bids b t i j. each bids i (h.stale bids b t i j) }
+  partly-all left none {q} h = record { fresh = λ bids b t i j. each bids i (h.stale bids b t i j) }
     where
       each : (bids : ℕ → ℕ) (i : ℕ) → (cost_at q i ≡ bids i) ⊎ LeafAmong netlist left i → cost_at q i ≡ bids i
       each bids i (inl e) = e
       each bids i (inr w) = absurd (none w.gate w.inside w.listed)
+
+-- The gates from one on.
+abbrev pub From : ℕ → ℕ → Type 0
+From gate g = gate ≤ g
+
+pub from_next : (gate g : ℕ) → From gate g → (g ≡ gate) ⊎ From (gate + 1) g
+from_next gate g h = place (ℕ_discrete g gate)
+  where
+    place : Dec (g ≡ gate) → (g ≡ gate) ⊎ From (gate + 1) g
+    place (yes e) = inl e
+    place (no e) = inr (omega arith)
 
 -- ---- the gates that read a line, by the chain of its pins
 
@@ -184,13 +193,13 @@ module _ (library netlist links xs : List ℕ) (line : ℕ) (chained : Chained n
       let q : pin_line netlist (g * Size.pins + i) ≡ line = ap₂ (λ (x y : ℕ). gate_line netlist x y) k m ∙ e in
       (g * Size.pins + i, omega arith, (chained.firsts line h).most (g * Size.pins + i) (omega arith) (omega arith) q, k, q)
 
-  pub walk_start : line ≤ Size.lines → Queue q₀ → (pin : ℕ) → pin ≡ get_or links (Size.readers_at + line) 0 → Walk library netlist xs line q₀ pin q₀
-  walk_start h q pin e =
+  pub walk_start : line ≤ Size.lines → (pin : ℕ) → pin ≡ get_or links (Size.readers_at + line) 0 → Walk library netlist xs line q₀ pin q₀
+  walk_start h pin e =
       rw e
       (record {
         inside = omega (arith, (chained.firsts line h).below);
         reads = (chained.firsts line h).same;
-        partly = partly-start library netlist xs (Reads netlist line) q₀ (UpTo netlist line (get_or links (Size.readers_at + line) 0)) (readers-up h) q;
+        partly = partly-start library netlist xs (Reads netlist line) q₀ (UpTo netlist line (get_or links (Size.readers_at + line) 0)) (readers-up h);
       })
 
   module _ (pin : ℕ) (some : 0 < pin) {q : List ℕ} (w : Walk library netlist xs line q₀ pin q) where
@@ -203,8 +212,8 @@ module _ (library netlist links xs : List ℕ) (line : ℕ) (chained : Chained n
     pub next-below : next < pin
     next-below = high.below
 
-    pub gate-inside : (gate : ℕ) → GateOf pin gate → gate < get_or netlist 0 0
-    gate-inside gate o = rw (o.some some) (omega (arith, w.inside))
+    pub gate-inside : pin_gate pin < get_or netlist 0 0
+    gate-inside = omega (arith, w.inside)
 
     next-reads : 0 < next → pin_line netlist next ≡ line
     next-reads h = high.same h ∙ w.reads some
@@ -213,11 +222,11 @@ module _ (library netlist links xs : List ℕ) (line : ℕ) (chained : Chained n
     lower g k a b d e f = (k, a, high.most k a (omega arith) (f ∙ sym (w.reads some)), e, f)
 
     -- The gate was taken anew, ..
-    passed-other : (gate : ℕ) → gate ≡ pin_gate pin → (g : ℕ) → UpTo netlist line pin g → (g ≡ gate) ⊎ UpTo netlist line next g
-    passed-other gate o g (k, a, b, e, f) = place (ℕ_discrete k pin)
+    passed-other : (g : ℕ) → UpTo netlist line pin g → (g ≡ pin_gate pin) ⊎ UpTo netlist line next g
+    passed-other g (k, a, b, e, f) = place (ℕ_discrete k pin)
       where
-        place : Dec (k ≡ pin) → (g ≡ gate) ⊎ UpTo netlist line next g
-        place (yes d) = inl (sym e ∙ ap (λ (x : ℕ). pin_gate x) d ∙ sym o)
+        place : Dec (k ≡ pin) → (g ≡ pin_gate pin) ⊎ UpTo netlist line next g
+        place (yes d) = inl (sym e ∙ ap (λ (x : ℕ). pin_gate x) d)
         place (no d) = inr (lower g k a b d e f)
 
     -- .. or it has the next pin too.
@@ -228,24 +237,29 @@ module _ (library netlist links xs : List ℕ) (line : ℕ) (chained : Chained n
         place (yes d) = (next, h, le_refl next, p ∙ sym (ap (λ (x : ℕ). pin_gate x) d) ∙ e, next-reads h)
         place (no d) = lower g k a b d e f
 
-    walk-to : (gate then : ℕ) → GateOf pin gate → GateOf next then → {r : List ℕ} → Passed library netlist xs gate then q r → Walk library netlist xs line q₀ next r
-    walk-to gate then o n {r} p =
-        record { inside = omega (arith, next-below, w.inside); reads = next-reads; partly = place (ℕ_discrete then gate) (ℕ_discrete next 0) }
+    pub walk-on : (then : Option ℕ) → SomeIff then (0 < next) (pin_gate next) → {r : List ℕ} → Passed library netlist xs (pin_gate pin) then q r → Walk library netlist xs line q₀ next r
+    walk-on then n {r} p =
+        record { inside = omega (arith, next-below, w.inside); reads = next-reads; partly = place then n p }
       where
-        same : then ≡ gate → 0 < next → pin_gate next ≡ pin_gate pin
-        same e h = sym (n.some h) ∙ e ∙ o.some some
+        among : List ℕ → Type 0
+        among = Partly library netlist xs (Reads netlist line) q₀ (UpTo netlist line next)
 
-        place : Dec (then ≡ gate) → Dec (next ≡ 0) → Partly library netlist xs (Reads netlist line) q₀ (UpTo netlist line next) r
-        place (no d) z =
-            partly-on library netlist xs (Reads netlist line) q₀ (UpTo netlist line pin) (UpTo netlist line next) gate (passed-other gate (o.some some)) (gate-inside gate o) w.partly (p.other d)
-        place (yes e) (yes z) = absurd (omega (arith, n.none z, gate-inside gate o, chained.count))
-        place (yes e) (no z) =
-            rw (p.same e)
-            (partly-same library netlist xs (Reads netlist line) q₀ (UpTo netlist line pin) (UpTo netlist line next) (passed-same (omega arith) (same e (omega arith))) w.partly)
+        other : Refreshed library netlist xs (pin_gate pin) q r → among r
+        other =
+            partly-on library netlist xs (Reads netlist line) q₀ (UpTo netlist line pin) (UpTo netlist line next) (pin_gate pin) passed-other gate-inside w.partly
 
-    pub walk-on : (to gate then : ℕ) → to ≡ next → GateOf pin gate → GateOf to then → {r : List ℕ} → Passed library netlist xs gate then q r → Walk library netlist xs line q₀ to r
-    walk-on to gate then e o n {r} p =
-        subst (λ (x : ℕ). Walk library netlist xs line q₀ x r) (sym e) (walk-to gate then o (subst (λ (x : ℕ). GateOf x then) e n) p)
+        same : 0 < next → pin_gate next ≡ pin_gate pin → r ≡ q → among r
+        same h e u =
+            rw u
+            (partly-same library netlist xs (Reads netlist line) q₀ (UpTo netlist line pin) (UpTo netlist line next) (passed-same h e) w.partly)
+
+        place : (then : Option ℕ) → SomeIff then (0 < next) (pin_gate next) → Passed library netlist xs (pin_gate pin) then q r → among r
+        place None n p = other (p.other (λ e. cc))
+        place (Some g) n p = decide (ℕ_discrete g (pin_gate pin))
+          where
+            decide : Dec (g ≡ pin_gate pin) → among r
+            decide (yes e) = same n.0 (sym n.1 ∙ e) (p.same (ap Some e))
+            decide (no d) = other (p.other (λ e. d (let f : g ≡ pin_gate pin = cc in f)))
 
   pub walk_end : {q : List ℕ} → Walk library netlist xs line q₀ 0 q → Fresh library netlist xs (Reads netlist line) q₀ q
   walk_end w = partly-all library netlist xs (Reads netlist line) q₀ (UpTo netlist line 0) (λ g b t. omega (arith, t.1, t.2)) w.partly

@@ -1,6 +1,7 @@
 -- The start of a run, and its steps one after the other.
 use Rattle.common_laws.proofs.Base.{false, List, ◌⊎◌, inl, inr, ◌≡◌, refl, sym, ap, ◌∙◌, subst, ℕ, suc, ◌+◌, ◌/◌, ◌%◌, ◌≤◌, ◌<◌, ℕ_discrete, dec_lt, add-one, arith, length, get_or}
 use Rattle.common_laws.proofs.Base.{replicate, length-replicate, List-get_or-eq-default}
+use Rattle.std.proofs.Common.{Some, None}
 use Rattle.sizes.specs.Sizes as Size
 use Rattle.sizes.specs.Places.{leaf_place}
 use Rattle.reading.specs.Choice.{pick}
@@ -32,7 +33,7 @@ use Rattle.calculation.proofs.Bounds.{all_from}
 use Rattle.calculation.proofs.PlansAlike.{start_first}
 use Rattle.sweep_start.specs.Start.{lines_start}
 use Rattle.sweep_runs.proofs.Bridge.{start_is}
-use Rattle.budget_queue.specs.Queue.{cost_at, Queue, Empty, Put}
+use Rattle.budget_queue.specs.Queue.{cost_at, NoCost, Put}
 use Rattle.budget_run.specs.Steps.{LeafAmong, Stale, Fresh, AnyGate}
 use Rattle.budget_run.specs.Queued.{leaf_bid, Matches, PricesFit, Priced, Made, Stepped, RanWithin}
 use Rattle.budget_run.proofs.Bids.{search_below}
@@ -97,7 +98,6 @@ module _ {library netlist : List ℕ} {cells : List Cell} {ss : List Statement} 
   pub matches-start : {prices q q' : List ℕ} → prices ≡ start ss → Priced prices q → Fresh library netlist none AnyGate q q' → Matches cells ss none q'
   matches-start e p f =
       record {
-        queue = f.queue;
         bids = f.fresh (leaf_bid cells ss none) (held-bids h none) (stale-start e p);
         size = length-replicate Size.numbers never;
       }
@@ -125,34 +125,32 @@ module _ {cells : List Cell} {ss : List Statement} where
   unfolding best_within budgeted unbegun
   after-start m = record { matches = m; numbers_are = refl; steps_are = refl; last_is = refl }
 
-  pub after_on : {steps last cost : ℕ} {numbers q ys q' : List ℕ} → After cells ss steps last numbers q → Stepped cells ss numbers cost ys q' → cost < never → After cells ss (steps + 1) cost ys q'
-  after_on {steps} s t h =
-      let m : Made (best_within cells ss steps) (step (system cells ss) values (best_within cells ss steps)) _ = t.made (best_within cells ss steps) s.numbers_are in
+  pub after_on : {steps last cost : ℕ} {numbers q ys q' : List ℕ} → After cells ss steps last numbers q → Stepped cells ss numbers (Some cost) ys q' → After cells ss (steps + 1) cost ys q'
+  after_on {steps} {cost = cost} s t =
+      let m : Made (best_within cells ss steps) (step (system cells ss) values (best_within cells ss steps)) (Some cost) = t.made (best_within cells ss steps) s.numbers_are in
       record {
         matches = t.matches;
         numbers_are = ap (λ (b : Budgeted). b.numbers) (within-next cells ss steps) ∙ t.numbers (best_within cells ss steps) s.numbers_are;
-        steps_are = ap (λ (b : Budgeted). b.steps) (within-next cells ss steps) ∙ (m.fixes h).0 ∙ ap suc s.steps_are ∙ sym (add-one steps);
-        last_is = ap (λ (b : Budgeted). b.last) (within-next cells ss steps) ∙ (m.fixes h).1;
+        steps_are = ap (λ (b : Budgeted). b.steps) (within-next cells ss steps) ∙ m.0 ∙ ap suc s.steps_are ∙ sym (add-one steps);
+        last_is = ap (λ (b : Budgeted). b.last) (within-next cells ss steps) ∙ m.1;
       }
 
-  pub ran-all : {budget steps last : ℕ} {numbers q : List ℕ} → steps ≡ budget → After cells ss steps last numbers q → RanWithin cells ss budget steps last numbers q
-  ran-all {budget} e s =
+  pub ran-all : {budget last : ℕ} {numbers q : List ℕ} → After cells ss budget last numbers q → RanWithin cells ss budget budget last numbers q
+  ran-all s =
       record {
-        queue = s.matches.queue;
         size = s.matches.size;
-        numbers_are = rw (← e) (sym s.numbers_are);
-        steps_are = rw (← e) (sym s.steps_are);
-        last_is = rw (← e) (sym s.last_is);
-        bids = rw (← e, s.numbers_are) s.matches.bids;
+        numbers_are = sym s.numbers_are;
+        steps_are = sym s.steps_are;
+        last_is = sym s.last_is;
+        bids = rw s.numbers_are s.matches.bids;
       }
 
-  pub ran_out : {budget steps last cost : ℕ} {numbers q ys q' : List ℕ} → steps ≤ budget → After cells ss steps last numbers q → Stepped cells ss numbers cost ys q' → never ≤ cost → RanWithin cells ss budget steps last ys q'
-  ran_out {budget} {steps} {ys = ys} b s t h =
-      let e : step (system cells ss) values (best_within cells ss steps) ≡ best_within cells ss steps = (t.made (best_within cells ss steps) s.numbers_are).rests h in
+  pub ran_out : {budget steps last : ℕ} {numbers q ys q' : List ℕ} → steps ≤ budget → After cells ss steps last numbers q → Stepped cells ss numbers None ys q' → RanWithin cells ss budget steps last ys q'
+  ran_out {budget} {steps} {ys = ys} b s t =
+      let e : step (system cells ss) values (best_within cells ss steps) ≡ best_within cells ss steps = t.made (best_within cells ss steps) s.numbers_are in
       let same : best_within cells ss budget ≡ best_within cells ss steps = idle-within cells ss steps budget e b in
       let n : (best_within cells ss steps).numbers ≡ ys = sym (ap (λ (x : Budgeted). x.numbers) e) ∙ t.numbers (best_within cells ss steps) s.numbers_are in
       record {
-        queue = t.matches.queue;
         size = t.matches.size;
         numbers_are = rw same (sym n);
         steps_are = rw same (sym s.steps_are);
@@ -164,16 +162,14 @@ module _ {cells : List Cell} {ss : List Statement} where
 
 -- The first prices are on offer.
 pub record PricedTo (prices : List ℕ) (from : ℕ) (q : List ℕ) : Type 0 where
-  pub queue : Queue q
   pub lines : (i : ℕ) → i < from → cost_at q i ≡ get_or prices (leaf_place i) 0
 
-pub priced-start : (prices : List ℕ) {q : List ℕ} → Empty q → PricedTo prices 0 q
-priced-start prices e = record { queue = e.queue; lines = λ i h. absurd (omega arith) }
+pub priced-start : (prices : List ℕ) {q : List ℕ} → NoCost q → PricedTo prices 0 q
+priced-start prices e = record { lines = λ i h. absurd (omega arith) }
 
 pub priced-on : {prices q r : List ℕ} {leaf : ℕ} → leaf < Size.leaves → PricedTo prices leaf q → Put leaf (get_or prices (leaf_place leaf) 0) q r → PricedTo prices (leaf + 1) r
 priced-on {prices} {q} {r} {leaf} b p t =
     record {
-      queue = t.queue;
       lines = λ i h. lines i h (ℕ_discrete i leaf);
     }
   where
@@ -182,13 +178,13 @@ priced-on {prices} {q} {r} {leaf} b p t =
     lines i h (no e) = t.others i (omega arith) e ∙ p.lines i (omega arith)
 
 pub priced-all : {prices q : List ℕ} {from : ℕ} → from ≡ Size.leaves → PricedTo prices from q → Priced prices q
-priced-all e p = record { queue = p.queue; lines = λ i h. p.lines i (omega arith) }
+priced-all e p = record { lines = λ i h. p.lines i (omega arith) }
 
 module _ {library netlist : List ℕ} {cells : List Cell} {ss : List Statement} (h : Holds library netlist cells ss) where
   pub held_start : lines_start false netlist Size.lines 1 ≡ start ss
   held_start = rw h.statements_stand (start_is cells ss h.sound h.behind h.past false)
 
-  pub prices-fit : {prices q : List ℕ} → prices ≡ lines_start false netlist Size.lines 1 → Empty q → PricesFit prices q
+  pub prices-fit : {prices q : List ℕ} → prices ≡ lines_start false netlist Size.lines 1 → NoCost q → PricesFit prices q
   prices-fit {prices} e m =
       record {
         size = ap length (e ∙ held_start) ∙ start-length (prices_of ss) ss;

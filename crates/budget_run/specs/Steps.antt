@@ -1,5 +1,5 @@
 -- What the steps of a budgeted run ask and leave, over the tables. The values of lines are the leaves of a queue, 0 before 1.
-use Rattle.std.specs.Prelude.{List, ◌⊎◌, ◌≡◌, ℕ, ◌+◌, ◌≤◌, ◌<◌, ltb, length, get_or}
+use Rattle.std.specs.Prelude.{List, ◌⊎◌, ◌≡◌, ℕ, ◌+◌, ◌≤◌, ◌<◌, Option, Some, ltb, length, get_or}
 use Rattle.sizes.specs.Sizes as Size
 use Rattle.sizes.specs.Places.{gate_place, leaf_of, leaf_place}
 use Rattle.reading.specs.Choice.{pick}
@@ -8,8 +8,7 @@ use Rattle.plans.specs.Sweep.{at, least}
 use Rattle.netlist_table.specs.Gates.{gate_line}
 use Rattle.sweep_groups.specs.Tables.{gate_visit}
 use Rattle.sweep_groups.specs.Fits.{TablesFit}
-use Rattle.sweep_links.specs.Lines.{pin_gate, Links}
-use Rattle.budget_queue.specs.Queue.{cost_at, Queue}
+use Rattle.budget_queue.specs.Queue.{cost_at}
 
 -- ---- one gate
 
@@ -25,14 +24,9 @@ abbrev pub gate_bid : List ℕ → List ℕ → List ℕ → ℕ → ℕ → ℕ
 gate_bid library netlist xs g v =
     bid_of (at xs (leaf_place (leaf_of (gate_line netlist g 0) v))) (gate_offer library netlist xs g v)
 
--- The tables, and their links.
-pub record TablesReady (library netlist links : List ℕ) : Type 0 where
-  pub tables_fit : TablesFit library netlist
-  pub linked : Links library netlist links
-
 -- One gate, beside the numbers.
-pub record GateReady (library netlist links numbers : List ℕ) (gate : ℕ) : Type 0 where
-  pub ready : TablesReady library netlist links
+pub record GateReady (library netlist numbers : List ℕ) (gate : ℕ) : Type 0 where
+  pub tables_fit : TablesFit library netlist
   pub inside : gate < get_or netlist 0 0
   pub size : length numbers ≡ Size.numbers
 
@@ -44,7 +38,6 @@ pub record OutputStands (netlist : List ℕ) (gate : ℕ) : Type 0 where
 
 -- The offers of a gate were taken anew, and no other changed.
 pub record Refreshed (library netlist numbers : List ℕ) (gate : ℕ) (before after : List ℕ) : Type 0 where
-  pub queue : Queue after
   pub here : (v : ℕ) → v ≤ 1 → cost_at after (leaf_of (gate_line netlist gate 0) v) ≡ gate_bid library netlist numbers gate v
   pub others : (i : ℕ) → i < Size.leaves → ((v : ℕ) → v ≤ 1 → i ≡ leaf_of (gate_line netlist gate 0) v → ⊥) → cost_at after i ≡ cost_at before i
 
@@ -70,7 +63,6 @@ Stale netlist among q bids = (i : ℕ) → i < Size.leaves → (cost_at q i ≡ 
 
 -- The offers of these gates were taken anew: now each leaf has its bid.
 pub record Fresh (library netlist numbers : List ℕ) (among : ℕ → Type 0) (before after : List ℕ) : Type 0 where
-  pub queue : Queue after
   pub fresh : (bids : ℕ → ℕ) → GateBids library netlist numbers bids → Stale netlist among before bids
       → (i : ℕ) → i < Size.leaves → cost_at after i ≡ bids i
 
@@ -82,19 +74,13 @@ abbrev pub Reads : List ℕ → ℕ → ℕ → Type 0
 Reads netlist line g = (k : ℕ) × (1 ≤ k) × (k ≤ Size.pins) × (gate_line netlist g k ≡ line)
 
 -- What taking them anew asks.
-pub record RefreshFits (library netlist links numbers q : List ℕ) : Type 0 where
-  pub ready : TablesReady library netlist links
+pub record RefreshFits (library netlist numbers : List ℕ) : Type 0 where
+  pub tables_fit : TablesFit library netlist
   pub size : length numbers ≡ Size.numbers
-  pub queue : Queue q
 
 -- ---- one pin of a line's chain, from the last back
 
--- The gate of a pin's place, and no gate at the chain's end.
-pub record GateOf (pin gate : ℕ) : Type 0 where
-  pub some : 0 < pin → gate ≡ pin_gate pin
-  pub none : pin ≡ 0 → gate ≡ Size.gates
-
 -- A gate is taken anew unless the next pin of the chain is its own too.
-pub record Passed (library netlist numbers : List ℕ) (gate next : ℕ) (before after : List ℕ) : Type 0 where
-  pub same : next ≡ gate → after ≡ before
-  pub other : (next ≡ gate → ⊥) → Refreshed library netlist numbers gate before after
+pub record Passed (library netlist numbers : List ℕ) (gate : ℕ) (next : Option ℕ) (before after : List ℕ) : Type 0 where
+  pub same : next ≡ Some gate → after ≡ before
+  pub other : (next ≡ Some gate → ⊥) → Refreshed library netlist numbers gate before after

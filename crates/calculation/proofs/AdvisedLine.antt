@@ -12,12 +12,12 @@ use Rattle.netlist_table.specs.Sound.{InRange}
 use Rattle.netlist_table.proofs.HeldLines.{where-same}
 use Rattle.netlist_table.proofs.Laws.{mentioned-in-range}
 use Rattle.calculation.specs.declared.Advice.{Advice}
-use Rattle.calculation.specs.declared.Advice.TheVariants.{NoneAllowed, Pad}
+use Rattle.std.specs.Prelude.{Option, Some, None}
 use Rattle.calculation.specs.Nodes.{combinational, observe, node}
 use Rattle.calculation.specs.Acceptance.{BothSound}
 use Rattle.calculation.specs.Prices.{prices_of}
 use Rattle.calculation.specs.Calculation.{analysed}
-use Rattle.calculation.specs.Advice.{allowed, allowed_lines, with_pad, observed_with, leaves, largest, before, best, advice, rank_words, rank_of, no_rank, line_rank, line_ranks, ranks, LeavesExact, LargestLeft, Says, AdviceSays, ForbidSame, SameAdvice, SameRanks}
+use Rattle.calculation.specs.Advice.{allowed, allowed_lines, with_pad, observed_with, leaves, largest, pad, before, best, advice, rank_words, rank_of, no_rank, line_rank, line_ranks, ranks, LeavesExact, LargestLeft, Says, AdviceSays, ForbidSame, SameAdvice, SameRanks, Best}
 use Rattle.calculation.proofs.Places.{node-inside}
 use Rattle.calculation.proofs.Prices.{own-figures}
 use Rattle.calculation.proofs.Bounds.{numbers-length}
@@ -100,31 +100,17 @@ record First (f : ℕ → ℕ) (ls : List ℕ) (l x : ℕ) : Type 0 where
   pub least : (m : ℕ) → List-as-Memᴰ m ls → x ≤ f m
   pub lowest : (m : ℕ) → List-as-Memᴰ m ls → f m ≡ x → l ≤ m
 
-pub none-pad : (l x : ℕ) → ◌≡◌ {A = Read Advice} (read NoneAllowed) (read (Pad l x)) → ⊥
+pub none-pad : (l x : ℕ) → ◌≡◌ {A = Read (Option Advice)} (read None) (read (pad l x)) → ⊥
 none-pad l x e = let z : ◌≡◌ {A = ℕ} 0 1 = cc in omega arith
 
-abbrev FirstSaid : (ℕ → ℕ) → List ℕ → Advice → Type 0
-FirstSaid f ls NoneAllowed = ls ≡ []
-FirstSaid f ls (Pad l x) = First f ls l x
+abbrev FirstSaid : (ℕ → ℕ) → List ℕ → Option Advice → Type 0
+FirstSaid f ls None = ls ≡ []
+FirstSaid f ls (Some a) = First f ls a.line a.largest
 
-one_more_lem : (f : ℕ → ℕ) (l : ℕ) (ls : List ℕ) → ((m : ℕ) → List-as-Memᴰ m ls → l ≤ m) → (a : Advice) → FirstSaid f ls a → FirstSaid f (l ∷ ls) (before l (f l) a)
-unfolding before pick
-one_more_lem f l ls up NoneAllowed e =
-    record {
-      listed = List-Memᴰ-head refl;
-      carries = refl;
-      least = λ m i. alone m i;
-      lowest = λ m i q. low m i;
-    }
-  where
-    low : (m : ℕ) → List-as-Memᴰ m (l ∷ ls) → l ≤ m
-    low m (List-Memᴰ-head q) = le_of_eq (sym q)
-    low m (List-Memᴰ-tail i) = up m i
-
-    alone : (m : ℕ) → List-as-Memᴰ m (l ∷ ls) → f l ≤ f m
-    alone m (List-Memᴰ-head q) = le_of_eq (ap f (sym q))
-    alone m (List-Memᴰ-tail i) = absurd (List-Memᴰ-not-nil (rw e at i))
-one_more_lem f l ls up (Pad k y) h = by_test (leb (f l) y) (λ t. rw t (first (leb-true (f l) y t))) (λ t. rw t (later (leb-false (f l) y t)))
+more_lem : (f : ℕ → ℕ) (l : ℕ) (ls : List ℕ) → ((m : ℕ) → List-as-Memᴰ m ls → l ≤ m) → (k y : ℕ) → First f ls k y
+    → FirstSaid f (l ∷ ls) (pick (leb (f l) y) (pad l (f l)) (pad k y))
+unfolding pick
+more_lem f l ls up k y h = by_test (leb (f l) y) (λ t. rw t (first (leb-true (f l) y t))) (λ t. rw t (later (leb-false (f l) y t)))
   where
     first : f l ≤ y → First f (l ∷ ls) l (f l)
     first b = record { listed = List-Memᴰ-head refl; carries = refl; least = least; lowest = λ m i q. low m i }
@@ -147,6 +133,25 @@ one_more_lem f l ls up (Pad k y) h = by_test (leb (f l) y) (λ t. rw t (first (l
         low : (m : ℕ) → List-as-Memᴰ m (l ∷ ls) → f m ≡ y → k ≤ m
         low m (List-Memᴰ-head q) e = let z : f l ≡ y = ap f (sym q) ∙ e in absurd (omega arith)
         low m (List-Memᴰ-tail i) e = h.lowest m i e
+
+one_more_lem : (f : ℕ → ℕ) (l : ℕ) (ls : List ℕ) → ((m : ℕ) → List-as-Memᴰ m ls → l ≤ m) → (a : Option Advice) → FirstSaid f ls a → FirstSaid f (l ∷ ls) (before l (f l) a)
+unfolding before pick
+one_more_lem f l ls up None e =
+    record {
+      listed = List-Memᴰ-head refl;
+      carries = refl;
+      least = λ m i. alone m i;
+      lowest = λ m i q. low m i;
+    }
+  where
+    low : (m : ℕ) → List-as-Memᴰ m (l ∷ ls) → l ≤ m
+    low m (List-Memᴰ-head q) = le_of_eq (sym q)
+    low m (List-Memᴰ-tail i) = up m i
+
+    alone : (m : ℕ) → List-as-Memᴰ m (l ∷ ls) → f l ≤ f m
+    alone m (List-Memᴰ-head q) = le_of_eq (ap f (sym q))
+    alone m (List-Memᴰ-tail i) = absurd (List-Memᴰ-not-nil (rw e at i))
+one_more_lem f l ls up (Some a) h = more_lem f l ls up a.line a.largest h
 
 best_first : (f : ℕ → ℕ) (p : ℕ → Bool) (ls : List ℕ) → Ascending p ls → FirstSaid f ls (best f ls)
 unfolding best
@@ -217,10 +222,8 @@ module _ (cells : List Cell) (ss : List Statement) (sound : BothSound cells ss) 
         (rw (numbers-length cells (with_pad ss l) both price (own-figures both)) (node-inside combinational (observe m) range)))
         (exact cells (with_pad ss l) both price (own-figures both) combinational (observe m) range)
 
-    says : (a : Advice) → FirstSaid (λ l. largest (leaves cells ss l)) (allowed_lines ss forbidden) a → Says cells ss forbidden a
-    says NoneAllowed e = λ m.
-        by_test (allowed ss forbidden m) (λ t. absurd (List-Memᴰ-not-nil (rw e at (allowed-listed m t)))) (λ t. t)
-    says (Pad l x) h =
+    named : (l x : ℕ) → First (λ l. largest (leaves cells ss l)) (allowed_lines ss forbidden) l x → Best cells ss forbidden l x
+    named l x h =
         let t : allowed ss forbidden l ≡ true = listed-allowed l h.listed in
         record {
           is_allowed = t;
@@ -229,6 +232,11 @@ module _ (cells : List Cell) (ss : List Statement) (sound : BothSound cells ss) 
           least = λ m y a left. rw (left-once m y left) at (h.least m (allowed-listed m a));
           lowest = λ m a left. h.lowest m (allowed-listed m a) (left-once m x left);
         }
+
+    says : (a : Option Advice) → FirstSaid (λ l. largest (leaves cells ss l)) (allowed_lines ss forbidden) a → Says cells ss forbidden a
+    says None e = λ m.
+        by_test (allowed ss forbidden m) (λ t. absurd (List-Memᴰ-not-nil (rw e at (allowed-listed m t)))) (λ t. t)
+    says (Some a) h = named a.line a.largest h
 
 pub advice_says : AdviceSays
 unfolding advice allowed_lines

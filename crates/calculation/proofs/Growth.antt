@@ -7,7 +7,9 @@ use Rattle.reading.proofs.Laws.{by_test, clash, and_left, and_right, or_cases}
 use Rattle.text.specs.Lines.{same_bytes}
 use Rattle.text.proofs.Laws.{same_bytes_refl, same_bytes-true}
 use Rattle.library_table.proofs.Any.{any-member}
-use Rattle.library_table.specs.Cells.{Heading, plain, deep, Row, Group, Cell}
+use Rattle.library_table.specs.Cells.{Row, Group, Cell}
+use Rattle.library_table.specs.declared.Heading.{Heading}
+use Rattle.library_table.specs.declared.Heading.TheVariants.{Plain as plain, Deep as deep}
 use Rattle.library_table.specs.Library.{any_of, word_groups, cell_named}
 use Rattle.netlist_table.specs.Netlist.{Statement, pins_at}
 use Rattle.netlist_table.specs.Sound as N

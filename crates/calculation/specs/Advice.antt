@@ -1,6 +1,6 @@
 -- The pad adviser: which one allowed line, padded alone, leaves the lowest largest CO; and, beyond the request, what a pad on
 -- each allowed line leaves, so that a caller can rank them. Document 02, K13.
-use Rattle.std.specs.Prelude.{Bool, true, false, not, ◌&&◌, List, [], ◌∷◌, ◌++◌, map, ◌≡◌, ℕ, zero, suc, ◌≤◌, max, leb}
+use Rattle.std.specs.Prelude.{Bool, true, false, not, ◌&&◌, List, [], ◌∷◌, ◌++◌, map, ◌≡◌, ℕ, zero, suc, ◌≤◌, max, leb, Option, Some, None}
 use Rattle.sizes.specs.Sizes as Size
 use Rattle.reading.specs.Choice.{pick}
 use Rattle.cost.specs.Cost.{most, never, is_never, is_over, ◌⊕◌}
@@ -8,7 +8,6 @@ use Rattle.plans.specs.Sweep.{at}
 use Rattle.library_table.specs.Cells.{Cell}
 use Rattle.netlist_table.specs.Netlist.{Statement, mark, output, member, mentioned, is_output, lines_where}
 use Rattle.calculation.specs.declared.Advice.{Advice}
-use Rattle.calculation.specs.declared.Advice.TheVariants.{NoneAllowed, Pad}
 use Rattle.calculation.specs.Nodes.{combinational, observe, node}
 use Rattle.calculation.specs.Acceptance.{BothSound}
 use Rattle.calculation.specs.Calculation.{analysed}
@@ -45,17 +44,21 @@ unfoldable pub largest : List ℕ → ℕ
 largest [] = 0
 largest (x ∷ xs) = max x (largest xs)
 
+-- An advice: a line, and the largest CO that a pad on it leaves.
+abbrev pub pad : ℕ → ℕ → Option Advice
+pad l x = Some (record { line = l; largest = x })
+
 -- "names one allowed line .. The answer carries that largest CO"; "with no such line, and only then, it says so". "Ties go to
 -- the lowest line": a line before others keeps its place where it leaves no more than they.
-unfoldable pub before : ℕ → ℕ → Advice → Advice
-before l x NoneAllowed = Pad l x
-before l x (Pad m y) = pick (leb x y) (Pad l x) (Pad m y)
+unfoldable pub before : ℕ → ℕ → Option Advice → Option Advice
+before l x None = pad l x
+before l x (Some a) = pick (leb x a.largest) (pad l x) (Some a)
 
-unfoldable pub best : (ℕ → ℕ) → List ℕ → Advice
-best f [] = NoneAllowed
+unfoldable pub best : (ℕ → ℕ) → List ℕ → Option Advice
+best f [] = None
 best f (l ∷ ls) = before l (f l) (best f ls)
 
-unfoldable pub advice : List Cell → List Statement → List ℕ → Advice
+unfoldable pub advice : List Cell → List Statement → List ℕ → Option Advice
 advice cells ss forbidden = best (λ l. largest (leaves cells ss l)) (allowed_lines ss forbidden)
 
 -- ---- the ranks
@@ -131,9 +134,9 @@ pub record Best (cells : List Cell) (ss : List Statement) (forbidden : List ℕ)
   pub lowest : (m : ℕ) → allowed ss forbidden m ≡ true → LargestLeft cells ss m x → l ≤ m
 
 -- "with no such line, and only then, it says so".
-abbrev pub Says : List Cell → List Statement → List ℕ → Advice → Type 0
-Says cells ss forbidden NoneAllowed = (m : ℕ) → allowed ss forbidden m ≡ false
-Says cells ss forbidden (Pad l x) = Best cells ss forbidden l x
+abbrev pub Says : List Cell → List Statement → List ℕ → Option Advice → Type 0
+Says cells ss forbidden None = (m : ℕ) → allowed ss forbidden m ≡ false
+Says cells ss forbidden (Some a) = Best cells ss forbidden a.line a.largest
 
 -- `advice_says` of proofs/AdvisedLine.antt.
 abbrev pub AdviceSays : Type 0

@@ -2,7 +2,9 @@
 use Rattle.std.specs.Prelude.{Bool, true, false, not, ◌&&◌, ◌||◌, List, [], ◌∷◌, eqb}
 use Rattle.reading.specs.Choice.{pick}
 use Rattle.text.specs.Lines.{same_bytes}
-use Rattle.library_table.specs.Cells.{Heading, plain, deep, Row, Group, Cell}
+use Rattle.library_table.specs.Cells.{Row, Group, Cell}
+use Rattle.library_table.specs.declared.Heading.{Heading}
+use Rattle.library_table.specs.declared.Heading.TheVariants.{Plain as plain, Deep as deep}
 use Rattle.calculation.specs.Ways.{one_wire}
 
 -- Rows are the same by depth and columns.

@@ -17,10 +17,10 @@ pub struct Counts {
     pub so: u32,
 }
 
-// What the pad adviser says: that no line may be padded, or a line, and the largest CO that a pad on it
-// leaves. specs/Advice.antt has what it says of which netlist.
-#[derive(Clone, Copy)]
-pub enum Advice {
-    NoneAllowed,
-    Pad(u32, u32),
+// What the pad adviser says: a line that may be padded, and the largest CO that a pad on it leaves.
+// specs/Advice.antt has what it says of which netlist; where no line may be padded there is none.
+#[derive(Clone, Copy, PartialEq, Eq)]
+pub struct Advice {
+    pub line: u32,
+    pub largest: u32,
 }

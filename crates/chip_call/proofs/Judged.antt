@@ -8,37 +8,36 @@ use Rattle.netlist_table.specs.Gates.{gate_cell, each_of, gate_at}
 use Rattle.netlist_table.proofs.HeldGates.{each_next, each-end}
 use Rattle.chip_call.specs.Qualified.{all_generated, Known, Judged}
 
-zero_everywhere : (n c : ℕ) → ◌≡◌ {A = ℕ} (get_or (replicate n 0) c 0) 0
-zero_everywhere zero c = refl
-zero_everywhere (suc n) zero = refl
-zero_everywhere (suc n) (suc c) = zero_everywhere n c
+none_marked : (n c : ℕ) → get_or (replicate n false) c false ≡ false
+none_marked zero c = refl
+none_marked (suc n) zero = refl
+none_marked (suc n) (suc c) = none_marked n c
 
 -- No cell is known before the first gate.
-pub known-none : (library : List ℕ) (n : ℕ) → Known library (replicate n 0)
+pub known-none : (library : List ℕ) (n : ℕ) → Known library (replicate n false)
 unfolding Known
-known-none library n c h = absurd (h (zero_everywhere n c))
+known-none library n c h = clash true refl (sym h ∙ none_marked n c)
 
-module _ (library : List ℕ) (cell : ℕ) (known : List ℕ) (k : Known library known) where
-  pub judged-known : {w : ℕ} → w ≡ get_or known cell 0 → (w ≡ 0 → ⊥) → Judged library cell known true
+module _ (library : List ℕ) (cell : ℕ) (known : List Bool) (k : Known library known) where
+  pub judged-known : {w : Bool} → w ≡ get_or known cell false → w ≡ true → Judged library cell known true
   unfolding Known
-  judged-known e h = record { answer = sym (k cell (λ z. h (e ∙ z))); still = k }
+  judged-known e h = record { answer = sym (k cell (sym e ∙ h)); still = k }
 
   module _ {r : Bool} (e : r ≡ generated_at library cell) where
     pub judged-other : not r ≡ true → Judged library cell known false
     judged-other n = record { answer = by_test r (λ t. clash (not r) n (rw t)) (λ t. sym t ∙ e); still = k }
 
-    pub judged-new : not r ≡ false → {after : List ℕ} → after ≡ set known cell 1 → Judged library cell after true
-    unfolding Known
-    judged-new n a =
-        let is : true ≡ generated_at library cell = by_test r (λ t. sym t ∙ e) (λ t. clash (not r) (rw t) n) in
-        rw a (record {
-          answer = is;
-          still = λ c h. go c h is (ℕ_discrete c cell);
-        })
-      where
-        go : (c : ℕ) → (get_or (set known cell 1) c 0 ≡ 0 → ⊥) → true ≡ generated_at library cell → Dec (c ≡ cell) → generated_at library c ≡ true
-        go c h is (yes q) = rw q (sym is)
-        go c h is (no q) = k c (λ z. h (get_or-set_other known cell c 1 0 q ∙ z))
+    module _ (n : not r ≡ false) where
+      is : true ≡ generated_at library cell
+      is = by_test r (λ t. sym t ∙ e) (λ t. clash (not r) (rw t) n)
+
+      pub judged-new : {after : List Bool} → after ≡ set known cell true → Judged library cell after true
+      unfolding Known
+      judged-new a = rw a (record { answer = is; still = λ c h. go c h (ℕ_discrete c cell) })
+        where
+          go : (c : ℕ) → get_or (set known cell true) c false ≡ true → Dec (c ≡ cell) → generated_at library c ≡ true
+          go c h (yes q) = rw q (sym is)
+          go c h (no q) = k c (sym (get_or-set_other known cell c true false q) ∙ h)
 
 module _ (library netlist : List ℕ) (n g : ℕ) where
   module _ (h : g < n) {cell : ℕ} (at : cell ≡ gate_cell netlist g) {r : Bool} (e : r ≡ generated_at library cell) where

@@ -1,5 +1,5 @@
 -- Of which netlists document 02, K8, speaks, by the numbers of the tables, and what the answer says of cells and statements.
-use Rattle.std.specs.Prelude.{Bool, true, ◌&&◌, List, [], ◌∷◌, ◌↔◌, ◌≡◌, ℕ, ◌≤◌, eqb, get_or}
+use Rattle.std.specs.Prelude.{Bool, true, false, ◌&&◌, List, [], ◌∷◌, ◌↔◌, ◌≡◌, ℕ, ◌≤◌, eqb, get_or}
 use Rattle.reading.specs.Choice.{pick}
 use Rattle.library_table.specs.Cells.{Cell}
 use Rattle.netlist_table.specs.Netlist.{Gate, Statement}
@@ -11,12 +11,20 @@ use Rattle.chip_values.specs.Loops.{ReadOnce}
 use Rattle.chip_values.specs.Built.{Built, Qualifies, tables_of}
 use Rattle.chip_values.specs.Never.{NeverMeans, NeverExactly}
 use Rattle.truth_cells.specs.Words.{generated_at}
+use Rattle.chip_call.specs.declared.Theorems.{Theorems}
+use Rattle.chip_call.specs.declared.Theorems.TheVariants.{Neither, First, Both}
 use Rattle.chip_loops.specs.Marks.{without_loops, read_once}
 
 -- "built only of cells that K6 generates, constants among them"
 unfoldable pub all_generated : List ℕ → List Gate → Bool
 all_generated library [] = true
 all_generated library (g ∷ gs) = generated_at library g.cell && all_generated library gs
+
+-- How many of K8's theorems hold.
+abbrev pub theorems_number : Theorems → ℕ
+theorems_number Neither = 0
+theorems_number First = 1
+theorems_number Both = 2
 
 -- 0 where K8 says nothing of the netlist, 1 where its first theorem holds of it, 2 where both do.
 unfoldable pub qualifying : List ℕ → List ℕ → ℕ
@@ -46,10 +54,10 @@ pub record Qualified (library netlist : List ℕ) (said : ℕ) : Type 0 where
 
 -- ---- cells that were judged before
 
--- A cell with a mark other than 0 is generated.
-unfoldable pub Known : List ℕ → List ℕ → Type 0
-Known library known = (c : ℕ) → (get_or known c 0 ≡ 0 → ⊥) → generated_at library c ≡ true
+-- A cell with a mark is generated.
+unfoldable pub Known : List ℕ → List Bool → Type 0
+Known library known = (c : ℕ) → get_or known c false ≡ true → generated_at library c ≡ true
 
-pub record Judged (library : List ℕ) (cell : ℕ) (known : List ℕ) (said : Bool) : Type 0 where
+pub record Judged (library : List ℕ) (cell : ℕ) (known : List Bool) (said : Bool) : Type 0 where
   pub answer : said ≡ generated_at library cell
   pub still : Known library known

@@ -6,27 +6,49 @@
 #![tactic(auto)]
 
 ghost use Rattle.std.specs.Prelude.{◌≡◌};
-ghost use Rattle.truth_cells.specs.Words.{generated_at};
 ghost use Rattle.netlist_table.specs.Gates.{gates_held};
-ghost use Rattle.chip_call.specs.Qualified.{all_generated, Known, Judged, Qualified};
+ghost use Rattle.chip_call.specs.Qualified.{theorems_number, all_generated, Known, Judged, Qualified};
 
 use chip_loops::{read_once, without_loops};
 use netlist_table::gates::{cell_of, count};
-use table::{put, word};
+use table::{at_or, put_at};
 use truth_cells::is_generated;
 
+// Which of K8's two theorems hold of a netlist.
+#[derive(Clone, Copy, PartialEq, Eq)]
+pub enum Theorems {
+    // K8 says nothing of it.
+    Neither,
+    First,
+    Both,
+}
+
+impl Theorems {
+    // How many they are, which is the number for C.
+    pub fn number(self) -> u32
+        ensures { result ≡ theorems_number self }
+    {
+        match self {
+            Self::Neither => 0,
+            Self::First => 1,
+            Self::Both => 2,
+        }
+    }
+}
+
 // Whether a cell is generated; one that was found to be is not looked at again.
-fn judge(library: &[u32], cell: u32, known: &mut [u32]) -> bool
+fn judge(library: &[u32], cell: u32, known: &mut [bool]) -> bool
     requires { Known library.now known.old }
     ensures { Judged library.now cell known.new result }
 {
-    if word(known, cell as usize) != 0 {
+    let place = cell as usize;
+    if at_or(known, place, false) {
         return true;
     }
     if !is_generated(library, cell) {
         return false;
     }
-    put(known, cell as usize, 1);
+    put_at(known, place, true);
     true
 }
 
@@ -34,27 +56,29 @@ fn judge(library: &[u32], cell: u32, known: &mut [u32]) -> bool
 fn all_generated(library: &[u32], netlist: &[u32]) -> bool
     ensures { result ≡ all_generated library.now (gates_held netlist.now) }
 {
-    let gates = count(netlist);
-    let mut known = [0u32; sizes::CELLS];
-    let mut gate = 0;
-    while gate < gates {
+    let mut known = [false; sizes::CELLS];
+    // Not `all`: `judge` keeps what is known as it goes, and what a closure changes is not told.
+    for gate in 0..count(netlist) {
         if !judge(library, cell_of(netlist, gate), &mut known) {
             return false;
         }
-        gate += 1;
     }
     true
 }
 
-// 0 where K8 says nothing of the netlist, 1 where its first theorem holds of it, 2 where both do.
-pub fn qualifies(library: &[u32], netlist: &[u32]) -> u32
-    ensures { Qualified library.now netlist.now result }
+// Which of K8's theorems hold of the netlist.
+pub fn qualifies(library: &[u32], netlist: &[u32]) -> Theorems
+    ensures { Qualified library.now netlist.now (theorems_number result) }
 {
     if !without_loops(netlist) {
-        return 0;
+        return Theorems::Neither;
     }
     if !all_generated(library, netlist) {
-        return 0;
+        return Theorems::Neither;
     }
-    if read_once(netlist) { 2 } else { 1 }
+    if read_once(netlist) {
+        Theorems::Both
+    } else {
+        Theorems::First
+    }
 }

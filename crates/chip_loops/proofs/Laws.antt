@@ -1,5 +1,5 @@
 -- What the two calls say of the statements that were read.
-use Rattle.common_laws.proofs.Base.{true, false, List, [], ◌∷◌, flat_map, ◌↔◌, ⊎_elim, ◌≡◌, refl, ℕ, arith, eqb, length-replicate, eqb-true}
+use Rattle.common_laws.proofs.Base.{Bool, true, false, List, [], ◌∷◌, flat_map, ◌↔◌, ⊎_elim, ◌≡◌, refl, ℕ, arith, eqb, length-replicate, eqb-true}
 use Rattle.sizes.specs.Sizes as Size
 use Rattle.reading.specs.Each.{Each}
 use Rattle.reading.proofs.Laws.{by_test, clash}
@@ -49,7 +49,7 @@ module _ {table : List ℕ} {cells : List Cell} {ss : List Statement} (sound : B
   unfolding read_once ReadOnce lines_read InRange
   read-once =
       let range = pins-range cells (gates_of ss) sound.netlist.gates in
-      let size = length-replicate {A = ℕ} Size.line_places 0 in
+      let size = length-replicate {A = Bool} Size.line_places false in
       rw (holds.words, gates-held sound.netlist holds.past sound.library) (
         (λ t. (once-apart no_marks (pins_of (gates_of ss)) (λ l m. rw size (omega (arith, (range l m).1))) t).0),
         (λ a. apart-once no_marks (pins_of (gates_of ss)) a (λ l m. none-marked Size.line_places l)),

@@ -20,23 +20,23 @@ use Rattle.chip_loops.proofs.Steps.{level-same, level-size, passes-size, passes-
 -- ---- what is levelled stays so
 
 module _ (k : ℕ) where
-  pub level-keeps : (marks : List ℕ) (g : Gate) → marked marks k ≡ true → marked (level marks g) k ≡ true
+  pub level-keeps : (marks : List Bool) (g : Gate) → marked marks k ≡ true → marked (level marks g) k ≡ true
   unfolding level pick
   level-keeps marks g t = by_test (ready marks g) (λ r. rw r (set_keeps marks g.line k t)) (λ r. rw r t)
 
-  pass-keeps : (gs : List Gate) (marks : List ℕ) → marked marks k ≡ true → marked (pass gs marks) k ≡ true
+  pass-keeps : (gs : List Gate) (marks : List Bool) → marked marks k ≡ true → marked (pass gs marks) k ≡ true
   unfolding pass
   pass-keeps [] marks t = t
   pass-keeps (g ∷ gs) marks t = pass-keeps gs (level marks g) (level-keeps marks g t)
 
-  passes_keep : (n : ℕ) (gs : List Gate) (marks : List ℕ) → marked marks k ≡ true → marked (passes n gs marks) k ≡ true
+  passes_keep : (n : ℕ) (gs : List Gate) (marks : List Bool) → marked marks k ≡ true → marked (passes n gs marks) k ≡ true
   unfolding passes
   passes_keep zero gs marks t = t
   passes_keep (suc n) gs marks t = passes_keep n gs (pass gs marks) (pass-keeps gs marks t)
 
 -- ---- a pass levels the line of each gate whose pins are levelled
 
-level-levels : (marks : List ℕ) (g : Gate) → all_marked marks g.pins ≡ true → g.line < length marks
+level-levels : (marks : List Bool) (g : Gate) → all_marked marks g.pins ≡ true → g.line < length marks
     → marked (level marks g) g.line ≡ true
 unfolding level ready pick
 level-levels marks g t h =
@@ -44,7 +44,7 @@ level-levels marks g t h =
     (λ m. rw m m)
     (λ m. rw (m, t) (set-marked marks g.line h))
 
-pub pass-levels : (gs : List Gate) (marks : List ℕ) (g : Gate) → List-as-Memᴰ g gs → all_marked marks g.pins ≡ true
+pub pass-levels : (gs : List Gate) (marks : List Bool) (g : Gate) → List-as-Memᴰ g gs → all_marked marks g.pins ≡ true
     → g.line < length marks → marked (pass gs marks) g.line ≡ true
 unfolding pass
 pass-levels (h ∷ gs) marks g (List-Memᴰ-head e) t room =
@@ -57,33 +57,33 @@ pass-levels [] marks g m t room = elim m [ ]
 
 -- ---- passes come to an end: each that levels a line leaves fewer without a mark
 
-unmarked : List ℕ → ℕ
+unmarked : List Bool → ℕ
 unmarked [] = 0
-unmarked (m ∷ ms) = pick (eqb m 0) (suc (unmarked ms)) (unmarked ms)
+unmarked (m ∷ ms) = pick m (unmarked ms) (suc (unmarked ms))
 
-unmarked-few : (marks : List ℕ) → unmarked marks ≤ length marks
+unmarked-few : (marks : List Bool) → unmarked marks ≤ length marks
 unfolding unmarked pick
 unmarked-few [] = omega arith
-unmarked-few (m ∷ ms) = by_test (eqb m 0) (λ t. rw t (omega (arith, unmarked-few ms))) (λ t. rw t (omega (arith, unmarked-few ms)))
+unmarked-few (m ∷ ms) = by_test m (λ t. rw t (omega (arith, unmarked-few ms))) (λ t. rw t (omega (arith, unmarked-few ms)))
 
-unmarked-set : (marks : List ℕ) (l : ℕ) → marked marks l ≡ false → l < length marks → unmarked (set marks l 1) < unmarked marks
+unmarked-set : (marks : List Bool) (l : ℕ) → marked marks l ≡ false → l < length marks → unmarked (set marks l true) < unmarked marks
 unfolding unmarked marked pick
 unmarked-set [] l n h = absurd (omega arith)
-unmarked-set (m ∷ ms) zero n h = by_test (eqb m 0) (λ t. rw t (omega arith)) (λ t. clash (not (eqb m 0)) (rw t) n)
+unmarked-set (m ∷ ms) zero n h = by_test m (λ t. clash m t n) (λ t. rw t (omega arith))
 unmarked-set (m ∷ ms) (suc l) n h =
     let less = unmarked-set ms l n (omega arith) in
-    by_test (eqb m 0) (λ t. rw t (omega (arith, less))) (λ t. rw t (omega (arith, less)))
+    by_test m (λ t. rw t (omega (arith, less))) (λ t. rw t (omega (arith, less)))
 
 -- The same marks, or fewer lines without one.
-abbrev Fewer : List ℕ → List ℕ → Type 0
+abbrev Fewer : List Bool → List Bool → Type 0
 Fewer before after = (after ≡ before) ⊎ (unmarked after < unmarked before)
 
-fewer-next : (a b c : List ℕ) → Fewer a b → Fewer b c → Fewer a c
+fewer-next : (a b c : List Bool) → Fewer a b → Fewer b c → Fewer a c
 fewer-next a b c (inl e) f = rw (← e) f
 fewer-next a b c (inr h) (inl f) = inr (rw f h)
 fewer-next a b c (inr h) (inr i) = inr (omega arith)
 
-level-fewer : (marks : List ℕ) (g : Gate) → Fewer marks (level marks g)
+level-fewer : (marks : List Bool) (g : Gate) → Fewer marks (level marks g)
 unfolding level pick ready
 level-fewer marks g =
     by_test (ready marks g) (λ r. set-fewer r (dec_lt g.line (length marks))) (λ r. inl (level-same marks g r))
@@ -92,9 +92,9 @@ level-fewer marks g =
     set-fewer r (yes h) =
         let new : marked marks g.line ≡ false = by_test (marked marks g.line) (λ t. clash false (rw t at r) refl) (λ t. t) in
         inr (rw r (unmarked-set marks g.line new h))
-    set-fewer r (no n) = inl (rw r (set_out marks g.line 1 (omega arith)))
+    set-fewer r (no n) = inl (rw r (set_out marks g.line true (omega arith)))
 
-pass-fewer : (gs : List Gate) (marks : List ℕ) → Fewer marks (pass gs marks)
+pass-fewer : (gs : List Gate) (marks : List Bool) → Fewer marks (pass gs marks)
 unfolding pass
 pass-fewer [] marks = inl refl
 pass-fewer (g ∷ gs) marks =
@@ -102,10 +102,10 @@ pass-fewer (g ∷ gs) marks =
 
 module _ (gs : List Gate) where
   -- After n passes one more changes nothing, or n lines more have a mark.
-  abbrev Ended : ℕ → List ℕ → Type 0
+  abbrev Ended : ℕ → List Bool → Type 0
   Ended n marks = (pass gs (passes n gs marks) ≡ passes n gs marks) ⊎ (unmarked (passes n gs marks) + n ≤ unmarked marks)
 
-  passes-end : (n : ℕ) (marks : List ℕ) → Ended n marks
+  passes-end : (n : ℕ) (marks : List Bool) → Ended n marks
   unfolding passes
   passes-end zero marks = inr (omega arith)
   passes-end (suc n) marks = go (pass-fewer gs marks) (passes-end n (pass gs marks))
@@ -118,7 +118,7 @@ module _ (gs : List Gate) where
       go (inl e) (inr i) = inl (rw (e, passes-rest gs marks n e) e)
 
   -- So many passes as there are lines, and one more, come to an end.
-  pub ends : (marks : List ℕ) → length marks ≡ Size.line_places → pass gs (passes most_passes gs marks) ≡ passes most_passes gs marks
+  pub ends : (marks : List Bool) → length marks ≡ Size.line_places → pass gs (passes most_passes gs marks) ≡ passes most_passes gs marks
   ends marks size = go (passes-end most_passes marks)
     where
       go : Ended most_passes marks → pass gs (passes most_passes gs marks) ≡ passes most_passes gs marks
@@ -135,10 +135,10 @@ data Levelled (ss : List Statement) : ℕ → Type 0 where
 
 module _ (ss : List Statement) where
   -- Every line with a mark is.
-  abbrev AllLevelled : List ℕ → Type 0
+  abbrev AllLevelled : List Bool → Type 0
   AllLevelled marks = (l : ℕ) → marked marks l ≡ true → Levelled ss l
 
-  level-sound : (marks : List ℕ) (g : Gate) → List-as-Memᴰ g (gates_of ss) → AllLevelled marks → AllLevelled (level marks g)
+  level-sound : (marks : List Bool) (g : Gate) → List-as-Memᴰ g (gates_of ss) → AllLevelled marks → AllLevelled (level marks g)
   unfolding level pick ready
   level-sound marks g m all =
       by_test (ready marks g)
@@ -152,7 +152,7 @@ module _ (ss : List Statement) where
       pins-ready : ready marks g ≡ true → all_marked marks g.pins ≡ true
       pins-ready r = and_right (not (marked marks g.line)) (all_marked marks g.pins) r
 
-  pass-sound : (gs : List Gate) (marks : List ℕ) → ((g : Gate) → List-as-Memᴰ g gs → List-as-Memᴰ g (gates_of ss)) → AllLevelled marks
+  pass-sound : (gs : List Gate) (marks : List Bool) → ((g : Gate) → List-as-Memᴰ g gs → List-as-Memᴰ g (gates_of ss)) → AllLevelled marks
       → AllLevelled (pass gs marks)
   unfolding pass
   pass-sound [] marks among all = all
@@ -160,7 +160,7 @@ module _ (ss : List Statement) where
       pass-sound gs (level marks g) (λ h m. among h (List-Memᴰ-tail m))
       (level-sound marks g (among g (List-Memᴰ-head refl)) all)
 
-  passes-sound : (n : ℕ) (marks : List ℕ) → AllLevelled marks → AllLevelled (passes n (gates_of ss) marks)
+  passes-sound : (n : ℕ) (marks : List Bool) → AllLevelled marks → AllLevelled (passes n (gates_of ss) marks)
   unfolding passes
   passes-sound zero marks all = all
   passes-sound (suc n) marks all =
@@ -208,11 +208,11 @@ pub record Lists (test : ℕ → Bool) (ls : List ℕ) : Type 0 where
 
 module _ (cells : List Cell) (ss : List Statement) (sound : Sound cells ss) (inputs mentions : List ℕ)
     (are_inputs : Lists (λ l. is_input l ss) inputs) (are_mentions : Lists (λ l. mentioned l ss) mentions) where
-  abbrev at_end : List ℕ
+  abbrev at_end : List Bool
   at_end = levelled_lines inputs (gates_of ss)
 
   first_size : length (mark_each no_marks inputs) ≡ Size.line_places
-  first_size = each-size no_marks inputs ∙ length-replicate {A = ℕ} Size.line_places 0
+  first_size = each-size no_marks inputs ∙ length-replicate {A = Bool} Size.line_places false
 
   end-size : length at_end ≡ Size.line_places
   unfolding levelled_lines
@@ -254,14 +254,14 @@ module _ (cells : List Cell) (ss : List Statement) (sound : Sound cells ss) (inp
         go (Driver.input e) =
             passes_keep l most_passes (gates_of ss) (mark_each no_marks inputs)
             (each-marked no_marks inputs l (are_inputs.each l e)
-            (rw (length-replicate {A = ℕ} Size.line_places 0) (omega (arith, (mentioned-in-range cells ss sound l m).1))))
+            (rw (length-replicate {A = Bool} Size.line_places false) (omega (arith, (mentioned-in-range cells ss sound l m).1))))
         go (Driver.gate g i e) =
             let pins : all_marked at_end g.pins ≡ true = listed-all at_end g.pins
             (λ k j. fed k (record { gate = g; listed = i; drives = e; reads = j }) (gate-mentioned g k ss i (List-Memᴰ-tail j))) in
             let room : g.line < length at_end = rw (end-size, e) (omega (arith, (mentioned-in-range cells ss sound l m).1)) in
             let rests = ends (gates_of ss) (mark_each no_marks inputs) first_size in
             subst (λ (x : ℕ). marked at_end x ≡ true) e
-            (subst (λ (ms : List ℕ). marked ms g.line ≡ true) rests (pass-levels (gates_of ss) at_end g i pins room))
+            (subst (λ (ms : List Bool). marked ms g.line ≡ true) rests (pass-levels (gates_of ss) at_end g i pins room))
 
     pub free-levelled : all_marked at_end mentions ≡ true
     free-levelled =

@@ -8,34 +8,34 @@ use Rattle.chip_loops.specs.Marks.{marked, all_marked, mark_each}
 
 -- ---- one more
 
-module _ (marks : List ℕ) (l : ℕ) where
-  pub set-marked : l < length marks → marked (set marks l 1) l ≡ true
+module _ (marks : List Bool) (l : ℕ) where
+  pub set-marked : l < length marks → marked (set marks l true) l ≡ true
   unfolding marked
-  set-marked h = rw (get_or-set_same marks l 1 0 h)
+  set-marked h = rw (get_or-set_same marks l true false h)
 
-  pub set_other : (k : ℕ) → (k ≡ l → ⊥) → marked (set marks l 1) k ≡ marked marks k
+  pub set_other : (k : ℕ) → (k ≡ l → ⊥) → marked (set marks l true) k ≡ marked marks k
   unfolding marked
-  set_other k n = rw (get_or-set_other marks l k 1 0 n)
+  set_other k n = rw (get_or-set_other marks l k true false n)
 
-  pub set_keeps : (k : ℕ) → marked marks k ≡ true → marked (set marks l 1) k ≡ true
+  pub set_keeps : (k : ℕ) → marked marks k ≡ true → marked (set marks l true) k ≡ true
   set_keeps k t = go (ℕ_discrete k l)
     where
-      go : Dec (k ≡ l) → marked (set marks l 1) k ≡ true
+      go : Dec (k ≡ l) → marked (set marks l true) k ≡ true
       go (no n) = rw (set_other k n) t
       go (yes e) = inside (dec_lt l (length marks))
         where
-          inside : Dec (l < length marks) → marked (set marks l 1) k ≡ true
+          inside : Dec (l < length marks) → marked (set marks l true) k ≡ true
           inside (yes h) = rw e (set-marked h)
-          inside (no n) = rw (set_out marks l 1 (omega arith)) t
+          inside (no n) = rw (set_out marks l true (omega arith)) t
 
-  pub set_cases : (k : ℕ) → marked (set marks l 1) k ≡ true → (k ≡ l) ⊎ (marked marks k ≡ true)
+  pub set_cases : (k : ℕ) → marked (set marks l true) k ≡ true → (k ≡ l) ⊎ (marked marks k ≡ true)
   set_cases k t = go (ℕ_discrete k l)
     where
       go : Dec (k ≡ l) → (k ≡ l) ⊎ (marked marks k ≡ true)
       go (yes e) = inl e
       go (no n) = inr (sym (set_other k n) ∙ t)
 
-pub none-marked : (n l : ℕ) → marked (replicate n 0) l ≡ false
+pub none-marked : (n l : ℕ) → marked (replicate n false) l ≡ false
 unfolding marked
 none-marked zero l = refl
 none-marked (suc n) zero = refl
@@ -43,7 +43,7 @@ none-marked (suc n) (suc l) = none-marked n l
 
 -- ---- all of a list
 
-module _ (marks : List ℕ) where
+module _ (marks : List Bool) where
   pub all_listed : (ls : List ℕ) → all_marked marks ls ≡ true → (l : ℕ) → List-as-Memᴰ l ls → marked marks l ≡ true
   unfolding all_marked
   all_listed (k ∷ ls) t l (List-Memᴰ-head e) = rw e (and_left (marked marks k) (all_marked marks ls) t)
@@ -86,30 +86,30 @@ module _ (p : ℕ → Bool) where
 
 -- ---- marking a list
 
-pub each_keeps : (marks ls : List ℕ) (k : ℕ) → marked marks k ≡ true → marked (mark_each marks ls) k ≡ true
+pub each_keeps : (marks : List Bool) (ls : List ℕ) (k : ℕ) → marked marks k ≡ true → marked (mark_each marks ls) k ≡ true
 unfolding mark_each
 each_keeps marks [] k t = t
-each_keeps marks (l ∷ ls) k t = each_keeps (set marks l 1) ls k (set_keeps marks l k t)
+each_keeps marks (l ∷ ls) k t = each_keeps (set marks l true) ls k (set_keeps marks l k t)
 
-pub each-marked : (marks ls : List ℕ) (l : ℕ) → List-as-Memᴰ l ls → l < length marks → marked (mark_each marks ls) l ≡ true
+pub each-marked : (marks : List Bool) (ls : List ℕ) (l : ℕ) → List-as-Memᴰ l ls → l < length marks → marked (mark_each marks ls) l ≡ true
 unfolding mark_each
 each-marked marks (k ∷ ls) l (List-Memᴰ-head e) h =
-    each_keeps (set marks k 1) ls l (rw e (set-marked marks k (rw (← e) h)))
-each-marked marks (k ∷ ls) l (List-Memᴰ-tail m) h = each-marked (set marks k 1) ls l m (simp length-set h)
+    each_keeps (set marks k true) ls l (rw e (set-marked marks k (rw (← e) h)))
+each-marked marks (k ∷ ls) l (List-Memᴰ-tail m) h = each-marked (set marks k true) ls l m (simp length-set h)
 each-marked marks [] l m h = elim m [ ]
 
-pub each-size : (marks ls : List ℕ) → length (mark_each marks ls) ≡ length marks
+pub each-size : (marks : List Bool) (ls : List ℕ) → length (mark_each marks ls) ≡ length marks
 unfolding mark_each
 each-size marks [] = refl
-each-size marks (l ∷ ls) = each-size (set marks l 1) ls ∙ simp length-set
+each-size marks (l ∷ ls) = each-size (set marks l true) ls ∙ simp length-set
 
 -- What is marked was marked, or stands in the list.
-pub each_cases : (P : ℕ → Type 0) (marks ls : List ℕ) → ((k : ℕ) → marked marks k ≡ true → P k) → ((k : ℕ) → List-as-Memᴰ k ls → P k)
+pub each_cases : (P : ℕ → Type 0) (marks : List Bool) (ls : List ℕ) → ((k : ℕ) → marked marks k ≡ true → P k) → ((k : ℕ) → List-as-Memᴰ k ls → P k)
     → (k : ℕ) → marked (mark_each marks ls) k ≡ true → P k
 unfolding mark_each
 each_cases P marks [] a b k t = a k t
 each_cases P marks (l ∷ ls) a b k t =
-    each_cases P (set marks l 1) ls
+    each_cases P (set marks l true) ls
     (λ j u. ⊎_elim (λ e. rw e (b l (List-Memᴰ-head refl))) (λ v. a j v) (set_cases marks l j u))
     (λ j m. b j (List-Memᴰ-tail m))
     k

@@ -5,7 +5,7 @@
 // Open to others: `without_loops`, `read_once`. What the table says of gates and lines is read by crate `netlist_table`.
 #![tactic(auto)]
 
-ghost use Rattle.std.specs.Prelude.{[], ◌∷◌, ◌≡◌, ◌≤◌, ◌<◌, eqb, set};
+ghost use Rattle.std.specs.Prelude.{true, [], ◌∷◌, ◌≡◌, ◌≤◌, ◌<◌, is_none, set};
 ghost use Rattle.sizes.specs.Sizes as Size;
 ghost use Rattle.reading.specs.Choice.{pick};
 ghost use Rattle.netlist_table.specs.Gates.{present, pin_lines, gate_at, gates_held};
@@ -15,61 +15,54 @@ ghost use Rattle.chip_loops.specs.Marks.{without_loops, read_once, Ahead, Passed
 
 use netlist_table::gates::{count, line_of};
 use netlist_table::lines::{driver_of, mentioned};
+use table::{at_or, put_at};
 
-fn is_marked(marks: &[u32], line: usize) -> bool
+// A mark for each line.
+#[tactic(auto, unfolding(crate::specs::Marks::marked))]
+fn is_marked(marks: &[bool], line: usize) -> bool
     ensures { result ≡ marked marks.now line }
 {
-    table::word(marks, line) != 0
+    at_or(marks, line, false)
+}
+
+fn mark(marks: &mut [bool], line: usize)
+    ensures { marks.new ≡ set marks.old line true }
+{
+    put_at(marks, line, true);
 }
 
 // ---- loops and open lines
 
-fn mark_input(netlist: &[u32], l: usize, marks: &mut [u32])
+fn mark_input(netlist: &[u32], l: usize, marks: &mut [bool])
     requires { l ≤ Size.lines }
-    ensures { marks.new ≡ pick (input_at netlist.now l) (set marks.old l 1)
+    ensures { marks.new ≡ pick (input_at netlist.now l) (set marks.old l true)
         marks.old }
 {
     if driver_of(netlist, l as u32) == 1 {
-        table::put(marks, l, 1);
+        mark(marks, l);
     }
 }
 
-fn mark_inputs(netlist: &[u32], marks: &mut [u32])
+fn mark_inputs(netlist: &[u32], marks: &mut [bool])
     ensures { marks.new ≡ mark_each marks.old (inputs_held netlist.now) }
 {
-    let mut l = 1;
-    while l < sizes::LINE_PLACES {
+    for l in 1..sizes::LINE_PLACES {
         mark_input(netlist, l, marks);
-        l += 1;
     }
 }
 
-// The line of a gate's first pin that is not levelled; 0 where each is.
-fn unlevelled_pin(netlist: &[u32], gate: usize, marks: &[u32]) -> usize
+// The line of a gate's first pin that is not levelled.
+fn unlevelled_pin(netlist: &[u32], gate: usize, marks: &[bool]) -> Option<usize>
     requires { gate < Size.gates }
-    ensures { eqb result 0 ≡ all_marked marks.now (pin_lines netlist.now gate) }
+    ensures { is_none result ≡ all_marked marks.now (pin_lines netlist.now gate) }
 {
-    let mut pin = 1;
-    while pin < sizes::GATE_LINES {
-        let line = line_of(netlist, gate, pin);
-        let levelled = (line == 0) | is_marked(marks, line);
-        if !levelled {
-            return line;
-        }
-        pin += 1;
-    }
-    0
-}
-
-fn pins_marked(netlist: &[u32], gate: usize, marks: &[u32]) -> bool
-    requires { gate < Size.gates }
-    ensures { result ≡ all_marked marks.now (pin_lines netlist.now gate) }
-{
-    unlevelled_pin(netlist, gate, marks) == 0
+    (1..sizes::GATE_LINES)
+        .map(|pin| line_of(netlist, gate, pin))
+        .find(|line| *line != 0 && !is_marked(marks, *line))
 }
 
 // Levels the line of a gate whose pins are levelled, and says whether it was not levelled before.
-fn level_gate(netlist: &[u32], gate: usize, marks: &mut [u32]) -> bool
+fn level_gate(netlist: &[u32], gate: usize, marks: &mut [bool]) -> bool
     requires { gate < Size.gates }
     ensures { (result ≡ ready marks.old (gate_at netlist.now gate))
         × (marks.new ≡ level marks.old (gate_at netlist.now gate)) }
@@ -78,28 +71,64 @@ fn level_gate(netlist: &[u32], gate: usize, marks: &mut [u32]) -> bool
     if is_marked(marks, line) {
         return false;
     }
-    if !pins_marked(netlist, gate, marks) {
+    if unlevelled_pin(netlist, gate, marks).is_some() {
         return false;
     }
-    table::put(marks, line, 1);
+    mark(marks, line);
     true
 }
 
 // ---- gates that wait
 
-// So that the order of the gates costs nothing, a gate that is not ready waits for the line of one of its pins. `waiting` has
-// for each line the last gate that waits for it, `behind` for each gate the one before it; gates count from 1 in both, and 0 is
-// none. No proof rests on either: they say which gate to look at next, `level_gate` alone levels a line, and the passes behind
-// it level what is left out.
+// So that the order of the gates costs nothing, a gate that is not ready waits for the line of one of its pins. No proof rests
+// on what waits: it says which gate to look at next, `level_gate` alone levels a line, and the passes behind it level what is
+// left out.
+
+#[derive(Drop)]
+struct Waits {
+    // For each line the last gate that waits for it.
+    last: [Option<usize>; sizes::LINE_PLACES],
+    // For each gate the one behind it: that waits for the same line, or, where its line is levelled, whose line comes next.
+    behind: [Option<usize>; sizes::GATES],
+}
+
+impl Waits {
+    fn behind(&self, gate: usize) -> Option<usize> {
+        if gate < sizes::GATES {
+            self.behind[gate]
+        } else {
+            None
+        }
+    }
+
+    fn put_behind(&mut self, gate: usize, next: Option<usize>) {
+        if gate < sizes::GATES {
+            self.behind[gate] = next;
+        }
+    }
+
+    // Has a gate wait for a line.
+    fn wait(&mut self, gate: usize, line: usize) {
+        if line < sizes::LINE_PLACES {
+            let next = self.last[line];
+            self.put_behind(gate, next);
+            self.last[line] = Some(gate);
+        }
+    }
+
+    // The last gate that waits for a line, which then waits no longer.
+    fn wake(&mut self, line: usize) -> Option<usize> {
+        if sizes::LINE_PLACES <= line {
+            return None;
+        }
+        let gate = self.last[line]?;
+        self.last[line] = self.behind(gate);
+        Some(gate)
+    }
+}
 
 // Levels the line of a gate, or has the gate wait for a line.
-fn level_or_wait(
-    netlist: &[u32],
-    gate: usize,
-    marks: &mut [u32],
-    waiting: &mut [u32],
-    behind: &mut [u32],
-) -> bool
+fn level_or_wait(netlist: &[u32], gate: usize, marks: &mut [bool], waits: &mut Waits) -> bool
     ensures { Ahead (gates_held netlist.now) marks.old marks.new }
 {
     if count(netlist) <= gate {
@@ -108,123 +137,96 @@ fn level_or_wait(
     if level_gate(netlist, gate, marks) {
         return true;
     }
-    let line = unlevelled_pin(netlist, gate, marks);
-    table::put(behind, gate + 1, table::word(waiting, line));
-    table::put(waiting, line, (gate + 1) as u32);
+    if let Some(line) = unlevelled_pin(netlist, gate, marks) {
+        waits.wait(gate, line);
+    }
     false
 }
 
 // Looks at a gate that waits for the line of gate `top`, which was levelled. Answers whose line is next: that gate's where it
 // is levelled, and where none waits that of the gate behind `top`.
-fn wake_one(
-    netlist: &[u32],
-    top: usize,
-    marks: &mut [u32],
-    waiting: &mut [u32],
-    behind: &mut [u32],
-) -> usize
-    requires { (0 < top) × (top ≤ Size.gates) }
+fn wake_one(netlist: &[u32], top: usize, marks: &mut [bool], waits: &mut Waits) -> Option<usize>
     ensures { Ahead (gates_held netlist.now) marks.old marks.new }
 {
-    let line = line_of(netlist, top - 1, 0);
-    let next = table::word(waiting, line) as usize;
-    if next == 0 {
-        return table::word(behind, top) as usize;
+    if sizes::GATES <= top {
+        return None;
     }
-    table::put(waiting, line, table::word(behind, next));
-    if !level_or_wait(netlist, next - 1, marks, waiting, behind) {
-        return top;
+    let Some(next) = waits.wake(line_of(netlist, top, 0)) else {
+        return waits.behind(top);
+    };
+    if !level_or_wait(netlist, next, marks, waits) {
+        return Some(top);
     }
-    table::put(behind, next, top as u32);
-    next
+    waits.put_behind(next, Some(top));
+    Some(next)
 }
 
 // Looks at a gate, and where it is levelled at those that wait for its line, and so on. A gate waits once for a pin at most, so
 // that in an accepted netlist none is left when the count ends.
-fn level_from(
-    netlist: &[u32],
-    gate: usize,
-    marks: &mut [u32],
-    waiting: &mut [u32],
-    behind: &mut [u32],
-)
-    requires { gate < Size.gates }
+fn level_from(netlist: &[u32], gate: usize, marks: &mut [bool], waits: &mut Waits)
     ensures { Ahead (gates_held netlist.now) marks.old marks.new }
 {
-    if !level_or_wait(netlist, gate, marks, waiting, behind) {
+    if !level_or_wait(netlist, gate, marks, waits) {
         return;
     }
-    let mut top = gate + 1;
-    let mut left = sizes::PIN_PLACES + sizes::GATES;
-    while (0 < top) & (top <= sizes::GATES) & (0 < left) {
-        top = wake_one(netlist, top, marks, waiting, behind);
-        left -= 1;
+    let mut top = gate;
+    for _ in 0..sizes::PIN_PLACES + sizes::GATES {
+        let Some(next) = wake_one(netlist, top, marks, waits) else {
+            return;
+        };
+        top = next;
     }
 }
 
 // One pass over the gates, in which each that is levelled wakes those that wait for it.
-fn level_ahead(netlist: &[u32], marks: &mut [u32])
+fn level_ahead(netlist: &[u32], marks: &mut [bool])
     ensures { Ahead (gates_held netlist.now) marks.old marks.new }
 {
-    let gates = count(netlist);
-    let mut waiting = [0u32; sizes::LINE_PLACES];
-    let mut behind = [0u32; sizes::LINE_PLACES];
-    let mut gate = 0;
-    while gate < gates {
-        level_from(netlist, gate, marks, &mut waiting, &mut behind);
-        gate += 1;
+    let mut waits = Waits {
+        last: [None; sizes::LINE_PLACES],
+        behind: [None; sizes::GATES],
+    };
+    for gate in 0..count(netlist) {
+        level_from(netlist, gate, marks, &mut waits);
     }
 }
 
 // ---- passes
 
 // Says whether some line is levelled that was not.
-fn pass_over(netlist: &[u32], marks: &mut [u32]) -> bool
+fn pass_over(netlist: &[u32], marks: &mut [bool]) -> bool
     ensures { Passed (gates_held netlist.now) marks.old marks.new result }
 {
-    let gates = count(netlist);
     let mut changed = false;
-    let mut gate = 0;
-    while gate < gates {
-        changed = level_gate(netlist, gate, marks) | changed;
-        gate += 1;
+    for gate in 0..count(netlist) {
+        changed |= level_gate(netlist, gate, marks);
     }
     changed
 }
 
 // Passes until one levels nothing: each before it levels a line.
-fn level_lines(netlist: &[u32], marks: &mut [u32])
+fn level_lines(netlist: &[u32], marks: &mut [bool])
     ensures { marks.new ≡ passes most_passes (gates_held netlist.now)
         marks.old }
 {
-    let mut left = sizes::LINE_PLACES + 1;
-    while left > 0 {
+    for _ in 0..sizes::LINE_PLACES + 1 {
         if !pass_over(netlist, marks) {
             return;
         }
-        left -= 1;
     }
 }
 
-fn mentions_marked(netlist: &[u32], marks: &[u32]) -> bool
+fn mentions_marked(netlist: &[u32], marks: &[bool]) -> bool
     ensures { result ≡ all_marked marks.now (mentions_held netlist.now) }
 {
-    let mut l = 1;
-    while l < sizes::LINE_PLACES {
-        let levelled = !mentioned(netlist, l as u32) | is_marked(marks, l);
-        if !levelled {
-            return false;
-        }
-        l += 1;
-    }
-    true
+    (1..sizes::LINE_PLACES).all(|l| !mentioned(netlist, l as u32) || is_marked(marks, l))
 }
 
 // Whether the netlist has neither loops nor open lines.
 pub fn without_loops(netlist: &[u32]) -> bool
     ensures { result ≡ without_loops netlist.now }
 {
-    let mut marks = [0u32; sizes::LINE_PLACES];
+    let mut marks = [false; sizes::LINE_PLACES];
     mark_inputs(netlist, &mut marks);
     level_ahead(netlist, &mut marks);
     level_lines(netlist, &mut marks);
@@ -234,7 +236,7 @@ pub fn without_loops(netlist: &[u32]) -> bool
 // ---- lines read twice
 
 // Marks a line, unless it has a mark. 0 is no line.
-fn note_line(marks: &mut [u32], line: usize) -> bool
+fn note_line(marks: &mut [bool], line: usize) -> bool
     ensures { Noted (present (line ∷ [])) marks.old marks.new result }
 {
     if line == 0 {
@@ -243,22 +245,20 @@ fn note_line(marks: &mut [u32], line: usize) -> bool
     if is_marked(marks, line) {
         return false;
     }
-    table::put(marks, line, 1);
+    mark(marks, line);
     true
 }
 
 // Marks the lines that a gate's pins read, until one has a mark.
-fn note_pins(netlist: &[u32], gate: usize, marks: &mut [u32]) -> bool
+fn note_pins(netlist: &[u32], gate: usize, marks: &mut [bool]) -> bool
     requires { gate < Size.gates }
     ensures { Noted (pin_lines netlist.now gate) marks.old marks.new result }
 {
-    let mut pin = 1;
-    while pin <= sizes::PINS {
-        let line = line_of(netlist, gate, pin);
-        if !note_line(marks, line) {
+    // Not `all`: `note_line` marks as it goes, and what a closure changes is not told.
+    for pin in 1..=sizes::PINS {
+        if !note_line(marks, line_of(netlist, gate, pin)) {
             return false;
         }
-        pin += 1;
     }
     true
 }
@@ -267,14 +267,12 @@ fn note_pins(netlist: &[u32], gate: usize, marks: &mut [u32]) -> bool
 pub fn read_once(netlist: &[u32]) -> bool
     ensures { result ≡ read_once netlist.now }
 {
-    let gates = count(netlist);
-    let mut marks = [0u32; sizes::LINE_PLACES];
-    let mut gate = 0;
-    while gate < gates {
+    let mut marks = [false; sizes::LINE_PLACES];
+    // Not `all`: see `note_pins`.
+    for gate in 0..count(netlist) {
         if !note_pins(netlist, gate, &mut marks) {
             return false;
         }
-        gate += 1;
     }
     true
 }

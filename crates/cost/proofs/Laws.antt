@@ -1,10 +1,10 @@
 -- The laws of costs that other crates cite. Each holds for every number, also for one above never, unless it says otherwise.
-use Rattle.common_laws.proofs.Base.{or-true, ◌||◌, ◌⊎◌, inl, inr, ◌≡◌, sym, ◌∙◌, ℕ, ◌+◌, ◌≤◌, ◌<◌, min, max, dec_le, arith, leb, le-leb, lt-leb, lt-ltb, le-ltb, eq-eqb, ne_eqb}
+use Rattle.common_laws.proofs.Base.{or-true, ◌||◌, ◌⊎◌, inl, inr, ◌≡◌, sym, ◌∙◌, ℕ, ◌+◌, ◌≤◌, ◌<◌, min, max, dec_le, arith, leb, le-leb, lt-leb, lt-ltb, le-ltb, ne_eqb}
 use Rattle.reading.specs.Choice.{pick}
-use Rattle.cost.specs.Order.{order, compared}
-use Rattle.cost.specs.declared.Order.{Order}
-use Rattle.cost.specs.declared.Order.TheVariants as Order
-use Rattle.cost.specs.Cost.{most, over, never, counted, is_never, is_over, ◌⊕◌, lesser, capped}
+use Rattle.cost.specs.declared.Kind.{Kind}
+use Rattle.cost.specs.declared.Kind.TheVariants.{Combinational, Sequential}
+use Rattle.cost.specs.Kind.{kind_index}
+use Rattle.cost.specs.Cost.{most, over, never, is_never, is_over, ◌⊕◌, capped}
 
 -- ---- document 01's three cases of the sum
 
@@ -80,23 +80,8 @@ pub capped-sum : (a b : ℕ) → capped (a + b) ≡ capped a ⊕ capped b
 unfolding capped
 capped-sum a b = sym (sum_below (min a over) (min b over) (omega arith) (omega arith) ∙ omega arith)
 
--- ---- how a cost stands to another, from the test that tells
+-- ---- kinds
 
-pub order-lower : (a b : ℕ) → counted a < counted b → Order.Lower ≡ order a b
-unfolding order pick
-order-lower a b h = rw (lt-ltb (counted a) (counted b) h)
-
-pub order_same : (a b : ℕ) → counted a ≡ counted b → Order.Same ≡ order a b
-unfolding order pick
-order_same a b h = rw (le-ltb (counted a) (counted b) (omega arith), eq-eqb (counted a) (counted b) h)
-
-pub order-higher : (a b : ℕ) → counted b < counted a → Order.Higher ≡ order a b
-unfolding order pick
-order-higher a b h =
-    rw (le-ltb (counted a) (counted b) (omega arith), ne_eqb (counted a) (counted b) (omega arith))
-
--- A comparison, from the order and the lesser that were found.
-pub compared_as : (a b : ℕ) {low : ℕ} {found told : Order} → low ≡ lesser a b → found ≡ order a b → found ≡ told
-    → compared a b ≡ record { order = told; cost = low }
-unfolding compared
-compared_as a b l f t = rw (l, sym t ∙ f)
+pub kind_most : (kind : Kind) → kind_index kind ≤ 1
+kind_most Combinational = omega arith
+kind_most Sequential = omega arith

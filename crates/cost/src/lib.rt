@@ -2,15 +2,18 @@
 // and never (1,000,000,001), ordered so. A raw number above never counts as never, so that every
 // call takes every number.
 //
-// Open to others: `Spatial`, the combinational costs (CC, CO), and `Temporal`, the sequential ones
-// (SC, SO), each with the methods `plus`, `lesser` and `compare`, by value. The two are types of
-// their own, so that a combinational cost is never added to a sequential one. What a method means
-// is in specs/Cost.antt, the laws are in proofs/Laws.antt.
+// Open to others: `Cost`, of a kind, with the methods `plus`, `lesser` and `compare`, by value. `Spatial`, the
+// combinational costs (CC, CO), and `Temporal`, the sequential ones (SC, SO), are two types, so that a combinational cost
+// is never added to a sequential one. What a method means is in specs/Cost.antt, the laws are in proofs/Laws.antt. Where
+// the kind is known only at run time, it is a `Kind`.
 #![tactic(auto)]
 
 ghost use Rattle.std.specs.Prelude.{◌≡◌};
 ghost use Rattle.cost.specs.Cost.{◌⊕◌, counted, lesser};
-ghost use Rattle.cost.specs.Order.{order, spatial_order, temporal_order, compared};
+ghost use Rattle.cost.specs.Order.{order, compared, order_told};
+ghost use Rattle.cost.specs.Kind.{kind_index, KindOf};
+
+use std::cmp::Ordering;
 
 pub const MOST: u32 = 999_999_999;
 
@@ -18,45 +21,61 @@ pub const OVER: u32 = 1_000_000_000;
 
 pub const NEVER: u32 = 1_000_000_001;
 
-// The spatial cost of source 000: of setting or observing a line in combinational terms.
+// A kind of cost.
+#[derive(Clone, Copy, PartialEq, Eq)]
+pub enum Kind {
+    Combinational,
+    Sequential,
+}
+
+impl Kind {
+    // Where a kind's number stands, among those of the kinds.
+    pub fn index(self) -> usize
+        ensures { result ≡ kind_index self }
+    {
+        match self {
+            Kind::Combinational => 0,
+            Kind::Sequential => 1,
+        }
+    }
+}
+
+// A number that is no kind's.
+#[derive(Clone, Copy, PartialEq, Eq)]
+pub struct UnknownKind;
+
+impl TryFrom<usize> for Kind {
+    type Error = UnknownKind;
+
+    ghost try_from_gives = { KindOf };
+
+    fn try_from(number: usize) -> Result<Self, UnknownKind> {
+        match number {
+            0 => Ok(Kind::Combinational),
+            1 => Ok(Kind::Sequential),
+            _ => Err(UnknownKind),
+        }
+    }
+}
+
+// A cost of a kind, by the kind's index.
 #[derive(Clone, Copy)]
-pub struct Spatial(pub u32);
+pub struct Cost<const KIND: usize>(pub u32);
+
+// The spatial cost of source 000: of setting or observing a line in combinational terms.
+pub type Spatial = Cost<0>;
 
 // The temporal cost of source 000: of setting or observing a line in sequential terms.
-#[derive(Clone, Copy)]
-pub struct Temporal(pub u32);
-
-// How one cost stands to another.
-#[derive(Clone, Copy)]
-pub enum Order {
-    Lower,
-    Same,
-    Higher,
-}
-
-// How a cost stands to another, with the lesser of the two as a new cost.
-#[derive(Clone, Copy)]
-pub enum SpatialOrder {
-    Lower(Spatial),
-    Same(Spatial),
-    Higher(Spatial),
-}
-
-#[derive(Clone, Copy)]
-pub enum TemporalOrder {
-    Lower(Temporal),
-    Same(Temporal),
-    Higher(Temporal),
-}
+pub type Temporal = Cost<1>;
 
 // The number that a raw number counts as.
 fn count(a: u32) -> u32
     ensures { result ≡ counted a }
 {
-    if a < NEVER { a } else { NEVER }
+    a.min(NEVER)
 }
 
-// The sum of two costs, for both kinds.
+// The sum of two costs.
 fn capped_sum(a: u32, b: u32) -> u32
     ensures { result ≡ a ⊕ b }
 {
@@ -73,79 +92,23 @@ fn capped_sum(a: u32, b: u32) -> u32
     sum
 }
 
-// The lesser of two costs, for both kinds.
-fn least(a: u32, b: u32) -> u32
-    ensures { result ≡ lesser a b }
-{
-    if a < b {
-        return count(a);
-    }
-    count(b)
-}
-
-// How a stands to b, for both kinds.
-fn order_of(a: u32, b: u32) -> Order
-    ensures { result ≡ order a b }
-{
-    let x = count(a);
-    let y = count(b);
-    if x < y {
-        return Order::Lower;
-    }
-    if x == y {
-        return Order::Same;
-    }
-    Order::Higher
-}
-
-impl Spatial {
-    pub fn plus(self, other: Spatial) -> Spatial
-        ensures { result.0 ≡ self.0 ⊕ other.0 }
+impl<const KIND: usize> Cost<KIND> {
+    pub fn plus(self, other: Self) -> Self
+        ensures { result.0 ≡ self.entry.0 ⊕ other.entry.0 }
     {
-        Spatial(capped_sum(self.0, other.0))
+        Cost(capped_sum(self.0, other.0))
     }
 
-    pub fn lesser(self, other: Spatial) -> Spatial
-        ensures { result.0 ≡ lesser self.0 other.0 }
+    pub fn lesser(self, other: Self) -> Self
+        ensures { result.0 ≡ lesser self.entry.0 other.entry.0 }
     {
-        Spatial(least(self.0, other.0))
+        Cost(count(self.0).min(count(other.0)))
     }
 
-    pub fn compare(self, other: Spatial) -> SpatialOrder
-        ensures { spatial_order result ≡ compared self.0 other.0 }
+    // How a cost stands to another, with the lesser of the two as a new cost.
+    pub fn compare(self, other: Self) -> (Ordering, Self)
+        ensures { order_told result ≡ compared self.entry.0 other.entry.0 }
     {
-        let low = Spatial(least(self.0, other.0));
-        let s = order_of(self.0, other.0);
-        match s {
-            Order::Lower => SpatialOrder::Lower(low),
-            Order::Same => SpatialOrder::Same(low),
-            Order::Higher => SpatialOrder::Higher(low),
-        }
-    }
-}
-
-impl Temporal {
-    pub fn plus(self, other: Temporal) -> Temporal
-        ensures { result.0 ≡ self.0 ⊕ other.0 }
-    {
-        Temporal(capped_sum(self.0, other.0))
-    }
-
-    pub fn lesser(self, other: Temporal) -> Temporal
-        ensures { result.0 ≡ lesser self.0 other.0 }
-    {
-        Temporal(least(self.0, other.0))
-    }
-
-    pub fn compare(self, other: Temporal) -> TemporalOrder
-        ensures { temporal_order result ≡ compared self.0 other.0 }
-    {
-        let low = Temporal(least(self.0, other.0));
-        let s = order_of(self.0, other.0);
-        match s {
-            Order::Lower => TemporalOrder::Lower(low),
-            Order::Same => TemporalOrder::Same(low),
-            Order::Higher => TemporalOrder::Higher(low),
-        }
+        (count(self.0).cmp(&count(other.0)), self.lesser(other))
     }
 }

@@ -3,22 +3,14 @@
 // `scoap` prints; proofs/Promise.antt shows that all demands follow from the two equations. There is no function here:
 // crate `analysis_texts` reads, `sweep_runs` calculates, `analysis_call::end` tells.
 //
-// Open to others: the types `Answer` and `Summary`.
+// Open to others: the type `Summary`; a call answers `Result<Summary, Refusal>`.
 #![tactic(auto)]
 
 use calculation::Counts;
-use reading::Refusal;
 
 // An accepted analysis: the report's length and the four sweep counts.
 #[derive(Clone, Copy)]
 pub struct Summary {
     pub length: usize,
     pub counts: Counts,
-}
-
-// `answer_read` gives its cases.
-#[derive(Clone, Copy)]
-pub enum Answer {
-    Accepted(Summary),
-    Refused(Refusal),
 }

@@ -1,5 +1,6 @@
 -- What is printed of files that were loaded, from what was loaded and what a call puts into a buffer.
 use Rattle.common_laws.proofs.Base.{Bool, true, false, ◌||◌, List, [], ◌∷◌, ◌⊎◌, inl, inr, ◌≡◌, refl, ℕ, ◌≤◌, ◌<◌, arith, ltb, length, take, length-take-le, lt-ltb}
+use Rattle.std.specs.Prelude.{Option, Some, None}
 use Rattle.sizes.specs.Sizes as Size
 use Rattle.reading.specs.Choice.{pick}
 use Rattle.reading.specs.Numbers as No
@@ -8,21 +9,19 @@ use Rattle.text.specs.Bytes.{bytes}
 use Rattle.writer.specs.Buffer.{shown, Prints}
 use Rattle.writer.specs.Put.{Put}
 use Rattle.writer.proofs.Buffer.{put-prints}
-use Rattle.files.specs.declared.Loaded.{Loaded}
-use Rattle.files.specs.declared.Loaded.TheVariants.{Bytes, Unreadable}
 use Rattle.files.specs.Loads.{Within, Seen}
 use Rattle.files.specs.Output.{unreadable, of_file, of_files, Outputs, long_refused, OneLongRefused, LongRefused, PrintsFile, PrintsFiles}
 
-pub seen : (l : Loaded) (buffer : List ℕ) → Size.text_bytes < length buffer → Within l buffer → Seen l buffer
-seen (Bytes n) buffer long w = record { within = w; long = λ e. omega arith }
-seen Unreadable buffer long w = record { within = tt; long = tt }
+pub seen : (l : Option ℕ) (buffer : List ℕ) → Size.text_bytes < length buffer → Within l buffer → Seen l buffer
+seen (Some n) buffer long w = record { within = w; long = λ e. omega arith }
+seen None buffer long w = record { within = tt; long = tt }
 
 -- ---- what stands in the buffer
 
 pub prints-outputs : {space said : ℕ} {bs before after : List ℕ} → Prints space bs before after said → Outputs space bs after said
 prints-outputs p = record { answers = p.answers; prints = p.prints; long = p.long }
 
--- Bytes put into the front of a buffer that has room for them.
+-- Some put into the front of a buffer that has room for them.
 pub put-outputs : {space said : ℕ} {bs before after : List ℕ} → space ≡ length before → length bs ≤ space → Put 0 bs before after said
     → Outputs space bs after said
 put-outputs e h p = prints-outputs (put-prints p (omega arith) e)
@@ -49,13 +48,13 @@ either-long lib net (inr h) = rw (lt-ltb Size.text_bytes (length net) h) (or-tru
 
 -- ---- one file
 
-module _ (print : List ℕ → List ℕ) (l : Loaded) (text : List ℕ) where
-  pub file_unread : {space said : ℕ} {before after : List ℕ} → l ≡ Unreadable → space ≡ length before → 11 ≤ space → Put 0 unreadable before after said
+module _ (print : List ℕ → List ℕ) (l : Option ℕ) (text : List ℕ) where
+  pub file_unread : {space said : ℕ} {before after : List ℕ} → l ≡ None → space ≡ length before → 11 ≤ space → Put 0 unreadable before after said
       → PrintsFile space print l text after said
   unfolding of_file
   file_unread e s h p = rw e (record { outputs = unreadable-outputs s h p; cut = λ f. absurd f })
 
-  pub file_read : {space said a : ℕ} {front after : List ℕ} → OneLongRefused print → Size.text_bytes < length text → l ≡ Bytes a → front ≡ take a text
+  pub file_read : {space said a : ℕ} {front after : List ℕ} → OneLongRefused print → Size.text_bytes < length text → l ≡ Some a → front ≡ take a text
       → Outputs space (print front) after said → PrintsFile space print l text after said
   unfolding of_file
   file_read {a = a} long room e f o =
@@ -67,21 +66,21 @@ module _ (print : List ℕ → List ℕ) (l : Loaded) (text : List ℕ) where
 
 -- ---- two files
 
-module _ (print : List ℕ → List ℕ → List ℕ) (l : Loaded) (lib : List ℕ) (n : Loaded) (net : List ℕ) where
-  pub library-unread : {space said : ℕ} {before after : List ℕ} → l ≡ Unreadable → space ≡ length before → 11 ≤ space → Put 0 unreadable before after said
+module _ (print : List ℕ → List ℕ → List ℕ) (l : Option ℕ) (lib : List ℕ) (n : Option ℕ) (net : List ℕ) where
+  pub library-unread : {space said : ℕ} {before after : List ℕ} → l ≡ None → space ≡ length before → 11 ≤ space → Put 0 unreadable before after said
       → PrintsFiles space print l lib n net after said
   unfolding of_files of_file
   library-unread e s h p =
       rw e (record { outputs = unreadable-outputs s h p; cut_library = λ r f. absurd f; cut_netlist = λ r f. absurd (r refl) })
 
-  pub netlist-unread : {space said a : ℕ} {before after : List ℕ} → l ≡ Bytes a → n ≡ Unreadable → space ≡ length before → 11 ≤ space
+  pub netlist-unread : {space said a : ℕ} {before after : List ℕ} → l ≡ Some a → n ≡ None → space ≡ length before → 11 ≤ space
       → Put 0 unreadable before after said → PrintsFiles space print l lib n net after said
   unfolding of_files of_file
   netlist-unread e f s h p =
       rw (e, f) (record { outputs = unreadable-outputs s h p; cut_library = λ r g. absurd (r refl); cut_netlist = λ r g. absurd g })
 
   pub both_read : {space said a b : ℕ} {lib_front net_front after : List ℕ} → LongRefused print → Size.text_bytes < length lib → Size.text_bytes < length net
-      → l ≡ Bytes a → n ≡ Bytes b → lib_front ≡ take a lib → net_front ≡ take b net
+      → l ≡ Some a → n ≡ Some b → lib_front ≡ take a lib → net_front ≡ take b net
       → Outputs space (print lib_front net_front) after said → PrintsFiles space print l lib n net after said
   unfolding of_files of_file
   both_read {a = a} {b = b} long lib_room net_room e f g h o =

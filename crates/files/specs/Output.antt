@@ -1,11 +1,9 @@
 -- What a program prints of files that were loaded into buffers. Document 01, "Report".
-use Rattle.std.specs.Prelude.{List, [], ◌∷◌, ◌++◌, ◌⊎◌, ◌≡◌, ℕ, ◌<◌, length, take}
+use Rattle.std.specs.Prelude.{List, [], ◌∷◌, ◌++◌, ◌⊎◌, ◌≡◌, ℕ, ◌<◌, length, take, Option, Some, None}
 use Rattle.sizes.specs.Sizes as Size
 use Rattle.reading.specs.Numbers as No
 use Rattle.text.specs.Bytes.{bytes}
 use Rattle.writer.specs.Refused.{refusal_bytes}
-use Rattle.files.specs.declared.Loaded.{Loaded}
-use Rattle.files.specs.declared.Loaded.TheVariants.{Bytes, Unreadable}
 use Rattle.files.specs.Loads.{Filled}
 
 -- "when a file can't be read it prints `unreadable` and nothing else"; "Every printed line ends with byte 10."
@@ -13,12 +11,12 @@ unfoldable pub unreadable : List ℕ
 unreadable = bytes "unreadable" ++ (10 ∷ [])
 
 -- What is printed of one file, by what is printed of its bytes.
-unfoldable pub of_file : (List ℕ → List ℕ) → Loaded → List ℕ → List ℕ
-of_file print (Bytes n) buffer = print (take n buffer)
-of_file print Unreadable buffer = unreadable
+unfoldable pub of_file : (List ℕ → List ℕ) → Option ℕ → List ℕ → List ℕ
+of_file print (Some n) buffer = print (take n buffer)
+of_file print None buffer = unreadable
 
 -- Of two files: `unreadable` where either is, whatever the other holds.
-unfoldable pub of_files : (List ℕ → List ℕ → List ℕ) → Loaded → List ℕ → Loaded → List ℕ → List ℕ
+unfoldable pub of_files : (List ℕ → List ℕ → List ℕ) → Option ℕ → List ℕ → Option ℕ → List ℕ → List ℕ
 of_files print l lib n net = of_file (λ t. of_file (print t) n net) l lib
 
 -- What a call promises that puts the bytes to be printed into the front of a buffer of `space` bytes: how many they are, that
@@ -40,12 +38,12 @@ LongRefused print = (lib net : List ℕ) → (Size.text_bytes < length lib) ⊎ 
 
 -- What a program puts ready to be printed of one file, and of two: the bytes, by equation; and that a file of which bytes may
 -- be left unread is refused by 2, unless the other is unreadable.
-pub record PrintsFile (space : ℕ) (print : List ℕ → List ℕ) (l : Loaded) (text after : List ℕ) (said : ℕ) : Type 0 where
+pub record PrintsFile (space : ℕ) (print : List ℕ → List ℕ) (l : Option ℕ) (text after : List ℕ) (said : ℕ) : Type 0 where
   pub outputs : Outputs space (of_file print l text) after said
   pub cut : Filled l text → of_file print l text ≡ long_refused
 
-pub record PrintsFiles (space : ℕ) (print : List ℕ → List ℕ → List ℕ) (l : Loaded) (lib : List ℕ) (n : Loaded) (net after : List ℕ) (said : ℕ)
+pub record PrintsFiles (space : ℕ) (print : List ℕ → List ℕ → List ℕ) (l : Option ℕ) (lib : List ℕ) (n : Option ℕ) (net after : List ℕ) (said : ℕ)
     : Type 0 where
   pub outputs : Outputs space (of_files print l lib n net) after said
-  pub cut_library : (n ≡ Unreadable → ⊥) → Filled l lib → of_files print l lib n net ≡ long_refused
-  pub cut_netlist : (l ≡ Unreadable → ⊥) → Filled n net → of_files print l lib n net ≡ long_refused
+  pub cut_library : (n ≡ None → ⊥) → Filled l lib → of_files print l lib n net ≡ long_refused
+  pub cut_netlist : (l ≡ None → ⊥) → Filled n net → of_files print l lib n net ≡ long_refused

@@ -5,20 +5,26 @@
 // proofs/Same.antt.
 #![tactic(auto)]
 
-ghost use Rattle.std.specs.Prelude.{◌+◌, ◌*◌, ◌≤◌, take};
-ghost use Rattle.sizes.specs.Sizes as Size;
-ghost use Rattle.demands.specs.Answer.{answer_read, lent_of};
+ghost use Rattle.std.specs.Prelude.{◌<◌, ◌^◌};
+ghost use Rattle.reading.specs.Answer.{answer_read};
+ghost use Rattle.demands.specs.Answer.{lent_of};
 ghost use Rattle.analysis_records.specs.Outcome.{RecordsPromised};
 
 use analysis_records::{Record, analyse_records};
-use demands::Answer;
-use files::{FILE_BYTES, Loaded};
+use demands::Summary;
+use files::FILE_BYTES;
 use reading::Refusal;
 
-// One entry below the published size, and one byte above what a text may have.
+// The published size, one entry below it, and entries past it.
+const NUMBERS: usize = sizes::NUMBERS;
+
 const NUMBERS_SHORT: usize = sizes::NUMBERS - 1;
 
-const TEXT_LONG: usize = sizes::TEXT_BYTES + 1;
+const NUMBERS_ROOM: usize = sizes::NUMBERS + 3;
+
+const LIBRARY_ROOM: usize = sizes::LIBRARY + 3;
+
+const NETLIST_ROOM: usize = sizes::NETLIST + 3;
 
 // Enough for a refusal: `refused,`, two numbers of at most twenty digits, a comma and a line end.
 const REFUSAL_BYTES: usize = 50;
@@ -28,141 +34,78 @@ const MOST: usize = 2 * sizes::LINES + 1;
 
 const GOOD: usize = 2 * sizes::LINES;
 
-// The largest number that a field can hold.
-const LARGEST: u32 = 4294967295;
+// The last line's number.
+const LAST: u32 = sizes::LINES as u32;
 
-// What stands in lent memory before a call, and entries past each published size.
-const BEFORE: u32 = 7;
+// The latch without the record behind it.
+const LATCH: usize = 5;
 
-const LIBRARY_ROOM: usize = sizes::LIBRARY + 3;
+// What stands in lent memory before a call.
+const BEFORE: u8 = 7;
 
-const NETLIST_ROOM: usize = sizes::NETLIST + 3;
+const NAND2: &[u8] = b"Name,NAND2,2\nCC,13,21,M,5\nCO,203,211\nSC,12,20,M,4\nSO,202,210\nEnd\n";
 
-const NUMBERS_ROOM: usize = sizes::NUMBERS + 3;
+// A library of one cell that has no pins.
+const TIE1: &[u8] = b"Name,TIE1,0\nCC,Z,1\nCO\nSC,Z,0\nSO\nEnd\n";
 
-// The first `count` of the records are lent.
+// A library text that ends within an entry.
+const BROKEN: &[u8] = b"Name,NAND2,2\nCC,13,21,M,5\n";
+
+fn print_refusal(rt: &impl Print, r: Refusal) {
+    let mut text = [0u8; REFUSAL_BYTES];
+    let length = writer::show(&mut text, Err(r));
+    files::print(rt, files::front(&text, length));
+}
+
+// Lends the records, and hands on what the call answers.
 fn lend(
     lib: &[u8],
-    records: [Record; MOST],
-    count: usize,
+    records: &[Record],
     library: &mut [u32],
     netlist: &mut [u32],
     numbers: &mut [u32],
     report: &mut [u8],
-) -> Answer
-    requires { count ≤ 2 * Size.lines + 1 }
-    ensures { RecordsPromised lib.now (take count records)
+) -> Result<Summary, Refusal>
+    ensures { RecordsPromised lib.now records.now
         (lent_of library.old netlist.old numbers.old report.old)
         (lent_of library.new netlist.new numbers.new report.new)
         (answer_read result) }
 {
-    analyse_records(lib, &records[..count], library, netlist, numbers, report)
+    analyse_records(lib, records, library, netlist, numbers, report)
 }
 
-// Lends the records with a library and a netlist table of the published sizes.
-fn lend_with(
+// Lends the records with a library and a netlist table of the published sizes, a numbers table of ENTRIES and a report buffer
+// of BYTES.
+fn lend_and_print<const ENTRIES: usize, const BYTES: usize>(
     rt: &impl Print,
     lib: &[u8],
-    records: [Record; MOST],
-    count: usize,
-    numbers: &mut [u32],
-    report: &mut [u8],
+    records: &[Record],
 )
-    requires { count ≤ 2 * Size.lines + 1 }
+    requires { (ENTRIES < 2 ^ 60) × (BYTES < 2 ^ 60) }
 {
     let mut library = [0u32; sizes::LIBRARY];
     let mut netlist = [0u32; sizes::NETLIST];
+    let mut numbers = [0u32; ENTRIES];
+    let mut report = [0u8; BYTES];
     let answer = lend(
         lib,
         records,
-        count,
         &mut library,
         &mut netlist,
-        numbers,
-        report,
-    );
-    match answer {
-        Answer::Accepted(s) => files::print(rt, files::front(report, s.length)),
-        Answer::Refused(r) => print_refusal(rt, r),
-    }
-}
-
-fn print_refusal(rt: &impl Print, r: Refusal) {
-    let mut text = [0u8; REFUSAL_BYTES];
-    let length = writer::put_refusal(&mut text, 0, r);
-    files::print(rt, files::front(&text, length));
-}
-
-fn lend_all(rt: &impl Print, records: [Record; MOST], count: usize)
-    requires { count ≤ 2 * Size.lines + 1 }
-{
-    let mut numbers = [0u32; sizes::NUMBERS];
-    let mut report = [0u8; 512];
-    let lib = b"Name,NAND2,2\nCC,13,21,M,5\nCO,203,211\nSC,12,20,M,4\nSO,202,210\nEnd\n";
-    lend_with(rt, lib, records, count, &mut numbers, &mut report);
-}
-
-// With a report buffer of 8 bytes.
-fn lend_short(rt: &impl Print, records: [Record; MOST], count: usize)
-    requires { count ≤ 2 * Size.lines + 1 }
-{
-    let mut numbers = [0u32; sizes::NUMBERS];
-    let mut report = [0u8; 8];
-    let lib = b"Name,NAND2,2\nCC,13,21,M,5\nCO,203,211\nSC,12,20,M,4\nSO,202,210\nEnd\n";
-    lend_with(rt, lib, records, count, &mut numbers, &mut report);
-}
-
-// With a numbers table below its published size.
-fn lend_small(rt: &impl Print, records: [Record; MOST], count: usize)
-    requires { count ≤ 2 * Size.lines + 1 }
-{
-    let mut numbers = [0u32; NUMBERS_SHORT];
-    let mut report = [0u8; 512];
-    let lib = b"Name,NAND2,2\nCC,13,21,M,5\nCO,203,211\nSC,12,20,M,4\nSO,202,210\nEnd\n";
-    lend_with(rt, lib, records, count, &mut numbers, &mut report);
-}
-
-// With a library text of one byte too many.
-fn lend_long(rt: &impl Print, records: [Record; MOST], count: usize)
-    requires { count ≤ 2 * Size.lines + 1 }
-{
-    let mut numbers = [0u32; sizes::NUMBERS];
-    let mut report = [0u8; 512];
-    let lib = [10u8; TEXT_LONG];
-    lend_with(rt, &lib, records, count, &mut numbers, &mut report);
-}
-
-// With a library of one cell that has no pins.
-fn lend_tie(rt: &impl Print, records: [Record; MOST], count: usize)
-    requires { count ≤ 2 * Size.lines + 1 }
-{
-    let mut numbers = [0u32; sizes::NUMBERS];
-    let mut report = [0u8; 512];
-    let lib = b"Name,TIE1,0\nCC,Z,1\nCO\nSC,Z,0\nSO\nEnd\n";
-    lend_with(rt, lib, records, count, &mut numbers, &mut report);
-}
-
-// With a library text that ends within an entry.
-fn lend_broken(rt: &impl Print, records: [Record; MOST], count: usize)
-    requires { count ≤ 2 * Size.lines + 1 }
-{
-    let mut numbers = [0u32; sizes::NUMBERS];
-    let mut report = [0u8; 512];
-    lend_with(
-        rt,
-        b"Name,NAND2,2\nCC,13,21,M,5\n",
-        records,
-        count,
         &mut numbers,
         &mut report,
     );
+    match answer {
+        Ok(s) => files::print(rt, files::front(&report, s.length)),
+        Err(r) => print_refusal(rt, r),
+    }
 }
 
 fn mark(kind: u32, line: u32) -> Record {
     Record {
-        kind: kind,
+        kind,
         cell: 0,
-        line: line,
+        line,
         pins: [0; sizes::PINS],
     }
 }
@@ -170,28 +113,29 @@ fn mark(kind: u32, line: u32) -> Record {
 fn gate(cell: u32, line: u32, p: u32, q: u32, r: u32) -> Record {
     Record {
         kind: 2,
-        cell: cell,
-        line: line,
+        cell,
+        line,
         pins: [p, q, r, 0, 0, 0, 0, 0],
     }
 }
 
 // Those that are not refused are the latch: each gate reads the other's output.
-fn latch_with(last: Record) -> [Record; MOST] {
-    let mut list = [last; MOST];
-    list[0] = mark(0, 1);
-    list[1] = mark(0, 2);
-    list[2] = gate(0, 3, 1, 4, 0);
-    list[3] = gate(0, 4, 2, 3, 0);
-    list[4] = mark(1, 3);
-    list
+fn latch_with(last: Record) -> [Record; LATCH + 1] {
+    [
+        mark(0, 1),
+        mark(0, 2),
+        gate(0, 3, 1, 4, 0),
+        gate(0, 4, 2, 3, 0),
+        mark(1, 3),
+        last,
+    ]
 }
 
-// A gate without pins, and its line marked output.
-fn tied() -> [Record; MOST] {
-    let mut list = [mark(1, 3); MOST];
-    list[0] = gate(0, 3, 0, 0, 0);
-    list
+// Lends the latch with each of these records behind it.
+fn lend_each(rt: &impl Print, records: &[Record]) {
+    for last in records {
+        lend_and_print::<NUMBERS, 512>(rt, NAND2, &latch_with(*last));
+    }
 }
 
 // ---- long lists
@@ -206,7 +150,7 @@ fn driver(line: u32) -> Record {
     Record {
         kind: 2,
         cell: 31,
-        line: line,
+        line,
         pins: [p, p + 1, p + 2, p + 3, p + 4, p + 5, p + 6, p + 7],
     }
 }
@@ -214,265 +158,170 @@ fn driver(line: u32) -> Record {
 // Every line driven, then every line marked output, then the last record.
 fn full_with(last: Record) -> [Record; MOST] {
     let mut list = [last; MOST];
-    let mut i: usize = 0;
-    while i < sizes::LINES {
-        let line = i as u32 + 1;
-        list[i] = driver(line);
-        list[sizes::LINES + i] = mark(1, line);
-        i += 1;
+    let drivers = (1..=LAST).map(driver);
+    let outputs = (1..=LAST).map(|line| mark(1, line));
+    for (place, record) in list.iter_mut().zip(drivers.chain(outputs)) {
+        *place = record;
     }
     list
 }
 
-// Whether the numbers from a place on are all the same.
-fn all_are(table: &[u32], from: usize, value: u32) -> bool {
-    let mut i = from;
-    while i < table.len() {
-        if table[i] != value {
-            return false;
-        }
-        i += 1;
-    }
-    true
-}
-
-fn bytes_are(buffer: &[u8], from: usize, value: u8) -> bool {
-    let mut i = from;
-    while i < buffer.len() {
-        if buffer[i] != value {
-            return false;
-        }
-        i += 1;
-    }
-    true
-}
-
-// Says of lent memory whether it is as it was before the call, or zero.
-fn print_left(rt: &impl Print, kept: bool, zero: bool) {
-    if kept {
+// Says of lent memory, from a place on, whether it is as it was before the call, or zero.
+fn print_left<T: Copy + PartialEq + From<u8>>(rt: &impl Print, lent: &[T], from: usize) {
+    let all_are = |value: u8| lent.iter().skip(from).all(|x| *x == T::from(value));
+    if all_are(BEFORE) {
         files::print(rt, b",kept");
-    } else if zero {
+    } else if all_are(0) {
         files::print(rt, b",zero");
     } else {
         files::print(rt, b",other");
     }
 }
 
-fn print_table(rt: &impl Print, table: &[u32], from: usize) {
-    print_left(rt, all_are(table, from, BEFORE), all_are(table, from, 0));
-}
-
-fn print_buffer(rt: &impl Print, buffer: &[u8], from: usize) {
-    print_left(rt, bytes_are(buffer, from, 7), bytes_are(buffer, from, 0));
-}
-
 // A number in decimal. As in `files::print`, nothing is said of a write that fails.
-fn print_number(rt: &impl Print, n: u64) {
+fn print_number(rt: &impl Print, n: usize) {
     let _ = rt.print(n);
 }
 
-// The numbers of a table from a place up to another.
-fn print_words(rt: &impl Print, table: &[u32], from: usize, to: usize) {
-    let mut i = from;
-    while i < to {
+// So many numbers of a table from a place on.
+fn print_words(rt: &impl Print, table: &[u32], from: usize, count: usize) {
+    for word in table.iter().skip(from).take(count) {
         files::print(rt, b",");
-        print_number(rt, table::word(table, i) as u64);
-        i += 1;
+        print_number(rt, *word as usize);
     }
 }
 
 // The numbers of the n-th gate, where there may be such a one.
 fn print_gate(rt: &impl Print, netlist: &[u32], n: usize) {
-    if 0 < n {
-        if n <= sizes::GATES {
-            let at = sizes::GATES_AT + (n - 1) * sizes::GATE_WORDS;
-            print_words(rt, netlist, at, at + sizes::GATE_WORDS);
-        }
+    if (1..=sizes::GATES).contains(&n) {
+        let at = sizes::GATES_AT + (n - 1) * sizes::GATE_WORDS;
+        print_words(rt, netlist, at, sizes::GATE_WORDS);
     }
 }
 
-// Of an accepted list: the report's length, what stands behind it and past each published size, the last gate, and
-// the last line's numbers.
-fn print_accepted(
-    rt: &impl Print,
-    library: &[u32],
-    netlist: &[u32],
-    numbers: &[u32],
-    report: &[u8],
-    length: usize,
-) {
-    files::print(rt, b"accepted,");
-    print_number(rt, length as u64);
-    print_table(rt, library, sizes::LIBRARY);
-    print_table(rt, netlist, sizes::NETLIST);
-    print_table(rt, numbers, sizes::NUMBERS);
-    print_buffer(rt, report, length);
-    files::print(rt, b"\ngate");
-    print_gate(rt, netlist, table::word(netlist, 0) as usize);
-    files::print(rt, b"\nnumbers");
-    print_words(rt, numbers, sizes::NUMBERS - 6, sizes::NUMBERS);
-    files::print(rt, b"\n");
-}
-
-// Of a refused one: its refusal, and what the whole of each table and of the report is.
-fn print_refused(
-    rt: &impl Print,
-    library: &[u32],
-    netlist: &[u32],
-    numbers: &[u32],
-    report: &[u8],
-    r: Refusal,
-) {
-    print_refusal(rt, r);
-    files::print(rt, b"left");
-    print_table(rt, library, 0);
-    print_table(rt, netlist, 0);
-    print_table(rt, numbers, 0);
-    print_buffer(rt, report, 0);
-    files::print(rt, b"\n");
-}
-
-// Lends tables with entries past their published sizes, and all that is lent filled before.
-fn lend_filled(
-    rt: &impl Print,
-    lib: &[u8],
-    records: [Record; MOST],
-    count: usize,
-    numbers: &mut [u32],
-)
-    requires { count ≤ 2 * Size.lines + 1 }
+// Lends tables with entries past their published sizes, and a numbers table of ENTRIES, all that is lent filled before. Prints
+// of an accepted list the report's length, what stands behind it and past each published size, the last gate, and the last
+// line's numbers; of a refused one its refusal, and what the whole of each table and of the report is.
+fn lend_filled<const ENTRIES: usize>(rt: &impl Print, lib: &[u8], records: &[Record])
+    requires { ENTRIES < 2 ^ 60 }
 {
-    let mut library = [BEFORE; LIBRARY_ROOM];
-    let mut netlist = [BEFORE; NETLIST_ROOM];
-    let mut report = [7u8; sizes::REPORT_BYTES];
+    let mut library = [BEFORE as u32; LIBRARY_ROOM];
+    let mut netlist = [BEFORE as u32; NETLIST_ROOM];
+    let mut numbers = [BEFORE as u32; ENTRIES];
+    let mut report = [BEFORE; sizes::REPORT_BYTES];
     let answer = lend(
         lib,
         records,
-        count,
         &mut library,
         &mut netlist,
-        numbers,
+        &mut numbers,
         &mut report,
     );
     match answer {
-        Answer::Accepted(s) => print_accepted(rt, &library, &netlist, numbers, &report, s.length),
-        Answer::Refused(r) => print_refused(rt, &library, &netlist, numbers, &report, r),
+        Ok(s) => {
+            files::print(rt, b"accepted,");
+            print_number(rt, s.length);
+            print_left(rt, &library, sizes::LIBRARY);
+            print_left(rt, &netlist, sizes::NETLIST);
+            print_left(rt, &numbers, NUMBERS);
+            print_left(rt, &report, s.length);
+            files::print(rt, b"\ngate");
+            print_gate(rt, &netlist, netlist[0] as usize);
+            files::print(rt, b"\nnumbers");
+            print_words(rt, &numbers, NUMBERS - 6, 6);
+        }
+        Err(r) => {
+            print_refusal(rt, r);
+            files::print(rt, b"left");
+            print_left(rt, &library, 0);
+            print_left(rt, &netlist, 0);
+            print_left(rt, &numbers, 0);
+            print_left(rt, &report, 0);
+        }
     }
-}
-
-fn lend_roomy(rt: &impl Print, lib: &[u8], records: [Record; MOST], count: usize)
-    requires { count ≤ 2 * Size.lines + 1 }
-{
-    let mut numbers = [BEFORE; NUMBERS_ROOM];
-    lend_filled(rt, lib, records, count, &mut numbers);
-}
-
-// With a numbers table below its published size.
-fn lend_roomless(rt: &impl Print, lib: &[u8], records: [Record; MOST], count: usize)
-    requires { count ≤ 2 * Size.lines + 1 }
-{
-    let mut numbers = [BEFORE; NUMBERS_SHORT];
-    lend_filled(rt, lib, records, count, &mut numbers);
+    files::print(rt, b"\n");
 }
 
 // The long lists, against a library of 32 cells.
 fn lend_full(rt: &impl Print, lib: &[u8]) {
-    let full = full_with(mark(1, sizes::LINES as u32));
-    lend_roomy(rt, lib, full, GOOD);
+    let full = full_with(mark(1, LAST));
+    let good = &full[..GOOD];
+    lend_filled::<NUMBERS_ROOM>(rt, lib, good);
     // one bad record behind 2,000 good ones: 15, 14, 11, 10
-    lend_roomy(rt, lib, full, MOST);
-    lend_roomy(rt, lib, full_with(driver(9)), MOST);
-    lend_roomy(rt, lib, full_with(mark(0, 0)), MOST);
-    lend_roomy(rt, lib, full_with(mark(4, 1)), MOST);
-    // 1: nothing is read
-    lend_roomless(rt, lib, full, GOOD);
-}
-
-fn lend_loaded(rt: &impl Print, loaded: Loaded, lib: &[u8; FILE_BYTES]) {
-    match loaded {
-        Loaded::Bytes(n) => lend_full(rt, files::front(lib, n)),
-        Loaded::Unreadable => files::print(rt, b"unreadable\n"),
+    lend_filled::<NUMBERS_ROOM>(rt, lib, &full);
+    for last in [driver(9), mark(0, 0), mark(4, 1)] {
+        lend_filled::<NUMBERS_ROOM>(rt, lib, &full_with(last));
     }
+    // 1: nothing is read
+    lend_filled::<NUMBERS_SHORT>(rt, lib, good);
 }
 
 fn main(rt: HostRuntime) {
-    let latch = latch_with(mark(0, 0));
-    lend_all(&rt, latch, 5);
-    lend_all(&rt, latch, 0);
-    lend_tie(&rt, tied(), 2);
+    let with_last = latch_with(mark(0, 0));
+    let latch = &with_last[..LATCH];
+    lend_and_print::<NUMBERS, 512>(&rt, NAND2, latch);
+    lend_and_print::<NUMBERS, 512>(&rt, NAND2, &[]);
+    // a gate without pins, and its line marked output
+    lend_and_print::<NUMBERS, 512>(&rt, TIE1, &[gate(0, 3, 0, 0, 0), mark(1, 3)]);
     // 1, 2 and 3
-    lend_small(&rt, latch, 5);
-    lend_long(&rt, latch, 5);
-    lend_broken(&rt, latch, 5);
+    lend_and_print::<NUMBERS_SHORT, 512>(&rt, NAND2, latch);
+    lend_and_print::<NUMBERS, 512>(&rt, &[10; FILE_BYTES], latch);
+    lend_and_print::<NUMBERS, 512>(&rt, BROKEN, latch);
     // 10: an unknown kind, an unused cell, an unused pin, a pin after a 0
-    lend_all(&rt, latch_with(mark(4, 1)), 6);
-    lend_all(
+    lend_each(
         &rt,
-        latch_with(Record {
-            kind: 0,
-            cell: 1,
-            line: 5,
-            pins: [0; sizes::PINS],
-        }),
-        6,
+        &[
+            mark(4, 1),
+            Record {
+                cell: 1,
+                ..mark(0, 5)
+            },
+            Record {
+                pins: [0, 1, 0, 0, 0, 0, 0, 0],
+                ..mark(1, 5)
+            },
+            gate(0, 5, 1, 0, 2),
+        ],
     );
-    lend_all(
-        &rt,
-        latch_with(Record {
-            kind: 1,
-            cell: 0,
-            line: 5,
-            pins: [0, 1, 0, 0, 0, 0, 0, 0],
-        }),
-        6,
-    );
-    lend_all(&rt, latch_with(gate(0, 5, 1, 0, 2)), 6);
     // 11: line 0, line 1,001, pin 1,001
-    lend_all(&rt, latch, 6);
-    lend_all(&rt, latch_with(mark(1, sizes::LINES as u32 + 1)), 6);
-    lend_all(
-        &rt,
-        latch_with(gate(0, 5, 1, sizes::LINES as u32 + 1, 0)),
-        6,
-    );
+    let past = LAST + 1;
+    lend_each(&rt, &[mark(0, 0), mark(1, past), gate(0, 5, 1, past, 0)]);
     // the largest number in each field: 10, 10, 10, 10, then 11, 11, 11, and 12
-    lend_all(&rt, latch_with(mark(LARGEST, 5)), 6);
-    lend_all(
+    lend_each(
         &rt,
-        latch_with(Record {
-            kind: 0,
-            cell: LARGEST,
-            line: 5,
-            pins: [0; sizes::PINS],
-        }),
-        6,
+        &[
+            mark(u32::MAX, 5),
+            Record {
+                cell: u32::MAX,
+                ..mark(0, 5)
+            },
+            Record {
+                pins: [0, 0, 0, 0, 0, 0, 0, u32::MAX],
+                ..mark(1, 5)
+            },
+            gate(0, 5, 1, 0, u32::MAX),
+            mark(0, u32::MAX),
+            gate(0, u32::MAX, 1, 2, 0),
+            gate(u32::MAX, 5, 1, u32::MAX, 0),
+            gate(u32::MAX, 5, 1, 2, 0),
+        ],
     );
-    lend_all(
-        &rt,
-        latch_with(Record {
-            kind: 1,
-            cell: 0,
-            line: 5,
-            pins: [0, 0, 0, 0, 0, 0, 0, LARGEST],
-        }),
-        6,
-    );
-    lend_all(&rt, latch_with(gate(0, 5, 1, 0, LARGEST)), 6);
-    lend_all(&rt, latch_with(mark(0, LARGEST)), 6);
-    lend_all(&rt, latch_with(gate(0, LARGEST, 1, 2, 0)), 6);
-    lend_all(&rt, latch_with(gate(LARGEST, 5, 1, LARGEST, 0)), 6);
-    lend_all(&rt, latch_with(gate(LARGEST, 5, 1, 2, 0)), 6);
     // 12 to 15, and 17
-    lend_all(&rt, latch_with(gate(1, 5, 1, 2, 0)), 6);
-    lend_all(&rt, latch_with(gate(0, 5, 1, 0, 0)), 6);
-    lend_all(&rt, latch_with(mark(0, 4)), 6);
-    lend_all(&rt, latch_with(mark(1, 3)), 6);
-    lend_short(&rt, latch, 5);
+    lend_each(
+        &rt,
+        &[
+            gate(1, 5, 1, 2, 0),
+            gate(0, 5, 1, 0, 0),
+            mark(0, 4),
+            mark(1, 3),
+        ],
+    );
+    lend_and_print::<NUMBERS, 8>(&rt, NAND2, latch);
     // an open line; 14, where it has a driver; 20, where an output is marked that has none
-    lend_all(&rt, latch_with(mark(3, 5)), 6);
-    lend_all(&rt, latch_with(mark(3, 4)), 6);
-    lend_all(&rt, latch_with(mark(1, 5)), 6);
-    let mut lib = [0u8; FILE_BYTES];
-    let loaded = files::load(&rt, b"lib.txt", &mut lib);
-    lend_loaded(&rt, loaded, &lib);
+    lend_each(&rt, &[mark(3, 5), mark(3, 4), mark(1, 5)]);
+    let long = files::load_file(&rt, b"lib.txt");
+    match long.length {
+        Some(n) => lend_full(&rt, files::front(&long.buffer, n)),
+        None => files::print(&rt, b"unreadable\n"),
+    }
 }

@@ -9,7 +9,9 @@ use Rattle.text.proofs.Laws.{same_bytes-other}
 use Rattle.text.proofs.FieldLaws.{name_form-length}
 use Rattle.table.specs.Blocks.{fitted, blocks}
 use Rattle.table.proofs.Places.{length-fitted}
-use Rattle.library_table.specs.Cells.{Heading, plain, deep, Row, Group, Cell, no_row}
+use Rattle.library_table.specs.Cells.{Row, Group, Cell, no_row}
+use Rattle.library_table.specs.declared.Heading.{Heading}
+use Rattle.library_table.specs.declared.Heading.TheVariants.{Plain as plain, Deep as deep}
 use Rattle.library_table.specs.Library.{group_count}
 use Rattle.library_table.specs.Layout.{library_words, group_words, cell_groups, heading_number, cell_words}
 use Rattle.library_table.specs.Sound.{SoundCell, Sound}

@@ -1,11 +1,13 @@
 -- Lists that stand in two tables, compared place by place; and rows looked for one behind the other.
-use Rattle.common_laws.proofs.Base.{Bool, true, false, ◌&&◌, and_assoc, and-false, List, [], ◌∷◌, ◌++◌, ◌≡◌, refl, sym, ap, ◌∙◌, ℕ, zero, suc, ◌+◌, ◌-◌, ◌≤◌, ◌<◌, add-zero}
+use Rattle.common_laws.proofs.Base.{Bool, true, false, ◌&&◌, and_assoc, and-false, List, [], ◌∷◌, ◌++◌, ◌≡◌, refl, sym, ap, ◌∙◌, ℕ, zero, suc, ◌+◌, ◌*◌, ◌-◌, ◌≤◌, ◌<◌, add-zero}
 use Rattle.common_laws.proofs.Base.{add-suc, suc-add, add-one, arith, length, get_or}
+use Rattle.std.specs.List.{list_all, range_with_len}
+use Rattle.sizes.specs.Sizes as Size
 use Rattle.reading.specs.Choice.{pick}
 use Rattle.table.specs.Blocks.{fitted}
 use Rattle.library_table.specs.Cells.{Row}
 use Rattle.calculation.specs.Growth.{same_row, keeps, pairwise}
-use Rattle.library_growth.specs.Held.{listed}
+use Rattle.library_growth.specs.Held.{listed, row_at}
 
 -- A list whose elements stand at the places.
 pub listed_is : {A : Type 0} (f : ℕ → A) (d : A) (first : ℕ) (xs : List A) → ((i : ℕ) → i < length xs → f (first + i) ≡ get_or xs i d)
@@ -18,6 +20,13 @@ listed_is f d first (x ∷ xs) h =
     rw (here, listed_is f d (suc first) xs next)
 
 -- ---- one with its like
+
+-- Compared at each place.
+pub listed-all : {A : Type 0} (p : A → A → Bool) (f g : ℕ → A) (first count : ℕ)
+    → list_all (λ i. p (f i) (g i)) (range_with_len first count) ≡ pairwise p (listed f first count) (listed g first count)
+unfolding listed pairwise
+listed-all p f g first zero = refl
+listed-all p f g first (suc count) = rw (add-one first, listed-all p f g (suc first) count)
 
 module _ {A : Type 0} (p : A → A → Bool) (f g : ℕ → A) where
   -- What is left to compare from place i on.
@@ -69,6 +78,10 @@ module _ {A : Type 0} (p : A → A → Bool) where
   pairwise-fitted d t (suc n) (x ∷ xs) (y ∷ ys) e h = ap (λ (b : Bool). p x y && b) (pairwise-fitted d t n xs ys (omega arith) (omega arith))
 
 -- ---- each row behind the one before it
+
+-- The rows behind a place of a table.
+abbrev pub rows_from : List ℕ → ℕ → ℕ → Row
+rows_from table at r = row_at table (at + 1 + Size.row_words * r)
 
 module _ (old new : ℕ → Row) where
   -- Whether the rows from row i on are among the others from row j on.

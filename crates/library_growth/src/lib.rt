@@ -23,22 +23,16 @@ fn same_entry(old: &[u32], new: &[u32], cell: u32) -> bool
     ensures { result ≡ pairwise eqb (entry_at old.now cell) (entry_at new.now cell) }
 {
     let at = cell_place(cell);
-    let mut i = 0;
-    while i < sizes::GROUPS_AT {
-        if word(old, at + i) != word(new, at + i) {
-            return false;
-        }
-        i += 1;
-    }
-    true
+    (0..sizes::GROUPS_AT).all(|i| word(old, at + i) == word(new, at + i))
 }
 
 // Whether the row at a place of the old table is the one at a place of the new.
+#[tactic(auto, unfolding(calculation::specs::Growth::same_row, crate::specs::Held::row_at))]
 fn same_row(old: &[u32], new: &[u32], row: usize, other: usize) -> bool
     requires { (row < 2 ^ 63) × (other < 2 ^ 63) }
     ensures { result ≡ same_row (row_at old.now row) (row_at new.now other) }
 {
-    (word(old, row) == word(new, other)) & (word(old, row + 1) == word(new, other + 1))
+    word(old, row) == word(new, other) && word(old, row + 1) == word(new, other + 1)
 }
 
 // Whether the new group at a place has the rows of the old one there, in their order: each is looked for
@@ -50,22 +44,16 @@ fn keeps_rows(old: &[u32], new: &[u32], at: usize) -> bool
     let rows = word(old, at) as usize;
     let others = word(new, at) as usize;
     let mut found = 0;
-    let mut other = 0;
-    while found < rows {
-        if others <= other {
-            return false;
+    for other in 0..others {
+        if found == rows {
+            return true;
         }
-        if same_row(
-            old,
-            new,
-            at + 1 + sizes::ROW_WORDS * found,
-            at + 1 + sizes::ROW_WORDS * other,
-        ) {
+        let row = at + 1 + sizes::ROW_WORDS * found;
+        if same_row(old, new, row, at + 1 + sizes::ROW_WORDS * other) {
             found += 1;
         }
-        other += 1;
     }
-    true
+    found == rows
 }
 
 // Whether each group of a cell has the rows of the old one.
@@ -73,14 +61,7 @@ fn keeps_groups(old: &[u32], new: &[u32], cell: u32) -> bool
     ensures { result ≡ pairwise keeps (groups_at old.now cell) (groups_at new.now cell) }
 {
     let at = cell_place(cell) + sizes::GROUPS_AT;
-    let mut group = 0;
-    while group < sizes::GROUPS {
-        if !keeps_rows(old, new, at + group * sizes::GROUP_WORDS) {
-            return false;
-        }
-        group += 1;
-    }
-    true
+    (0..sizes::GROUPS).all(|group| keeps_rows(old, new, at + group * sizes::GROUP_WORDS))
 }
 
 // Whether a cell differs only by rows added, and did not lose the one-wire reading.
@@ -98,7 +79,7 @@ fn grown_cell(old: &[u32], new: &[u32], cell: u32) -> bool
     }
     let pins = pins_of(old, cell) as usize;
     let at = cell_place(cell);
-    cell_both(old, pins, at) | !cell_both(new, pins, at)
+    cell_both(old, pins, at) || !cell_both(new, pins, at)
 }
 
 // Whether a library "has the same entries in the same order and differs only by rows added to groups", and
@@ -112,12 +93,11 @@ pub fn grown_at(old: &[u32], new: &[u32]) -> bool
     if count(new) != n {
         return false;
     }
-    let mut cell: u32 = 0;
-    while cell < n {
+    // Not `all`: its closure would not know that both tables have the cell, which `grown_cell` requires.
+    for cell in 0..n {
         if !grown_cell(old, new, cell) {
             return false;
         }
-        cell += 1;
     }
     true
 }

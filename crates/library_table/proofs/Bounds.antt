@@ -5,9 +5,11 @@ use Rattle.reading.specs.Refusal.{read, weigh, form}
 use Rattle.reading.proofs.Bounds.{Within, text_number, within_bind, within-then, within-form, within-weigh}
 use Rattle.text.specs.Lines.{lines}
 use Rattle.text.proofs.Laws.{length-lines}
-use Rattle.library_table.specs.Cells.{Heading, Cell}
+use Rattle.library_table.specs.Cells.{Cell}
+use Rattle.library_table.specs.declared.Heading.{Heading}
 use Rattle.library_table.specs.declared.Word.{Word}
-use Rattle.library_table.specs.Library.{Fields, Wanted, word_line, end_line, Place, outside, inside, Reading, rows_after, row_line, name_after, name_line, end_after, library_line, library_end, library_from, library}
+use Rattle.library_table.specs.Library.{Fields, Place, outside, inside, Reading, rows_after, row_line, name_after, name_line, end_after, library_line, library_end, library_from, library}
+use Rattle.library_table.specs.declared.Wanted.TheVariants.{Rows as word_line, End as end_line}
 
 module _ (n : ℕ) where
   module _ (line : ℕ) (k : line ≤ n) where

@@ -10,10 +10,14 @@ use Rattle.reading.proofs.Laws.{or_left, or_right, each_append, each_map, refuse
 use Rattle.text.specs.Lines.{same_bytes, lines}
 use Rattle.text.specs.Numeral.{value, decimal, name_form}
 use Rattle.text.proofs.FieldLaws.{name_form-length}
-use Rattle.library_table.specs.Cells.{Heading, plain, deep, depth_bits, deepest, Row, row_of, Group, Cell, bit}
+use Rattle.library_table.specs.Cells.{depth_bits, deepest, Row, row_of, Group, Cell, bit}
+use Rattle.library_table.specs.declared.Heading.{Heading}
+use Rattle.library_table.specs.declared.Heading.TheVariants.{Plain as plain, Deep as deep}
 use Rattle.library_table.specs.declared.Word.{Word}
 use Rattle.library_table.specs.declared.Word.TheVariants.{CC, CO, SC, SO}
-use Rattle.library_table.specs.Library.{Fields, is_join, is_z, word, rows_form, join_first, with_row, groups_of, any_of, above_rows, above, observes_not, word_bytes, group_count, column_count, idle, excepted, row_idle, rows_after, row_line, Header, heading_of, header_of, name_after, end_after, name_used, pins_bad, name_line, word_line, end_line, line_after, Place, outside, inside, Reading, begun, word_groups, with_groups, library_line, library_end, library_from, library}
+use Rattle.library_table.specs.Library.{Fields, is_join, is_z, rows_form, join_first, with_row, groups_of, any_of, above_rows, above, observes_not, word_bytes, group_count, column_count, idle, excepted, row_idle, rows_after, row_line, Header, heading_of, header_of, name_after, end_after, name_used, pins_bad, name_line, line_after, Place, outside, inside, Reading, begun, word_groups, with_groups, library_line, library_end, library_from, library}
+use Rattle.library_table.specs.declared.Before.TheVariants.{Word as word}
+use Rattle.library_table.specs.declared.Wanted.TheVariants.{Rows as word_line, End as end_line}
 use Rattle.library_table.specs.Layout.{ShortName, FewPins, Fits}
 use Rattle.library_table.specs.Sound.{SoundRow, SoundGroup, SoundGroups, SoundHeader, SoundCell, Sound, SoundEntry, SoundPlace, SoundReading}
 

@@ -1,8 +1,11 @@
 -- What a library table tells of its cells, where it holds them, their count, their pins and headings, and their places by name;
 -- and of which cells any table tells.
-use Rattle.common_laws.proofs.Base.{true, false, ◌&&◌, List, [], ◌∷◌, ◌≡◌, refl, sym, ap, ◌∙◌, ℕ, zero, suc, ◌+◌, ◌-◌, ◌≤◌, ◌<◌, add-suc, suc-add, add-zero, zero-add, add_assoc}
-use Rattle.common_laws.proofs.Base.{add-one, one-add, arith, leb, eqb, length, get_or, drop, drop_of_length-le, List-get_or-append, drop-cons, le-leb, lt-leb, leb-true, eq-eqb, ne_eqb}
+use Rattle.common_laws.proofs.Base.{true, false, List, [], ◌∷◌, ◌≡◌, refl, sym, ap, ◌∙◌, ℕ, zero, suc, ◌+◌, ◌≤◌, ◌<◌, add-suc, suc-add, add-zero, zero-add, add_assoc}
+use Rattle.common_laws.proofs.Base.{add-one, one-add, arith, leb, eqb, length, get_or, drop, drop_of_length-le, List-get_or-append, drop-cons, le-leb, lt-leb, leb-true}
 use Rattle.common_laws.proofs.Base.{eqb-true, eqb-false}
+use Rattle.std.specs.Prelude.{Option, Some, None}
+use Rattle.std.specs.List.{list_all, range_with_len, zip, find}
+use Rattle.std.specs.Option.{option_map, unwrap_or}
 use Rattle.sizes.specs.Sizes as Size
 use Rattle.sizes.specs.Places.{cell_place, pins_place}
 use Rattle.table.specs.Blocks.{fitted, blocks}
@@ -19,18 +22,10 @@ use Rattle.library_table.proofs.Places.{library-count, cell-word, cell-pins}
 
 -- ---- bytes from a place on
 
-module _ (table : List ℕ) (at : ℕ) (name : List ℕ) (i : ℕ) where
-  pub bytesAt_good : i < length name → get_or table (at + i) 0 ≡ get_or name i 0 → bytes_at (drop i name) table (at + i) ≡ bytes_at (drop (i + 1) name) table (at + (i + 1))
-  unfolding bytes_at
-  bytesAt_good h e = rw (add-one i, add-suc at i, drop-cons name i 0 h, eq-eqb (get_or name i 0) (get_or table (at + i) 0) (sym e))
-
-  pub bytesAt_bad : i < length name → (get_or table (at + i) 0 ≡ get_or name i 0 → ⊥) → bytes_at (drop i name) table (at + i) ≡ false
-  unfolding bytes_at
-  bytesAt_bad h n = rw (drop-cons name i 0 h, ne_eqb (get_or name i 0) (get_or table (at + i) 0) (λ e. n (sym e)))
-
-  pub bytesAt_end : length name ≤ i → bytes_at (drop i name) table (at + i) ≡ true
-  unfolding bytes_at
-  bytesAt_end h = rw (drop_of_length-le name h)
+pub bytes-all : (table name : List ℕ) (at : ℕ) → list_all (λ (p : ℕ × ℕ). eqb p.0 (get_or table p.1 0)) (zip name (range_with_len at (length name))) ≡ bytes_at name table at
+unfolding bytes_at
+bytes-all table [] at = refl
+bytes-all table (b ∷ f) at = rw (add-one at, bytes-all table f (suc at)) refl
 
 bytesAt_same : (f g table : List ℕ) (at : ℕ) → length f ≡ length g → ((j : ℕ) → j < length g → get_or table (at + j) 0 ≡ get_or g j 0) → bytes_at f table at ≡ same_bytes f g
 unfolding bytes_at same_bytes
@@ -206,44 +201,39 @@ module _ (table : List ℕ) where
   unfolding cells_in pick
   tells_none e = record { any = rw e told_none; holds = λ cells h. clash (cells_fit table) (held-fit cells h) e }
 
-  -- ---- one turn of the walk over the pins of n cells
+  -- ---- the pins of the cells from one on
 
-  pub fit-many : Size.cells < get_or table 0 0 → cells_fit table ≡ false
-  unfolding cells_fit
-  fit-many h = rw (lt-leb (get_or table 0 0) Size.cells h)
+  pub narrow-all : (k left : ℕ) → list_all (λ (i : ℕ). leb (get_or table (pins_place i) 0) Size.pins) (range_with_len k left) ≡ narrow_from table k left
+  unfolding narrow_from
+  narrow-all k zero = refl
+  narrow-all k (suc left) = rw (add-one k, narrow-all (suc k) left) refl
 
-  pub fit-start : (n : ℕ) → n ≡ get_or table 0 0 → n ≤ Size.cells → narrow_from table 0 (n - 0) ≡ cells_fit table
-  unfolding cells_fit
-  fit-start n e h = let all : n - 0 ≡ get_or table 0 0 = omega arith in rw (all, le-leb (get_or table 0 0) Size.cells (omega arith))
+  module _ (n : ℕ) (e : n ≡ get_or table 0 0) where
+    pub fit-few : n ≤ Size.cells → narrow_from table 0 n ≡ cells_fit table
+    unfolding cells_fit
+    fit-few h = rw (← e, le-leb n Size.cells h) refl
 
-  module _ (n k : ℕ) where
-    pub narrow-more : k < n → get_or table (pins_place k) 0 ≤ Size.pins → narrow_from table k (n - k) ≡ narrow_from table (k + 1) (n - (k + 1))
-    unfolding narrow_from
-    narrow-more h p = let more : n - k ≡ suc (n - (k + 1)) = omega arith in rw (more, le-leb (get_or table (pins_place k) 0) Size.pins p, add-one k)
+    pub fit-many : Size.cells < n → leb n Size.cells ≡ cells_fit table
+    unfolding cells_fit
+    fit-many h = rw (← e, lt-leb n Size.cells h) refl
 
-    pub narrow-not : k < n → Size.pins < get_or table (pins_place k) 0 → narrow_from table k (n - k) ≡ false
-    unfolding narrow_from
-    narrow-not h p = let more : n - k ≡ suc (n - (k + 1)) = omega arith in rw (more, lt-leb (get_or table (pins_place k) 0) Size.pins p)
+-- ---- the search for a name among the cells from one on
 
-    pub narrow-end : n ≤ k → narrow_from table k (n - k) ≡ true
-    unfolding narrow_from
-    narrow-end h = let none : n - k ≡ 0 = omega arith in rw none
+same-option : (r : Option ℕ) → option_map (λ (x : ℕ). x) r ≡ r
+same-option None = refl
+same-option (Some x) = refl
 
--- ---- one turn of the search for a name among n cells
-
-pub found-start : (name table : List ℕ) (n : ℕ) → n ≡ get_or table 0 0 → found_from name table 0 (n - 0) ≡ found_at name table
-unfolding found_at
-found-start name table n e = let all : n - 0 ≡ get_or table 0 0 = omega arith in rw all
-
-module _ (name table : List ℕ) (n k : ℕ) where
-  pub found_here : k < n → name_at name table k ≡ true → found_from name table k (n - k) ≡ k
+module _ (name table : List ℕ) where
+  find-cell : (n k left : ℕ) → k + left ≡ n → unwrap_or (find (name_at name table) (range_with_len k left)) n ≡ found_from name table k left
   unfolding found_from pick
-  found_here h e = let more : n - k ≡ suc (n - (k + 1)) = omega arith in rw (more, e)
+  find-cell n k zero e = omega arith
+  find-cell n k (suc left) e =
+      by_test (name_at name table k)
+      (λ t. rw t refl)
+      (λ t. rw (t, add-one k) (find-cell n (suc k) left (omega arith)))
 
-  pub found-on : k < n → name_at name table k ≡ false → found_from name table k (n - k) ≡ found_from name table (k + 1) (n - (k + 1))
-  unfolding found_from pick
-  found-on h e = let more : n - k ≡ suc (n - (k + 1)) = omega arith in rw (more, e, add-one k)
-
-  pub found-end : n ≤ k → found_from name table k (n - k) ≡ k
-  unfolding found_from
-  found-end h = let none : n - k ≡ 0 = omega arith in rw none
+  -- The first cell that is found, or the count of cells.
+  pub first-found : (n : ℕ) → n ≡ get_or table 0 0 → (r : Option ℕ) → option_map (λ (x : ℕ). x) r ≡ find (name_at name table) (range_with_len 0 n)
+      → unwrap_or r n ≡ found_at name table
+  unfolding found_at
+  first-found n e r f = rw (sym (same-option r) ∙ f, ← e) (find-cell n 0 n (zero-add n))

@@ -1,5 +1,5 @@
 -- What stands at a place of the library table.
-use Rattle.common_laws.proofs.Base.{List, [], ◌∷◌, ◌++◌, append_assoc, append-nil, ◌≡◌, refl, sym, ap, ◌∙◌, ℕ, suc, ◌+◌, ◌*◌, ◌/◌, ◌%◌, ◌^◌, ◌≤◌, ◌<◌, add_assoc, one-add, arith}
+use Rattle.common_laws.proofs.Base.{List, [], ◌∷◌, ◌++◌, append_assoc, append-nil, ◌≡◌, refl, sym, ap, ◌∙◌, ℕ, suc, ◌+◌, ◌*◌, ◌≤◌, ◌<◌, add_assoc, one-add, arith}
 use Rattle.common_laws.proofs.Base.{length, get_or, length-append, List-get_or-append, get_or-append-add}
 use lib.Pow.{split}
 use lib.Seq.{get_or_at}
@@ -7,7 +7,8 @@ use Rattle.sizes.specs.Places.{cell_place, group_place}
 use Rattle.sizes.specs.Sizes as Size
 use Rattle.table.specs.Blocks.{fitted, blocks}
 use Rattle.table.proofs.Places.{length-fitted, getD_fitted, length_blocks, getD_blocks}
-use Rattle.library_table.specs.Cells.{Heading, depth_bits, Row, row_of, row_value, Group, Cell}
+use Rattle.library_table.specs.Cells.{depth_bits, Row, row_of, row_value, Group, Cell}
+use Rattle.library_table.specs.declared.Heading.{Heading}
 use Rattle.library_table.specs.declared.Word.{Word}
 use Rattle.library_table.specs.declared.Word.TheVariants.{CC, CO, SC, SO}
 use Rattle.library_table.specs.Library.{group_count, word_groups}

@@ -1,10 +1,8 @@
 -- Cells, rows and columns. Document 01, "Cells".
 use Rattle.std.specs.Prelude.{Bool, List, [], ◌∷◌, ◌++◌, ℕ, zero, suc, ◌+◌, ◌*◌, ◌-◌, ◌/◌, ◌%◌, ◌^◌, eqb}
 use Rattle.reading.specs.Choice.{pick, choice_open}
-
--- The heading of an entry, the word that it begins with: `Name`, or `Name3` (02, K2).
-pub data Heading : Type 0 where
-  plain deep : Heading
+use Rattle.library_table.specs.declared.Heading.{Heading}
+use Rattle.library_table.specs.declared.Heading.TheVariants.{Plain as plain, Deep as deep}
 
 -- "Bit 0 is the depth (0 or 1)." "An entry that begins with `Name3` has a three-bit depth in bits 0 to 2 of each row, every
 -- other column two places higher .. `Name` entries are read as today." (02, K2)

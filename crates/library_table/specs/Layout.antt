@@ -7,7 +7,9 @@ use Rattle.table.specs.Blocks.{fitted, blocks}
 use Rattle.reading.specs.Choice.{pick}
 use Rattle.reading.specs.Each.{Each}
 use Rattle.reading.specs.Refusal.{Read, refused, read}
-use Rattle.library_table.specs.Cells.{Heading, plain, deep, Row, Group, Cell}
+use Rattle.library_table.specs.Cells.{Row, Group, Cell}
+use Rattle.library_table.specs.declared.Heading.{Heading}
+use Rattle.library_table.specs.declared.Heading.TheVariants.{Plain as plain, Deep as deep}
 use Rattle.library_table.specs.declared.Word.{Word}
 use Rattle.library_table.specs.declared.Word.TheVariants.{CC, CO, SC, SO}
 use Rattle.library_table.specs.Library.{cell_named}
@@ -34,6 +36,10 @@ first_group SO = Size.so_group
 unfoldable pub heading_number : Heading → ℕ
 heading_number plain = 0
 heading_number deep = 1
+
+-- The heading that a number of a table tells: `Name` at 0, `Name3` at any other.
+unfoldable pub heading_told : ℕ → Heading
+heading_told number = pick (eqb number 0) plain deep
 
 -- A cell: the length of its name, its name filled up, its pins, its heading, its groups.
 unfoldable pub cell_words : Cell → List ℕ

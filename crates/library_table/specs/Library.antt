@@ -8,9 +8,15 @@ use Rattle.reading.specs.Choice.{pick}
 use Rattle.text.specs.Lines.{lines, same_bytes, lines_open}
 use Rattle.text.specs.Numeral.{numeral, value, decimal, name_form, numeral_open}
 use Rattle.reading.specs.Refusal.{Read, refused, read, weigh, form, refusal_open, ◌>>=◌, ◌>>◌}
-use Rattle.library_table.specs.Cells.{Heading, plain, deep, Row, row_of, Group, Cell, bit, cells_open}
+use Rattle.library_table.specs.Cells.{Row, row_of, Group, Cell, bit, cells_open}
+use Rattle.library_table.specs.declared.Heading.{Heading}
+use Rattle.library_table.specs.declared.Heading.TheVariants.{Plain as plain, Deep as deep}
 use Rattle.library_table.specs.declared.Word.{Word}
 use Rattle.library_table.specs.declared.Word.TheVariants.{CC, CO, SC, SO}
+use Rattle.library_table.specs.declared.Before.{Before}
+use Rattle.library_table.specs.declared.Before.TheVariants.{Word as word, Row as row, Join as join}
+use Rattle.library_table.specs.declared.Wanted.{Wanted}
+use Rattle.library_table.specs.declared.Wanted.TheVariants.{Rows as word_line, End as end_line}
 
 -- A line by its fields.
 abbrev pub Fields : Type 0
@@ -37,10 +43,6 @@ is_join f = same_bytes f (bytes "M")
 -- "A group may be the single letter Z, meaning no row: that value or pin has no plan." (02, K1)
 unfoldable pub is_z : List ℕ → Bool
 is_z f = same_bytes f (bytes "Z")
-
--- What stands before a field: the line's word, or a Z, which as little as the word may be joined; a row; an M.
-pub data Before : Type 0 where
-  word row join : Before
 
 -- A row or an M in its place: an M stands between two rows.
 unfoldable pub may_join : Before → Bool
@@ -206,11 +208,7 @@ name_line line cells fs = do
       ∷ [])
   read h
 
--- "The six lines of an entry stand in the order shown": the line that an entry wants behind its Name line.
-pub data Wanted : Type 0 where
-  word_line : Word → Wanted
-  end_line : Wanted
-
+-- "The six lines of an entry stand in the order shown": the line that an entry wants behind its Name line, `Wanted`.
 unfoldable pub line_after : Word → Wanted
 line_after CC = word_line CO
 line_after CO = word_line SC

@@ -6,7 +6,9 @@ use Rattle.text.specs.Numeral.{name_form}
 use Rattle.library_table.specs.Cells.{deepest, Row, Group, Cell}
 use Rattle.library_table.specs.declared.Word.{Word}
 use Rattle.library_table.specs.declared.Word.TheVariants.{CC, CO, SC, SO}
-use Rattle.library_table.specs.Library.{group_count, column_count, idle, excepted, word_groups, Wanted, word_line, end_line, Place, outside, inside, Reading}
+use Rattle.library_table.specs.Library.{group_count, column_count, idle, excepted, word_groups, Place, outside, inside, Reading}
+use Rattle.library_table.specs.declared.Wanted.{Wanted}
+use Rattle.library_table.specs.declared.Wanted.TheVariants.{Rows as word_line, End as end_line}
 use Rattle.reading.specs.Each.{Each}
 
 -- A row of a line that has the groups `all`. "depth 0 to 7" (02, K2); no "bit above its columns"; not "a CC or SC row

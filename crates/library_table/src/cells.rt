@@ -17,25 +17,16 @@ fn bytes_at(table: &[u32], cell: u32, name: &[u8]) -> bool
     ensures { result ≡ bytes_at name.now table.now (cell_place cell + 1) }
 {
     let at = cell_place(cell) + 1;
-    let n = name.len();
-    let mut i = 0;
-    while i < n {
-        if word(table, at + i) != name[i] as u32 {
-            return false;
-        }
-        i += 1;
-    }
-    true
+    name.iter()
+        .zip(at..at + name.len())
+        .all(|(b, place)| u32::from(*b) == word(table, place))
 }
 
 // Whether a cell has this name.
 fn name_at(table: &[u32], cell: u32, name: &[u8]) -> bool
     ensures { result ≡ name_at name.now table.now cell }
 {
-    if word(table, cell_place(cell)) as usize != name.len() {
-        return false;
-    }
-    bytes_at(table, cell, name)
+    word(table, cell_place(cell)) as usize == name.len() && bytes_at(table, cell, name)
 }
 
 // How many cells the table counts.
@@ -45,19 +36,13 @@ pub fn count(table: &[u32]) -> u32
     word(table, 0)
 }
 
-// The place of a name among the cells, from 0; the count of cells where it is not among them.
+// The place of a name among the cells, from 0; the count of cells where it is not among them. No `Option`: the call is open,
+// with this number by equation, and a gate line keeps it until 11 is ruled out (docs/PROVED.md, D162).
 pub fn find(table: &[u32], name: &[u8]) -> u32
     ensures { result ≡ found_at name.now table.now }
 {
     let n = count(table);
-    let mut k: u32 = 0;
-    while k < n {
-        if name_at(table, k, name) {
-            return k;
-        }
-        k += 1;
-    }
-    k
+    (0..n).find(|k| name_at(table, *k, name)).unwrap_or(n)
 }
 
 // The pins of a cell; of one past the table's end, 0.
@@ -72,25 +57,12 @@ fn fit(table: &[u32]) -> bool
     ensures { result ≡ cells_fit table.now }
 {
     let n = count(table);
-    if sizes::CELLS < n as usize {
-        return false;
-    }
-    let mut k: u32 = 0;
-    while k < n {
-        if sizes::PINS < pins_of(table, k) as usize {
-            return false;
-        }
-        k += 1;
-    }
-    true
+    n as usize <= sizes::CELLS && (0..n).all(|k| pins_of(table, k) as usize <= sizes::PINS)
 }
 
 // A part of any table that tells of its cells: the table, or where it counts what no library has its empty front.
 pub fn told(table: &[u32]) -> &[u32]
     ensures { TellsCells table.now result.now }
 {
-    if fit(table) {
-        return table;
-    }
-    &table[..0]
+    if fit(table) { table } else { &[] }
 }

@@ -1,5 +1,4 @@
 mod Laws
-mod GroupLaws
 mod Passes
 mod Stores
 mod Entries

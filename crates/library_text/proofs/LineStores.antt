@@ -4,10 +4,10 @@ use Rattle.common_laws.proofs.Base.{add-one, arith, length, get_or, set, drop, r
 use Rattle.sizes.specs.Sizes as Size
 use Rattle.table.specs.Blocks.{fitted, blocks}
 use Rattle.table.proofs.Places.{length-fitted}
-use Rattle.library_table.specs.Cells.{Heading, Cell, no_cell}
+use Rattle.library_table.specs.Cells.{Cell, no_cell}
+use Rattle.library_table.specs.declared.Heading.{Heading}
 use Rattle.library_table.specs.Library.{begun}
 use Rattle.library_table.specs.Layout.{group_words, cell_groups, heading_number, cell_words, library_words}
-use Rattle.library_text.specs.Passes.{headed}
 use Rattle.library_text.specs.Headers.{header_put}
 use Rattle.library_text.specs.Passes.{counted_words}
 use Rattle.library_text.proofs.Stores.{blocks_last, ahead_words, behind_words, length-ahead, cell_open}

@@ -1,25 +1,28 @@
 -- The walk over a row line, tied to the definitions of the library text.
 use Rattle.common_laws.proofs.Base.{Bool, true, false, not, ◌&&◌, ◌||◌, or-false, or-true, or_assoc, List, [], ◌∷◌, ◌++◌, append_assoc, Option, none, some, ◌≡◌, refl, sym, ap, ◌∙◌}
 use Rattle.common_laws.proofs.Base.{ℕ, zero, suc, ◌+◌, ◌*◌, ◌/◌, ◌%◌, ◌^◌, ◌≤◌, ◌<◌, max, min, pow-suc, pow-le-pow_right, add-one, arith, leb, ltb, eqb, length, get_or, drop}
-use Rattle.common_laws.proofs.Base.{length-append, pow_pos, ne_eqb, lt-ltb, le-ltb, le-leb, lt-leb, ltb-true, ltb-false, leb-true, leb-false, eqb-true}
+use Rattle.common_laws.proofs.Base.{length-append, pow_pos, ne_eqb, lt-ltb, le-ltb, le-leb, lt-leb, ltb-true, ltb-false, leb-true, leb-false}
 use native.Mathlib.Nat.{div-lt_iff_lt-mul}
+use Rattle.std.specs.Prelude as Code
 use Rattle.sizes.specs.Sizes as Size
 use Rattle.reading.specs.Numbers as No
 use Rattle.reading.specs.Choice.{pick}
 use Rattle.text.specs.Lines.{same_bytes, part, fields_from, next_after}
 use Rattle.text.specs.Numeral.{numeral, value, well_formed, numeral_read}
-use Rattle.text.specs.declared.fields.Numeral.{Numeral}
-use Rattle.text.specs.declared.fields.Numeral.TheVariants.{Value, Bad}
 use Rattle.reading.proofs.Laws.{by_test, clash, and_left, and_right, or_left, or_right}
 use Rattle.text.proofs.Laws.{fields_from-step, fields_from-end}
 use Rattle.text.proofs.FieldLaws.{numeral-good, numeral-bad}
-use Rattle.library_table.specs.Cells.{Heading, plain, deep, Row, row_of, Group, bit}
+use Rattle.library_table.specs.Cells.{Row, row_of, Group, bit}
+use Rattle.library_table.specs.declared.Heading.{Heading}
+use Rattle.library_table.specs.declared.Heading.TheVariants.{Plain as plain, Deep as deep}
 use Rattle.library_table.proofs.Any.{any_append}
 use Rattle.library_table.specs.declared.Word.{Word}
 use Rattle.library_table.specs.declared.Word.TheVariants.{CC, CO, SC, SO}
-use Rattle.library_table.specs.Library.{Fields, holds, row_digits, is_row, is_join, is_z, Before, word, row, join, may_join, may_end, rows_form, join_first, with_row, groups_of, any_of, above_rows, above, names_none, observes_not, word_bytes, group_count, column_count, idle, empty_group, excepted, row_idle, rows_after}
-use Rattle.library_text.specs.Groups.{number_heading, marked, opened, group_for, row_added, rowless_added, number_of, Small}
-use Rattle.library_text.specs.Passes.{or_zero, field_value, field_row, headed, least_columns, asked_of, no_columns, none_passed, field_passed, passed, field_stored, stored, RowsRead, setting, row_number}
+use Rattle.library_table.specs.Library.{Fields, holds, row_digits, is_row, is_join, is_z, may_join, may_end, rows_form, join_first, with_row, groups_of, any_of, above_rows, above, names_none, observes_not, word_bytes, group_count, column_count, idle, empty_group, excepted, row_idle, rows_after}
+use Rattle.library_table.specs.declared.Before.{Before}
+use Rattle.library_table.specs.declared.Before.TheVariants.{Word as word, Row as row, Join as join}
+use Rattle.library_text.specs.Groups.{marked, opened, group_for, row_added, rowless_added, number_of, Small, InTable, farthest}
+use Rattle.library_text.specs.Passes.{or_zero, field_value, field_row, least_columns, asked_of, no_columns, none_passed, field_passed, passed, field_stored, stored, RowsRead, setting, row_number}
 use Rattle.library_text.specs.declared.groups.Asked.{Asked}
 use Rattle.library_text.specs.declared.groups.Passed.{Passed}
 use Rattle.library_table.proofs.Places.{first_most}
@@ -47,19 +50,19 @@ few-digits plain = refl
 few-digits deep = refl
 
 -- A field that `octal` reads is a row, and one that it does not read is none.
-module _ (h : Heading) (most : ℕ) (v : Numeral) (f : List ℕ) (m : most ≡ row_digits h) (e : numeral_read v ≡ numeral 8 (min most 10) f) where
+module _ (h : Heading) (most : ℕ) (v : Code.Option ℕ) (f : List ℕ) (m : most ≡ row_digits h) (e : numeral_read v ≡ numeral 8 (min most 10) f) where
   told : numeral_read v ≡ numeral 8 (row_digits h) f
   told = e ∙ rw (m, few-digits h)
 
-  pub value_row : (x : ℕ) → v ≡ Value x → (is_row h f ≡ true) × (field_row h f ≡ row_of h x)
+  pub value_row : (x : ℕ) → v ≡ Code.Some x → (is_row h f ≡ true) × (field_row h f ≡ row_of h x)
   unfolding is_row field_row field_value holds or_zero numeral_read
   value_row x q =
       let same : some x ≡ numeral 8 (row_digits h) f = rw q at told in
       (ap holds (sym same), ap (λ (o : Option ℕ). row_of h (or_zero o)) (sym same))
 
-  pub bad_row : v ≡ Bad → is_row h f ≡ false
+  pub no_row : v ≡ Code.None → is_row h f ≡ false
   unfolding is_row holds numeral_read
-  bad_row q = let same : none ≡ numeral 8 (row_digits h) f = rw q at told in ap holds (sym same)
+  no_row q = let same : none ≡ numeral 8 (row_digits h) f = rw q at told in ap holds (sym same)
 
 -- ---- a line that has the form, field by field
 
@@ -368,84 +371,44 @@ any-groups h p q same (g ∷ gs) e =
 
 -- ---- the walk: form
 
-before_of : ℕ → Before
-before_of b = pick (eqb b 2) join (pick (eqb b 1) row word)
-
-may-end : (b : ℕ) → may_end (before_of b) ≡ not (eqb b 2)
-unfolding before_of may_end pick
-may-end b = go (eqb b 2) (eqb b 1)
-  where
-    go : (x y : Bool) → may_end (pick x join (pick y row word)) ≡ not x
-    go true y = refl
-    go false true = refl
-    go false false = refl
-
-may_join_lem : (b : ℕ) → may_join (before_of b) ≡ eqb b 1
-unfolding before_of may_join pick
-may_join_lem b = by_test (eqb b 2) two other
-  where
-    go : (y : Bool) → may_join (pick y row word) ≡ y
-    go true = refl
-    go false = refl
-
-    two : eqb b 2 ≡ true → may_join (pick (eqb b 2) join (pick (eqb b 1) row word)) ≡ eqb b 1
-    two e = rw (eqb-true b 2 e)
-
-    other : eqb b 2 ≡ false → may_join (pick (eqb b 2) join (pick (eqb b 1) row word)) ≡ eqb b 1
-    other e = rw e (go (eqb b 1))
-
 either-bad : (x m r : Bool) → ((x || not m) || not r) ≡ (x || not (m && r))
 either-bad true m r = refl
 either-bad false true r = refl
 either-bad false false r = refl
 
-either-joined : (x y r : Bool) → ((x || y) || not r) ≡ (x || not (not y && r))
-either-joined true y r = refl
-either-joined false true r = refl
-either-joined false false r = refl
-
 group_bad : (a : Asked) (p : Passed) → (group_for a p).bad ≡ p.bad
 unfolding group_for opened pick
-group_bad a p = go (eqb p.before 2)
+group_bad a p = go (may_end p.before)
   where
-    go : (t : Bool) → (pick t p (opened a p)).bad ≡ p.bad
+    go : (t : Bool) → (pick t (opened a p) p).bad ≡ p.bad
     go true = refl
     go false = refl
 
 module _ (a : Asked) where
   abbrev ends : Passed → Bool
-  ends p = p.bad || eqb p.before 2
+  ends p = p.bad || not (may_end p.before)
 
   -- A field is out of place, or the last one is an M, just where the line does not have the form.
-  form-passed : (fs : Fields) (p : Passed) → ends (passed a p fs) ≡ (p.bad || not (rows_form (headed a) (before_of p.before) fs))
-  unfolding passed field_passed rows_form pick marked row_added rowless_added before_of
-  form-passed [] p = rw (may-end p.before) (ap (λ (t : Bool). p.bad || t) (twice-not (eqb p.before 2)))
-    where
-      twice-not : (t : Bool) → t ≡ not (not t)
-      twice-not true = refl
-      twice-not false = refl
-  form-passed (f ∷ fs) p = form-passed fs (field_passed a p f) ∙ step (is_join f) (is_z f) (is_row (headed a) f)
+  form-passed : (fs : Fields) (p : Passed) → ends (passed a p fs) ≡ (p.bad || not (rows_form a.heading p.before fs))
+  unfolding passed field_passed rows_form pick marked row_added rowless_added
+  form-passed [] p = refl
+  form-passed (f ∷ fs) p = form-passed fs (field_passed a p f) ∙ step (is_join f) (is_z f) (is_row a.heading f)
     where
       step : (j z i : Bool)
           → let q =
-          pick j (marked p 2 (p.bad || not (eqb p.before 1)))
-          (pick z (rowless_added a p) (pick i (row_added (group_for a p) (field_row (headed a) f).columns) (marked p p.before true))) in
-          (q.bad || not (rows_form (headed a) (before_of q.before) fs))
-          ≡ (p.bad || not (pick j (may_join (before_of p.before) && rows_form (headed a) join fs)
-          (pick z (may_end (before_of p.before) && rows_form (headed a) word fs) (i && rows_form (headed a) row fs))))
-      step true z i = rw (may_join_lem p.before) (either-bad p.bad (eqb p.before 1) (rows_form (headed a) join fs))
-      step false true i = rw (may-end p.before) (either-joined p.bad (eqb p.before 2) (rows_form (headed a) word fs))
+          pick j (marked p join (p.bad || not (may_join p.before)))
+          (pick z (rowless_added a p) (pick i (row_added (group_for a p) (field_row a.heading f).columns) (marked p p.before true))) in
+          (q.bad || not (rows_form a.heading q.before fs))
+          ≡ (p.bad || not (pick j (may_join p.before && rows_form a.heading join fs)
+          (pick z (may_end p.before && rows_form a.heading word fs) (i && rows_form a.heading row fs))))
+      step true z i = either-bad p.bad (may_join p.before) (rows_form a.heading join fs)
+      step false true i = either-bad p.bad (may_end p.before) (rows_form a.heading word fs)
       step false false true = rw (group_bad a p)
       step false false false = sym (or-true p.bad)
 
 -- ---- the walk: groups
 
--- The number of what stands before a field, and whether the open group is one without rows.
-unfoldable pub before_number : Before → ℕ
-before_number word = 0
-before_number row = 1
-before_number join = 2
-
+-- Whether the open group is one without rows.
 unfoldable pub closed : Before → Bool
 closed word = true
 closed row = false
@@ -457,18 +420,18 @@ joined-closed word h = clash false h refl
 joined-closed row h = refl
 joined-closed join h = refl
 
-pub joined_number : (b : Before) → eqb (before_number b) 2 ≡ joined b
-unfolding joined before_number
-joined_number word = refl
-joined_number row = refl
-joined_number join = refl
+pub joined-ends : (b : Before) → may_end b ≡ not (joined b)
+unfolding joined may_end
+joined-ends word = refl
+joined-ends row = refl
+joined-ends join = refl
 
 module _ (a : Asked) where
   -- What is passed where `done` are whole, `part` is open, behind what was just passed.
   abbrev pub shown : List Group → Group → Before → Passed
   shown done part b =
       record {
-        before = before_number b;
+        before = b;
         groups = length done + 1;
         rows = length part;
         place = a.place + length done * Size.group_words;
@@ -480,28 +443,28 @@ module _ (a : Asked) where
       }
 
   rowless_shown : rowless_added a none_passed ≡ shown [] [] word
-  unfolding rowless_added before_number any_of empty_group longest_of most_of least_of over longer higher deeper
+  unfolding rowless_added opened may_end any_of empty_group longest_of most_of least_of over longer higher deeper
   rowless_shown = refl
 
   shown_rowless : (done : List Group) (part : Group) (b : Before) → joined b ≡ false → rowless_added a (shown done part b) ≡ shown (done ++ (part ∷ [])) [] word
-  unfolding rowless_added most_of least_of before_number
+  unfolding rowless_added opened most_of least_of
   shown_rowless done part b j =
       let gs = done ++ (part ∷ []) in
-      rw (joined_number b, j, length-append done (part ∷ []), none-new gs, longest-none gs, over_none higher 0 gs, over_none deeper no_columns gs)
+      rw (joined-ends b, j, length-append done (part ∷ []), none-new gs, longest-none gs, over_none higher 0 gs, over_none deeper no_columns gs)
 
   module _ (x : Row) where
     shown_first : row_added (opened a none_passed) x.columns ≡ shown [] (x ∷ []) row
-    unfolding row_added opened before_number any_of empty_group longest_of most_of least_of over longer higher deeper
+    unfolding row_added opened any_of empty_group longest_of most_of least_of over longer higher deeper
     shown_first = refl
 
     shown-more : (done : List Group) (part : Group) (b : Before) → empty_group part ≡ false → row_added (shown done part b) x.columns ≡ shown done (part ++ (x ∷ [])) row
-    unfolding row_added before_number most_of least_of higher deeper
+    unfolding row_added most_of least_of higher deeper
     shown-more done part b some-row =
         rw
         (length-append part (x ∷ []), none_row done part some-row, none_row done (part ++ (x ∷ [])) (row_some part x), longest_row done part x, over_row higher 0 done part x, over_row deeper no_columns done part x)
 
     shown-new : (done : List Group) (part : Group) (b : Before) → row_added (opened a (shown done part b)) x.columns ≡ shown (done ++ (part ∷ [])) (x ∷ []) row
-    unfolding row_added opened before_number most_of least_of higher deeper
+    unfolding row_added opened most_of least_of higher deeper
     shown-new done part b =
         let gs = done ++ (part ∷ []) in
         rw
@@ -510,7 +473,7 @@ module _ (a : Asked) where
   -- What each field makes of it.
   module _ (f : List ℕ) (done : List Group) (part : Group) where
     pub join_passed : is_join f ≡ true → field_passed a (shown done part row) f ≡ shown done part join
-    unfolding field_passed marked before_number pick
+    unfolding field_passed marked may_join pick
     join_passed e = rw e
 
     module _ (b : Before) (e : is_join f ≡ false) where
@@ -518,22 +481,22 @@ module _ (a : Asked) where
       unfolding field_passed pick
       rowless_passed z j = rw (e, z) (shown_rowless done part b j)
 
-      pub more-passed : is_z f ≡ false → is_row (headed a) f ≡ true → empty_group part ≡ closed b → joined b ≡ true → field_passed a (shown done part b) f ≡ shown done (part ++ (field_row (headed a) f ∷ [])) row
+      pub more-passed : is_z f ≡ false → is_row a.heading f ≡ true → empty_group part ≡ closed b → joined b ≡ true → field_passed a (shown done part b) f ≡ shown done (part ++ (field_row a.heading f ∷ [])) row
       unfolding field_passed group_for pick
-      more-passed z g k j = rw (e, z, g, joined_number b, j) (shown-more (field_row (headed a) f) done part b (k ∙ joined-closed b j))
+      more-passed z g k j = rw (e, z, g, joined-ends b, j) (shown-more (field_row a.heading f) done part b (k ∙ joined-closed b j))
 
-      pub new-passed : is_z f ≡ false → is_row (headed a) f ≡ true → joined b ≡ false → field_passed a (shown done part b) f ≡ shown (done ++ (part ∷ [])) (field_row (headed a) f ∷ []) row
+      pub new-passed : is_z f ≡ false → is_row a.heading f ≡ true → joined b ≡ false → field_passed a (shown done part b) f ≡ shown (done ++ (part ∷ [])) (field_row a.heading f ∷ []) row
       unfolding field_passed group_for pick
-      new-passed z g j = rw (e, z, g, joined_number b, j) (shown-new (field_row (headed a) f) done part b)
+      new-passed z g j = rw (e, z, g, joined-ends b, j) (shown-new (field_row a.heading f) done part b)
 
   module _ (f : List ℕ) (e : is_join f ≡ false) where
     pub none_passed_lem : is_z f ≡ true → field_passed a none_passed f ≡ shown [] [] word
     unfolding field_passed pick
     none_passed_lem z = rw (e, z) rowless_shown
 
-    pub first_passed : is_z f ≡ false → is_row (headed a) f ≡ true → field_passed a none_passed f ≡ shown [] (field_row (headed a) f ∷ []) row
-    unfolding field_passed group_for pick
-    first_passed z g = rw (e, z, g) (shown_first (field_row (headed a) f))
+    pub first_passed : is_z f ≡ false → is_row a.heading f ≡ true → field_passed a none_passed f ≡ shown [] (field_row a.heading f ∷ []) row
+    unfolding field_passed group_for may_end pick
+    first_passed z g = rw (e, z, g) (shown_first (field_row a.heading f))
 
   -- The numbers behind 3, of what is passed, and of groups.
   abbrev lower : Passed → ℕ
@@ -549,37 +512,37 @@ module _ (a : Asked) where
       (pick (not (a.excepts && any_of empty_group gs) && ltb (least_of gs) a.least) No.row_idle 0))
 
   module _ (f : List ℕ) (fs : Fields)
-      (rest : (done : List Group) (part : Group) (b : Before) → empty_group part ≡ closed b → rows_form (headed a) b fs ≡ true → lower (passed a (shown done part b) fs) ≡ weights (gather (headed a) done part b fs))
-      (done : List Group) (part : Group) (b : Before) (k : empty_group part ≡ closed b) (h : rows_form (headed a) b (f ∷ fs) ≡ true) where
+      (rest : (done : List Group) (part : Group) (b : Before) → empty_group part ≡ closed b → rows_form a.heading b fs ≡ true → lower (passed a (shown done part b) fs) ≡ weights (gather a.heading done part b fs))
+      (done : List Group) (part : Group) (b : Before) (k : empty_group part ≡ closed b) (h : rows_form a.heading b (f ∷ fs) ≡ true) where
     walked : {p q : Passed} → p ≡ q → lower (passed a p fs) ≡ lower (passed a q fs)
     walked e = ap (λ (q : Passed). lower (passed a q fs)) e
 
-    lower_join : is_join f ≡ true → lower (passed a (shown done part b) (f ∷ fs)) ≡ weights (gather (headed a) done part b (f ∷ fs))
+    lower_join : is_join f ≡ true → lower (passed a (shown done part b) (f ∷ fs)) ≡ weights (gather a.heading done part b (f ∷ fs))
     unfolding passed gather pick may_join closed
-    lower_join e = go b k (form_join (headed a) b f fs e h).0
+    lower_join e = go b k (form_join a.heading b f fs e h).0
       where
-        go : (b : Before) → empty_group part ≡ closed b → may_join b ≡ true → lower (passed a (shown done part b) (f ∷ fs)) ≡ weights (gather (headed a) done part b (f ∷ fs))
+        go : (b : Before) → empty_group part ≡ closed b → may_join b ≡ true → lower (passed a (shown done part b) (f ∷ fs)) ≡ weights (gather a.heading done part b (f ∷ fs))
         go word k m = clash false m refl
-        go row k m = rw e (walked (join_passed f done part e) ∙ rest done part join k (form_join (headed a) b f fs e h).1)
+        go row k m = rw e (walked (join_passed f done part e) ∙ rest done part join k (form_join a.heading b f fs e h).1)
         go join k m = clash false m refl
 
-    lower_rowless : is_join f ≡ false → is_z f ≡ true → lower (passed a (shown done part b) (f ∷ fs)) ≡ weights (gather (headed a) done part b (f ∷ fs))
+    lower_rowless : is_join f ≡ false → is_z f ≡ true → lower (passed a (shown done part b) (f ∷ fs)) ≡ weights (gather a.heading done part b (f ∷ fs))
     unfolding passed gather pick empty_group closed
     lower_rowless e z =
-        let good = form_rowless (headed a) b f fs e z h in
+        let good = form_rowless a.heading b f fs e z h in
         rw (e, z) (walked (rowless_passed f done part b e z (may-joined b good.0)) ∙ rest (done ++ (part ∷ [])) [] word refl good.1)
 
-    lower_row : is_join f ≡ false → is_z f ≡ false → lower (passed a (shown done part b) (f ∷ fs)) ≡ weights (gather (headed a) done part b (f ∷ fs))
+    lower_row : is_join f ≡ false → is_z f ≡ false → lower (passed a (shown done part b) (f ∷ fs)) ≡ weights (gather a.heading done part b (f ∷ fs))
     unfolding passed gather pick closed
     lower_row e z =
-        let good = form_row (headed a) b f fs e z h in
-        let r = field_row (headed a) f in
+        let good = form_row a.heading b f fs e z h in
+        let r = field_row a.heading f in
         by_test (joined b)
         (λ j. rw (e, z, j) (walked (more-passed f done part b e z good.0 k j) ∙ rest done (part ++ (r ∷ [])) row (row_some part r) good.1))
         (λ j. rw (e, z, j) (walked (new-passed f done part b e z good.0 j) ∙ rest (done ++ (part ∷ [])) (r ∷ []) row (row_some [] r) good.1))
 
-  lower-gather : (fs : Fields) (done : List Group) (part : Group) (b : Before) → empty_group part ≡ closed b → rows_form (headed a) b fs ≡ true
-      → lower (passed a (shown done part b) fs) ≡ weights (gather (headed a) done part b fs)
+  lower-gather : (fs : Fields) (done : List Group) (part : Group) (b : Before) → empty_group part ≡ closed b → rows_form a.heading b fs ≡ true
+      → lower (passed a (shown done part b) fs) ≡ weights (gather a.heading done part b fs)
   unfolding passed gather
   lower-gather [] done part b k h = rw (length-append done (part ∷ []))
   lower-gather (f ∷ fs) done part b k h =
@@ -588,26 +551,26 @@ module _ (a : Asked) where
       (lower_rowless f fs (λ d p c i g. lower-gather fs d p c i g) done part b k h)
       (lower_row f fs (λ d p c i g. lower-gather fs d p c i g) done part b k h)
 
-  lower-groups : (fs : Fields) → rows_form (headed a) word fs ≡ true → lower (passed a none_passed fs) ≡ weights (groups_of (headed a) fs)
+  lower-groups : (fs : Fields) → rows_form a.heading word fs ≡ true → lower (passed a none_passed fs) ≡ weights (groups_of a.heading fs)
   unfolding passed groups_of longest_of most_of least_of over any_of empty_group closed
   lower-groups [] h = refl
   lower-groups (f ∷ fs) h =
-      let e : is_join f ≡ false = word_first (headed a) f fs h in
+      let e : is_join f ≡ false = word_first a.heading f fs h in
       by_test (is_z f)
       (λ z.
       ap (λ (q : Passed). lower (passed a q fs)) (none_passed_lem f e z)
-      ∙ lower-gather fs [] [] word refl (form_rowless (headed a) word f fs e z h).1
-      ∙ ap weights (rowless_first (headed a) f fs e z h))
+      ∙ lower-gather fs [] [] word refl (form_rowless a.heading word f fs e z h).1
+      ∙ ap weights (rowless_first a.heading f fs e z h))
       (λ z.
-      let good = form_row (headed a) word f fs e z h in
+      let good = form_row a.heading word f fs e z h in
       ap (λ (q : Passed). lower (passed a q fs)) (first_passed f e z good.0)
-      ∙ lower-gather fs [] (field_row (headed a) f ∷ []) row (row_some [] (field_row (headed a) f)) good.1
-      ∙ ap weights (gather_first (headed a) f fs e z h))
+      ∙ lower-gather fs [] (field_row a.heading f ∷ []) row (row_some [] (field_row a.heading f)) good.1
+      ∙ ap weights (gather_first a.heading f fs e z h))
 
   -- The number of the walk, from the form of the fields and their groups.
-  number-walk : (fs : Fields) → number_of a (passed a none_passed fs) ≡ pick (rows_form (headed a) word fs) (weights (groups_of (headed a) fs)) No.library_form
-  unfolding number_of before_of pick
-  number-walk fs = rw (form-passed a fs none_passed) (by_test (rows_form (headed a) word fs) (λ t. rw t (lower-groups fs t)) (λ t. rw t))
+  number-walk : (fs : Fields) → number_of a (passed a none_passed fs) ≡ pick (rows_form a.heading word fs) (weights (groups_of a.heading fs)) No.library_form
+  unfolding number_of pick
+  number-walk fs = rw (form-passed a fs none_passed) (by_test (rows_form a.heading word fs) (λ t. rw t (lower-groups fs t)) (λ t. rw t))
 
 -- ---- one turn of the walk over a line
 
@@ -629,26 +592,29 @@ module _ (a : Asked) (p : Passed) (s : List ℕ) (at : ℕ) where
   unfolding stored
   stored-ended table h = rw (fields_from-end s at h)
 
-pub small-on : (a : Asked) (p : Passed) (m k : ℕ) → Small a p m → m ≤ k → Small a p k
-small-on a p m k s h = record { groups = omega arith; rows = omega arith; place = omega arith }
-
 -- The group that a row goes into is small too.
 pub group_small : (a : Asked) (p : Passed) (m : ℕ) → Small a p m → ((group_for a p).rows ≤ m) × ((group_for a p).place ≤ a.place + Size.group_words * m)
 unfolding group_for pick opened
-group_small a p m s = go (eqb p.before 2)
+group_small a p m s = go (may_end p.before)
   where
-    go : (t : Bool) → ((pick t p (opened a p)).rows ≤ m) × ((pick t p (opened a p)).place ≤ a.place + Size.group_words * m)
-    go true = (s.rows, s.place)
-    go false = (omega arith, omega arith)
+    go : (t : Bool) → ((pick t (opened a p) p).rows ≤ m) × ((pick t (opened a p) p).place ≤ a.place + Size.group_words * m)
+    go true = (omega arith, omega arith)
+    go false = (s.rows, s.place)
+
+-- A row can be put into it.
+pub group_near : (a : Asked) (p g : Passed) → InTable a p → g ≡ group_for a p → (g.place ≤ farthest) × (g.rows ≤ Size.text_bytes)
+group_near a p g near e =
+    let small = group_small a p Size.text_bytes near.1 in
+    rw e (omega (arith, small.1, near.0), small.0)
 
 -- Counts and places grow by little.
 pub field_small : (a : Asked) (p : Passed) (f : List ℕ) (m k : ℕ) → Small a p m → m < k → Small a (field_passed a p f) k
 unfolding field_passed group_for pick marked row_added rowless_added opened
-field_small a p f m k s h = go (is_join f) (is_z f) (is_row (headed a) f) (eqb p.before 2)
+field_small a p f m k s h = go (is_join f) (is_z f) (is_row a.heading f) (may_end p.before)
   where
     go : (j z i t : Bool)
-        → Small a (pick j (marked p 2 (p.bad || not (eqb p.before 1)))
-        (pick z (rowless_added a p) (pick i (row_added (pick t p (opened a p)) (field_row (headed a) f).columns) (marked p p.before true)))) k
+        → Small a (pick j (marked p join (p.bad || not (may_join p.before)))
+        (pick z (rowless_added a p) (pick i (row_added (pick t (opened a p) p) (field_row a.heading f).columns) (marked p p.before true)))) k
     go true z i t = record { groups = omega arith; rows = omega arith; place = omega arith }
     go false true i t = record { groups = omega arith; rows = omega arith; place = omega arith }
     go false false true true = record { groups = omega arith; rows = omega arith; place = omega arith }
@@ -740,13 +706,13 @@ pick_and true t x y = refl
 pick_and false t x y = refl
 
 -- Where the groups of a word start in the table.
-pub asked-place : (cell k : ℕ) (w : Word) (n : ℕ) → cell ≤ Size.cells → (asked_of cell k w n).place ≤ Size.library + Size.cell_words
+pub asked-place : (cell : ℕ) (h : Heading) (w : Word) (n : ℕ) → cell ≤ Size.cells → (asked_of cell h w n).place ≤ Size.library + Size.cell_words
 unfolding asked_of
-asked-place cell k w n h = omega (arith, first_most w)
+asked-place cell h w n few = omega (arith, first_most w)
 
-module _ (cell k : ℕ) (w : Word) (n : ℕ) (few : n ≤ Size.pins) where
+module _ (cell : ℕ) (h : Heading) (w : Word) (n : ℕ) (few : n ≤ Size.pins) where
   abbrev asking : Asked
-  asking = asked_of cell k w n
+  asking = asked_of cell h w n
 
   weights-asked : (gs : List Group) → weights asking gs
       ≡ pick (not (eqb (length gs) (group_count w n)) || any_of above_rows gs) No.groups_bad
@@ -761,21 +727,21 @@ module _ (cell k : ℕ) (w : Word) (n : ℕ) (few : n ≤ Size.pins) where
 
   -- The number of a row line, from the walk over the fields behind its word.
   pub row_number-walk : (fs : Fields) → 0 < length fs
-      → row_number (number_heading k) w n fs
+      → row_number h w n fs
       ≡ pick (same_bytes (get_or fs 0 []) (word_bytes w)) (number_of asking (passed asking none_passed (drop 1 fs))) No.library_form
   unfolding row_number asked_of
-  row_number-walk fs h =
-      let gs = groups_of (number_heading k) (drop 1 fs) in
-      rw (row_formed (number_heading k) w fs h, number-walk asking (drop 1 fs), weights-asked gs)
-      (pick_and (same_bytes (get_or fs 0 []) (word_bytes w)) (rows_form (number_heading k) word (drop 1 fs)) _ No.library_form)
+  row_number-walk fs some-field =
+      let gs = groups_of h (drop 1 fs) in
+      rw (row_formed h w fs some-field, number-walk asking (drop 1 fs), weights-asked gs)
+      (pick_and (same_bytes (get_or fs 0 []) (word_bytes w)) (rows_form h word (drop 1 fs)) _ No.library_form)
 
   -- A line of the right word is read by the walk behind it.
   pub walk-read : (fs : Fields) → 0 < length fs → same_bytes (get_or fs 0 []) (word_bytes w) ≡ true → (a : Asked) (p : Passed) (rest : Fields) (said : ℕ) (before after : List ℕ)
       → a ≡ asking → rest ≡ drop 1 fs → p ≡ passed a none_passed rest → after ≡ stored a none_passed rest before → said ≡ number_of a p
-      → RowsRead cell k w n fs before after said
+      → RowsRead cell h w n fs before after said
   unfolding pick
-  walk-read fs h same a p rest said before after asks rows walk put number =
+  walk-read fs some-field same a p rest said before after asks rows walk put number =
       record {
-        number = number ∙ rw (walk, asks, rows, row_number-walk fs h, same);
+        number = number ∙ rw (walk, asks, rows, row_number-walk fs some-field, same);
         table = λ z. put ∙ rw (asks, rows);
       }

@@ -7,19 +7,22 @@ use Rattle.table.specs.Blocks.{fitted, blocks}
 use Rattle.table.proofs.Places.{length-fitted, fitted_short, length_blocks, blocks_append}
 use Rattle.reading.specs.Choice.{pick}
 use Rattle.reading.proofs.Laws.{by_test, clash, or_left, or_right}
-use Rattle.library_table.specs.Cells.{Heading, Row, Group, Cell}
+use Rattle.library_table.specs.Cells.{Row, Group, Cell}
+use Rattle.library_table.specs.declared.Heading.{Heading}
 use Rattle.library_table.proofs.Any.{any_append}
 use Rattle.library_table.specs.declared.Word.{Word}
 use Rattle.library_table.specs.declared.Word.TheVariants.{CC, CO, SC, SO}
-use Rattle.library_table.specs.Library.{Fields, is_row, is_join, is_z, Before, word, row, join, may_join, rows_form, groups_of, empty_group, any_of, above_rows, word_groups, with_groups}
+use Rattle.library_table.specs.Library.{Fields, is_row, is_join, is_z, may_join, may_end, rows_form, groups_of, empty_group, any_of, above_rows, word_groups, with_groups}
+use Rattle.library_table.specs.declared.Before.{Before}
+use Rattle.library_table.specs.declared.Before.TheVariants.{Word as word, Row as row, Join as join}
 use Rattle.library_table.specs.Layout.{row_words, group_words, cell_groups, heading_number, cell_words, first_group}
 use Rattle.library_text.specs.Groups.{row_put, rowless_put, opened, group_for, rowless_added}
-use Rattle.library_text.specs.Passes.{field_row, headed, asked_of, none_passed, field_passed, field_stored, stored}
+use Rattle.library_text.specs.Passes.{field_row, asked_of, none_passed, field_passed, field_stored, stored}
 use Rattle.library_text.specs.Passes.{counted_words}
 use Rattle.library_text.specs.declared.groups.Asked.{Asked}
 use Rattle.library_text.specs.declared.groups.Passed.{Passed}
 use Rattle.library_table.proofs.Places.{length-row_words, length-group_words, length-cell_words, space, filled_groups, front_groups, back_groups, groups_open, length_front}
-use Rattle.library_text.proofs.Passes.{joined, gather, by_field, may-joined, rowless_first, gather_first, form_join, form_rowless, form_row, word_first, row_some, closed, joined_number, shown, join_passed, rowless_passed, more-passed, new-passed, none_passed_lem, first_passed}
+use Rattle.library_text.proofs.Passes.{joined, gather, by_field, may-joined, rowless_first, gather_first, form_join, form_rowless, form_row, word_first, row_some, closed, joined-ends, shown, join_passed, rowless_passed, more-passed, new-passed, none_passed_lem, first_passed}
 
 -- ---- stores into lists put together from parts
 
@@ -240,10 +243,10 @@ module _ (n : ℕ) (cells : List Cell) (w : Word) (c : Cell) (past : List ℕ) (
       ∙ sym (cell_open n cells (with_groups w gs c) past few)
 
   abbrev asks : Asked
-  asks = asked_of (length cells) (heading_number c.heading) w c.pins
+  asks = asked_of (length cells) c.heading w c.pins
 
   abbrev by : Heading
-  by = headed asks
+  by = asks.heading
 
   open_place : (done : List Group) → asks.place + length done * Size.group_words ≡ group_place (length cells) (first_group w + length done)
   unfolding asked_of
@@ -265,33 +268,33 @@ module _ (n : ℕ) (cells : List Cell) (w : Word) (c : Cell) (past : List ℕ) (
 
     module _ (e : is_join f ≡ false) (z : is_z f ≡ true) where
       none-put : 0 < space w → field_stored asks none_passed f (part_table []) ≡ part_table ([] ∷ [])
-      unfolding field_stored rowless_added pick
+      unfolding field_stored rowless_added opened pick
       none-put h = rw (e, z, open_place []) (rowless_stored [] h)
 
       rowless_put_lem : (done : List Group) (part : Group) (b : Before) → length (done ++ (part ∷ [])) < space w
           → field_stored asks (shown asks done part b) f (part_table (done ++ (part ∷ []))) ≡ part_table ((done ++ (part ∷ [])) ++ ([] ∷ []))
-      unfolding field_stored rowless_added pick
+      unfolding field_stored rowless_added opened pick
       rowless_put_lem done part b h =
           let more = done ++ (part ∷ []) in
           rw (e, z, ← length-append done (part ∷ []), open_place more) (rowless_stored more h)
 
     module _ (e : is_join f ≡ false) (z : is_z f ≡ false) (g : is_row by f ≡ true) where
       first_put : 0 < space w → field_stored asks none_passed f (part_table []) ≡ part_table ((new ∷ []) ∷ [])
-      unfolding field_stored group_for opened pick
+      unfolding field_stored group_for opened may_end pick
       first_put h = rw (e, z, g, open_place [], ← part-empty []) (row_stored [] [] (field_row by f) h (omega arith))
 
       module _ (done : List Group) (part : Group) (b : Before) where
         more-put : joined b ≡ true → length done < space w → length part < Size.rows
             → field_stored asks (shown asks done part b) f (part_table (done ++ (part ∷ []))) ≡ part_table (done ++ ((part ++ (new ∷ [])) ∷ []))
         unfolding field_stored group_for pick
-        more-put j h q = rw (e, z, g, joined_number b, j, open_place done) (row_stored done part (field_row by f) h q)
+        more-put j h q = rw (e, z, g, joined-ends b, j, open_place done) (row_stored done part (field_row by f) h q)
 
         new-put : joined b ≡ false → length (done ++ (part ∷ [])) < space w
             → field_stored asks (shown asks done part b) f (part_table (done ++ (part ∷ []))) ≡ part_table ((done ++ (part ∷ [])) ++ ((new ∷ []) ∷ []))
         unfolding field_stored group_for opened pick
         new-put j h =
             let more = done ++ (part ∷ []) in
-            rw (e, z, g, joined_number b, j, ← length-append done (part ∷ []), open_place more, ← part-empty more) (row_stored more [] (field_row by f) h (omega arith))
+            rw (e, z, g, joined-ends b, j, ← length-append done (part ∷ []), open_place more, ← part-empty more) (row_stored more [] (field_row by f) h (omega arith))
 
   stored_as : (fs : Fields) {p q : Passed} {t u : List ℕ} → p ≡ q → t ≡ u → stored asks p fs t ≡ stored asks q fs u
   stored_as fs e d = cc

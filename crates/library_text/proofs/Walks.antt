@@ -1,7 +1,12 @@
 -- The walk over the lines of a library text: what each line and the text's end make of the reading so far.
 use Rattle.common_laws.proofs.Base.{List, [], ◌∷◌, ◌++◌, ◌≡◌, refl, sym, ap, subst, ◌∙◌, ℕ, zero, suc, ◌+◌, ◌*◌, ◌≤◌, ◌<◌, min, le_of_eq, add-one, arith, length, drop, replicate}
 use Rattle.common_laws.proofs.Base.{length-replicate, drop_at}
+use Rattle.std.specs.Prelude.{Some, None, Result, Ok, Err}
 use Rattle.sizes.specs.Sizes as Size
+use Rattle.reading.specs.Cause.{refusal_at}
+use Rattle.reading.proofs.Causes.{at_line}
+use Rattle.reading.specs.declared.Refusal.{Refusal}
+use Rattle.reading.specs.declared.Cause.{Cause}
 use Rattle.table.specs.Blocks.{fitted, blocks, cleared}
 use Rattle.table.proofs.Places.{cleared-all}
 use Rattle.reading.specs.Numbers as No
@@ -12,9 +17,10 @@ use Rattle.library_table.specs.Cells.{Cell}
 use Rattle.library_table.specs.Library.{Place, outside, inside, Reading, library_line, library_end, library_from, library}
 use Rattle.library_table.specs.Layout.{library_words}
 use Rattle.library_text.specs.Passes.{counted_words}
-use Rattle.library_text.specs.Walk.{NoCells, place_cells, reading_words, place_number, place_pins, place_heading, Shows, Leaves}
+use Rattle.library_text.specs.Walk.{NoCells, place_cells, reading_words, place_entry, Shows, Onward, Leaves}
+use Rattle.library_text.specs.declared.lines.Entry.{Entry}
 use Rattle.library_text.specs.declared.lines.State.{State}
-use Rattle.library_text.proofs.Entries.{leaves-number, leaves-onward, outside-at}
+use Rattle.library_text.proofs.Entries.{outside-at}
 use Rattle.library_table.proofs.Laws.{start-sound}
 use Rattle.library_table.proofs.Places.{length-library_words}
 
@@ -24,19 +30,19 @@ pub record Walked (text past : List ℕ) (at line : ℕ) (s : State) (table : Li
   pub shows : Shows reading s table past
   pub same : library text ≡ library_from line reading (lines_from text at)
 
-pub walk_start : (text past table : List ℕ) → table ≡ library_words [] ++ past → Walked text past 0 1 (record { place = 0; cells = 0; pins = 0; heading = 0; number = 0 }) table
-unfolding library reading_words place_cells counted_words library_words place_number place_pins place_heading
+pub walk_start : (text past table : List ℕ) → table ≡ library_words [] ++ past → Walked text past 0 1 (record { cells = 0; entry = None }) table
+unfolding library reading_words place_cells counted_words library_words place_entry
 walk_start text past table held =
     record {
       reading = record { cells = []; place = outside };
-      shows = record { place = refl; cells = refl; pins = refl; heading = refl; accepted = refl; words = held; sound = start-sound };
+      shows = record { cells = refl; entry = refl; words = held; sound = start-sound };
       same = ap (library_from 1 (record { cells = []; place = outside })) (sym (linesFrom_start text));
     }
 
-inside-end : (line : ℕ) (cells : List Cell) (place : Place) → (place_number place ≡ 0 → ⊥) → library_end line cells place ≡ refused No.library_form line
-unfolding library_end place_number
-inside-end line cells outside h = absurd (h refl)
-inside-end line cells (inside wanted c) h = refl
+inside-end : (line : ℕ) (cells : List Cell) (place : Place) (e : Entry) → place_entry place ≡ Some e → library_end line cells place ≡ refused No.library_form line
+unfolding library_end place_entry
+inside-end line cells outside e h = absurd (cc)
+inside-end line cells (inside wanted c) e h = refl
 
 module _ (text past : List ℕ) (at line : ℕ) (s : State) (table : List ℕ) (walked : Walked text past at line s table) where
   -- A last line without byte 10.
@@ -51,15 +57,21 @@ module _ (text past : List ℕ) (at line : ℕ) (s : State) (table : List ℕ) (
   unfolding library_from form ◌>>=◌
   line_step h = walked.same ∙ rw (linesFrom_line text at h)
 
-  module _ (h : at + length (part 10 text at) < length text) (t : State) (after : List ℕ) (left : Leaves line this t after past) where
-    pub walk_refused : (t.number ≡ 0 → ⊥) → library text ≡ refused t.number line
-    unfolding ◌>>=◌
-    walk_refused n = line_step h ∙ rw (leaves-number line t after past this left n)
+  module _ (h : at + length (part 10 text at) < length text) (after : List ℕ) where
+    pub walk_refused : (r : Result State Cause) (x : Refusal) → Leaves line this r after past → Err x ≡ at_line r line → library text ≡ refused x.number x.line
+    unfolding Leaves at_line ◌>>=◌
+    walk_refused (Ok t) x left e = absurd (cc)
+    walk_refused (Err cause) x left e = let same : x ≡ refusal_at cause line = cc in line_step h ∙ rw (left, same)
 
-    pub walk-on : t.number ≡ 0 → Walked text past (next_after text at (part 10 text at)) (line + 1) t after
+    on-left : (r : Result State Cause) (t : State) → Leaves line this r after past → Ok t ≡ at_line r line → Onward this t after past
+    unfolding Leaves at_line
+    on-left (Ok u) t left e = let same : t ≡ u = cc in rw same left
+    on-left (Err cause) t left e = absurd (cc)
+
+    pub walk-on : (r : Result State Cause) (t : State) → Leaves line this r after past → Ok t ≡ at_line r line → Walked text past (next_after text at (part 10 text at)) (line + 1) t after
     unfolding ◌>>=◌
-    walk-on zeroed =
-        let on = leaves-onward line t after past this left zeroed in
+    walk-on r t left e =
+        let on = on-left r t left e in
         let rest = lines_from text (next_after text at (part 10 text at)) in
         record {
           reading = on.reading;
@@ -71,13 +83,13 @@ module _ (text past : List ℕ) (at line : ℕ) (s : State) (table : List ℕ) (
   unfolding library_from
   at-end h = walked.same ∙ rw (linesFrom_end text at h)
 
-  pub walk_broken : length text ≤ at → (s.place ≡ 0 → ⊥) → library text ≡ refused No.library_form line
-  walk_broken h n = at-end h ∙ inside-end line walked.reading.cells walked.reading.place (λ e. n (walked.shows.place ∙ e))
+  pub walk_broken : length text ≤ at → (e : Entry) → s.entry ≡ Some e → library text ≡ refused No.library_form line
+  walk_broken h e i = at-end h ∙ inside-end line walked.reading.cells walked.reading.place e (sym walked.shows.entry ∙ i)
 
-  pub walk_done : length text ≤ at → s.place ≡ 0 → (library text ≡ read walked.reading.cells) × (table ≡ library_words walked.reading.cells ++ past)
+  pub walk_done : length text ≤ at → s.entry ≡ None → (library text ≡ read walked.reading.cells) × (table ≡ library_words walked.reading.cells ++ past)
   unfolding library_end reading_words place_cells counted_words library_words
   walk_done h e =
-      let out : walked.reading.place ≡ outside = outside-at walked.reading.place (sym walked.shows.place ∙ e) in
+      let out : walked.reading.place ≡ outside = outside-at walked.reading.place (sym walked.shows.entry ∙ e) in
       (at-end h ∙ rw out, walked.shows.words ∙ rw out)
 
 -- ---- the table before the first line, and behind the last

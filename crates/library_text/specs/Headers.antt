@@ -2,7 +2,8 @@
 -- `proofs/Headers.antt` ties them to the definitions of `library_table/specs/Library.antt`, which are the ones to read against
 -- document 01.
 use Rattle.std.specs.Prelude.{Bool, ◌&&◌, List, [], ℕ, ◌+◌, leb, ltb, eqb, length, get_or, set}
-use Rattle.std.proofs.Math.Option.{Option, none}
+use Rattle.std.specs.Prelude as Code
+use Rattle.std.proofs.Math.Option.{Option, none, some}
 use Rattle.std.proofs.lemmas.List.Edits.{sets}
 use Rattle.sizes.specs.Places.{cell_place, pins_place, heading_place}
 use Rattle.sizes.specs.Sizes as Size
@@ -11,19 +12,25 @@ use Rattle.text.specs.Bytes.{bytes}
 use Rattle.reading.specs.Choice.{pick}
 use Rattle.text.specs.Lines.{same_bytes}
 use Rattle.text.specs.Numeral.{decimal, name_form}
-use Rattle.library_table.specs.Library.{Fields, pins_bad}
+use Rattle.library_table.specs.declared.Heading.{Heading}
+use Rattle.library_table.specs.Library.{Fields, heading_of, pins_bad}
+use Rattle.library_text.specs.declared.Head.{Head}
 use Rattle.library_table.specs.Layout.{found_at}
 
--- The number of the heading that a field is; where it is none, the count of headings.
-abbrev pub headings : ℕ
-headings = 2
+-- What an answer of the code tells, if it does.
+unfoldable pub told : {A : Type 0} → Code.Option A → Option A
+told (Code.Some a) = some a
+told Code.None = none
 
-unfoldable pub heading_in : List ℕ → ℕ
-heading_in f = pick (same_bytes f (bytes "Name")) 0 (pick (same_bytes f (bytes "Name3")) 1 headings)
+-- What a Name line says, apart from the name.
+unfoldable pub head_of : Option Heading → Option ℕ → Option Head
+head_of none n = none
+head_of (some h) none = none
+head_of (some h) (some n) = some (record { pins = n; heading = h })
 
--- The pins of a name line by its fields, where there are three, the first by its heading's number; none is bad form.
-unfoldable pub pins_in : Bool → ℕ → List ℕ → List ℕ → Option ℕ
-pins_in three k name digits = pick (three && (ltb k headings && name_form name)) (decimal digits) none
+-- Of a Name line by its fields, where there are three; none is bad form.
+unfoldable pub head_in : Bool → List ℕ → List ℕ → List ℕ → Option Head
+head_in three word name digits = pick (three && name_form name) (head_of (heading_of word) (decimal digits)) none
 
 -- The refusal number of a name and a count of pins behind the cells of a table.
 unfoldable pub header_number : List ℕ → ℕ → List ℕ → ℕ

@@ -9,12 +9,14 @@ use Rattle.table.specs.Blocks.{fitted, blocks}
 use Rattle.reading.specs.Numbers as No
 use Rattle.reading.specs.Choice.{pick}
 use Rattle.text.specs.Numeral.{numeral}
-use Rattle.library_table.specs.Cells.{Heading, Row, row_of, Cell}
+use Rattle.library_table.specs.Cells.{Row, row_of, Cell}
+use Rattle.library_table.specs.declared.Heading.{Heading}
 use Rattle.library_table.specs.declared.Word.{Word}
 use Rattle.library_table.specs.declared.Word.TheVariants.{CC, CO, SC, SO}
-use Rattle.library_table.specs.Library.{Fields, holds, row_digits, is_row, is_join, is_z, above, group_count, column_count, row_idle, rows_after, groups_of, any_of, above_rows}
+use Rattle.library_table.specs.Library.{Fields, holds, row_digits, is_row, is_join, is_z, may_join, above, group_count, column_count, row_idle, rows_after, groups_of, any_of, above_rows}
+use Rattle.library_table.specs.declared.Before.TheVariants.{Word as word, Join as join}
 use Rattle.library_table.specs.Layout.{first_group, cell_words}
-use Rattle.library_text.specs.Groups.{number_heading, row_put, rowless_put, marked, group_for, row_added, rowless_added}
+use Rattle.library_text.specs.Groups.{row_put, rowless_put, marked, group_for, row_added, rowless_added}
 use Rattle.library_text.specs.declared.groups.Asked.{Asked}
 use Rattle.library_text.specs.declared.groups.Passed.{Passed}
 
@@ -47,14 +49,14 @@ setting CO = false
 setting SC = true
 setting SO = false
 
--- Of a cell, a heading by its number, a word and so many pins.
-unfoldable pub asked_of : ℕ → ℕ → Word → ℕ → Asked
-asked_of cell k w n =
+-- Of a cell, a heading, a word and so many pins.
+unfoldable pub asked_of : ℕ → Heading → Word → ℕ → Asked
+asked_of cell h w n =
     record {
       place = group_place cell (first_group w);
       groups = group_count w n;
       excepts = setting w;
-      heading = k;
+      heading = h;
       least = least_columns w n;
       limit = 2 ^ column_count w n;
     }
@@ -74,18 +76,14 @@ no_columns = 4294967295
 -- Before the first field behind the line's word.
 abbrev pub none_passed : Passed
 none_passed =
-    record { before = 0; groups = 0; rows = 0; place = 0; bad = false; rowless = false; longest = 0; most = 0; least = no_columns }
+    record { before = word; groups = 0; rows = 0; place = 0; bad = false; rowless = false; longest = 0; most = 0; least = no_columns }
 
--- The heading that a line is read by.
-abbrev pub headed : Asked → Heading
-headed a = number_heading a.heading
-
--- An M is out of place unless a row, which is 1, stands before it, a Z where an M does; what is none of the three always is.
+-- An M is out of place unless a row stands before it, a Z where an M does; what is none of the three always is.
 unfoldable pub field_passed : Asked → Passed → List ℕ → Passed
 field_passed a p f =
-    pick (is_join f) (marked p 2 (p.bad || not (eqb p.before 1)))
+    pick (is_join f) (marked p join (p.bad || not (may_join p.before)))
     (pick (is_z f) (rowless_added a p)
-    (pick (is_row (headed a) f) (row_added (group_for a p) (field_row (headed a) f).columns) (marked p p.before true)))
+    (pick (is_row a.heading f) (row_added (group_for a p) (field_row a.heading f).columns) (marked p p.before true)))
 
 unfoldable pub passed : Asked → Passed → Fields → Passed
 passed a p [] = p
@@ -96,7 +94,7 @@ unfoldable pub field_stored : Asked → Passed → List ℕ → List ℕ → Lis
 field_stored a p f table =
     pick (is_join f) table
     (pick (is_z f) (rowless_put (rowless_added a p).place table)
-    (pick (is_row (headed a) f) (row_put (group_for a p).place (group_for a p).rows (field_row (headed a) f) table) table))
+    (pick (is_row a.heading f) (row_put (group_for a p).place (group_for a p).rows (field_row a.heading f) table) table))
 
 unfoldable pub stored : Asked → Passed → Fields → List ℕ → List ℕ
 stored a p [] table = table
@@ -114,6 +112,6 @@ row_number h w n fs =
     No.library_form
 
 -- A row line that was read: its number, and where it has none, the table with its rows.
-pub record RowsRead (cell k : ℕ) (w : Word) (n : ℕ) (fs : Fields) (before after : List ℕ) (said : ℕ) : Type 0 where
-  pub number : said ≡ row_number (number_heading k) w n fs
-  pub table : said ≡ 0 → after ≡ stored (asked_of cell k w n) none_passed (drop 1 fs) before
+pub record RowsRead (cell : ℕ) (h : Heading) (w : Word) (n : ℕ) (fs : Fields) (before after : List ℕ) (said : ℕ) : Type 0 where
+  pub number : said ≡ row_number h w n fs
+  pub table : said ≡ 0 → after ≡ stored (asked_of cell h w n) none_passed (drop 1 fs) before

@@ -1,26 +1,21 @@
 // The groups of a row line, as they stand behind the fields passed so far: a row more, a group more, with its rows or with none;
-// where they are stored, and the number that refuses the line.
+// where they are stored, and the cause that refuses the line.
 //
-// For this crate: `Asked`, `Passed` and what changes them, `number_of`, and of module `store` `put_row`, `put_rowless`.
-ghost use Rattle.std.specs.Prelude.{◌≡◌, ◌+◌, ◌≤◌, max, min};
+// For this crate: `Asked`, `Passed` and what changes them, `judged`, and of module `store` `put_row`, `put_rowless`.
+ghost use Rattle.std.specs.Prelude.{◌≡◌, ◌+◌, ◌≤◌};
 ghost use Rattle.sizes.specs.Sizes as Size;
+ghost use Rattle.reading.specs.Cause.{refusal_number};
 ghost use Rattle.library_table.specs.Cells.{row_of};
 ghost use Rattle.library_table.specs.Library.{row_digits};
-ghost use Rattle.library_text.specs.Groups.{number_heading, marked, opened, group_for, row_added, rowless_added, number_of};
-ghost use Rattle.library_text.specs.Groups.{Small};
+ghost use Rattle.library_text.specs.Groups.{marked, opened, group_for, row_added, rowless_added, number_of};
+ghost use Rattle.library_text.specs.Groups.{InTable};
 
 pub mod store;
 
+use library_table::{Before, Heading};
+use reading::Cause;
+
 const MOST_ROWS: u32 = sizes::ROWS as u32;
-// What stands before a field: the line's word or a Z, a row, or an M.
-pub const WORD: u32 = 0;
-
-pub const ROW: u32 = 1;
-
-pub const JOIN: u32 = 2;
-
-// The heading Name, by number.
-const PLAIN: u32 = 0;
 
 // What a row line is asked for: where its groups start in the table, how many they are, whether a group without rows excepts
 // the rows of the other from being idle, the heading by which rows are read, and what the columns of a row come to: at least
@@ -30,17 +25,18 @@ pub struct Asked {
     pub place: usize,
     pub groups: u32,
     pub excepts: bool,
-    pub heading: u32,
+    pub heading: Heading,
     pub least: u32,
     pub limit: u32,
 }
 
 // The fields passed so far: what stands before the next one; the groups, the rows of the last of them and its place in the
 // table; whether a field is out of place; whether a group has no row; the rows of the longest group, and the highest and the
-// lowest columns of a row.
+// lowest columns of a row. `bad` is a flag, not an `Option` of the rest: `passed` of specs/Passes.antt says what the walk comes to
+// behind a field that is out of place, too.
 #[derive(Clone, Copy)]
 pub struct Passed {
-    pub before: u32,
+    pub before: Before,
     pub groups: u32,
     pub rows: u32,
     pub place: usize,
@@ -52,127 +48,112 @@ pub struct Passed {
 }
 
 // A field that is no row: what stands before the next one, and whether a field so far is out of place.
-pub fn marked(p: Passed, before: u32, bad: bool) -> Passed
+#[tactic(auto, unfolding(crate::specs::Groups::marked))]
+pub fn marked(p: Passed, before: Before, bad: bool) -> Passed
     ensures { result ≡ marked p before bad }
 {
-    let mut q = p;
-    q.before = before;
-    q.bad = bad;
-    q
+    Passed { before, bad, ..p }
 }
 
 // One group more, of no row yet.
+#[tactic(auto, unfolding(crate::specs::Groups::opened))]
 fn opened(a: Asked, p: Passed) -> Passed
-    requires { (a.place ≤ Size.library + Size.cell_words) × Small a p Size.text_bytes }
+    requires { InTable a p }
     ensures { result ≡ opened a p }
 {
-    let mut q = p;
-    q.groups = p.groups + 1;
-    q.rows = 0;
-    q.place = a.place + p.groups as usize * sizes::GROUP_WORDS;
-    q
+    Passed {
+        groups: p.groups + 1,
+        rows: 0,
+        place: a.place + p.groups as usize * sizes::GROUP_WORDS,
+        ..p
+    }
 }
 
 // The group that a row goes into: the open one where an M stands before the row, else a new one.
+#[tactic(auto, unfolding(crate::specs::Groups::group_for, library_table::specs::Library::may_end, reading::specs::Choice::pick))]
 pub fn group_for(a: Asked, p: Passed) -> Passed
-    requires { (a.place ≤ Size.library + Size.cell_words) × Small a p Size.text_bytes }
+    requires { InTable a p }
     ensures { result ≡ group_for a p }
 {
-    if p.before == JOIN {
-        return p;
+    match p.before {
+        Before::Join => p,
+        _ => opened(a, p),
     }
-    opened(a, p)
 }
 
 // A new group that stays without a row.
+#[tactic(auto, unfolding(crate::specs::Groups::rowless_added))]
 pub fn rowless_added(a: Asked, p: Passed) -> Passed
-    requires { (a.place ≤ Size.library + Size.cell_words) × Small a p Size.text_bytes }
+    requires { InTable a p }
     ensures { result ≡ rowless_added a p }
 {
-    let mut q = opened(a, p);
-    q.before = WORD;
-    q.bad = p.bad | (p.before == JOIN);
-    q.rowless = true;
-    q
-}
-
-fn greater(a: u32, b: u32) -> u32
-    ensures { result ≡ max a b }
-{
-    if a < b { b } else { a }
-}
-
-fn lesser(a: u32, b: u32) -> u32
-    ensures { result ≡ min a b }
-{
-    if b < a { b } else { a }
+    Passed {
+        before: Before::Word,
+        bad: p.bad || !p.before.may_end(),
+        rowless: true,
+        ..opened(a, p)
+    }
 }
 
 // The most digits of a row, its depth and its columns, by the heading of its entry.
-pub fn row_digits(heading: u32) -> usize
-    ensures { result ≡ row_digits (number_heading heading) }
+#[tactic(auto, unfolding(library_table::specs::Library::row_digits))]
+pub fn row_digits(heading: Heading) -> usize
+    ensures { result ≡ row_digits heading }
 {
-    if heading == PLAIN {
-        return sizes::ROW_DIGITS;
+    match heading {
+        Heading::Plain => sizes::ROW_DIGITS,
+        Heading::Deep => sizes::DEEP_DIGITS,
     }
-    sizes::DEEP_DIGITS
 }
 
-pub fn depth_of(heading: u32, x: u32) -> u32
-    ensures { result ≡ (row_of (number_heading heading) x).depth }
+#[tactic(auto, unfolding(library_table::specs::Cells::row_of, library_table::specs::Cells::depth_bits))]
+pub fn depth_of(heading: Heading, x: u32) -> u32
+    ensures { result ≡ (row_of heading x).depth }
 {
-    if heading == PLAIN {
-        return x % 2;
-    }
-    x % 8
+    x % heading.depths()
 }
 
-pub fn columns_of(heading: u32, x: u32) -> u32
-    ensures { result ≡ (row_of (number_heading heading) x).columns }
+#[tactic(auto, unfolding(library_table::specs::Cells::row_of, library_table::specs::Cells::depth_bits))]
+pub fn columns_of(heading: Heading, x: u32) -> u32
+    ensures { result ≡ (row_of heading x).columns }
 {
-    if heading == PLAIN {
-        return x / 2;
-    }
-    x / 8
+    x / heading.depths()
 }
 
 // One row more in the open group, by its columns.
+#[tactic(auto, unfolding(crate::specs::Groups::row_added))]
 pub fn row_added(p: Passed, columns: u32) -> Passed
     requires { p.rows ≤ Size.text_bytes }
     ensures { result ≡ row_added p columns }
 {
+    let rows = p.rows + 1;
     Passed {
-        before: ROW,
-        groups: p.groups,
-        rows: p.rows + 1,
-        place: p.place,
-        bad: p.bad,
-        rowless: p.rowless,
-        longest: greater(p.longest, p.rows + 1),
-        most: greater(p.most, columns),
-        least: lesser(p.least, columns),
+        before: Before::Row,
+        rows,
+        longest: p.longest.max(rows),
+        most: p.most.max(columns),
+        least: p.least.min(columns),
+        ..p
     }
 }
 
-// The lowest number that holds of the fields passed, or 0. An M that is the last field is out of place.
-pub fn number_of(a: Asked, p: Passed) -> u32
-    ensures { result ≡ number_of a p }
+// Whether the fields passed are a line's: else the cause of the lowest number that holds. An M that is the last field is out of
+// place.
+#[tactic(auto, unfolding(crate::specs::Groups::number_of, reading::specs::Cause::refusal_number, reading::specs::Choice::pick))]
+pub fn judged(a: Asked, p: Passed) -> Result<(), Cause>
+    ensures { refusal_number result ≡ number_of a p }
 {
-    let bad = p.bad | (p.before == JOIN);
-    let wrong = (p.groups != a.groups) | (MOST_ROWS < p.longest);
-    let high = a.limit <= p.most;
-    let low = !(a.excepts & p.rowless) & (p.least < a.least);
-    if bad {
-        return reading::LIBRARY_FORM;
+    if p.bad || !p.before.may_end() {
+        return Err(Cause::LibraryForm);
     }
-    if wrong {
-        return reading::GROUPS_BAD;
+    if p.groups != a.groups || MOST_ROWS < p.longest {
+        return Err(Cause::GroupsBad);
     }
-    if high {
-        return reading::BIT_ABOVE;
+    if a.limit <= p.most {
+        return Err(Cause::BitAbove);
     }
-    if low {
-        return reading::ROW_IDLE;
+    if !(a.excepts && p.rowless) && p.least < a.least {
+        return Err(Cause::RowIdle);
     }
-    0
+    Ok(())
 }

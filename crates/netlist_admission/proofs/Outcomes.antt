@@ -1,5 +1,5 @@
 -- What checking and admitting one statement answers and leaves, for each way through the code.
-use Rattle.common_laws.proofs.Base.{Bool, true, false, not, ◌||◌, List, [], ◌∷◌, ◌++◌, Option, some, ◌≡◌, refl, sym, ap, ◌∙◌, ℕ, zero, suc, ◌+◌, ◌%◌, ◌≤◌, ◌<◌, min}
+use Rattle.common_laws.proofs.Base.{true, false, not, List, [], ◌∷◌, ◌++◌, Option, some, ◌≡◌, refl, sym, ap, ◌∙◌, ℕ, zero, suc, ◌+◌, ◌%◌, ◌≤◌, ◌<◌, min}
 use Rattle.common_laws.proofs.Base.{not-suc-le-zero, le_of_suc-le-suc, arith, eqb, length, get_or, set, take, take_all, rules, eq-eqb, ne_eqb, eqb-true, leb-false, not-true}
 use Rattle.common_laws.proofs.Base.{not-false}
 use Rattle.sizes.specs.Places.{driver_place, mention_place, range_place}
@@ -9,11 +9,10 @@ use Rattle.table.proofs.Places.{length-fitted}
 use Rattle.reading.specs.Choice.{pick}
 use Rattle.reading.specs.Each.{Each}
 use Rattle.reading.specs.Numbers as No
-use Rattle.reading.proofs.Laws.{by_test, or_left, or_right}
+use Rattle.reading.proofs.Laws.{or_left}
 use Rattle.library_table.specs.Cells.{Cell}
 use Rattle.library_table.specs.Layout.{FewPins}
 use Rattle.netlist_table.specs.declared.RawStatement.{RawStatement}
-use Rattle.netlist_table.specs.Lowest.{lowest}
 use Rattle.netlist_table.specs.Netlist.{
   Gate,
   Mark,
@@ -41,6 +40,7 @@ use Rattle.netlist_table.specs.Netlist.{
   driven_before,
 }
 use Rattle.netlist_table.specs.Layout.{gate_words, netlist_words, NetlistHolds}
+use Rattle.netlist_table.specs.Lines.{input_at}
 use Rattle.netlist_table.specs.Admission.{
   IsGate,
   gate_cause,
@@ -59,14 +59,14 @@ use Rattle.netlist_table.specs.Admission.{
 use Rattle.netlist_table.specs.Sound.{Sound}
 use Rattle.netlist_table.proofs.Places.{netlist-count, driver-word, output-word, range-word}
 use Rattle.netlist_table.proofs.LowestCause.{lowest-none}
-use Rattle.netlist_table.proofs.Causes.{line_bad-range, taken, mark_word, word-taken, mark_cause, gate-causes, range_cause, driver-input, range-taken, bounds-fit}
+use Rattle.netlist_table.proofs.Causes.{line_bad-range, taken, mark_word, word-taken, mark_cause, gate-causes, range_cause, driver-input, range-taken}
 use Rattle.netlist_table.proofs.Soundness.{gate-space}
 use Rattle.netlist_table.proofs.Stores.{stored-mark, stored-gate, stored-range}
 
-number-some : (m : Mark) → mark_number m ≡ 0 → ⊥
-number-some input e = omega arith
-number-some output e = omega arith
-number-some opened e = omega arith
+mark_some : (m : Mark) → mark_number m ≡ 0 → ⊥
+mark_some input e = omega arith
+mark_some output e = omega arith
+mark_some opened e = omega arith
 
 module _ (cells : List Cell) {table : List ℕ} {ss : List Statement} (holds : NetlistHolds table ss) where
   -- A statement that is refused leaves the table as it was.
@@ -103,7 +103,7 @@ module _ (cells : List Cell) {table : List ℕ} {ss : List Statement} (holds : N
     pub mark-second : (get_or table (mark_place m l) 0 ≡ 0 → ⊥)
         → Decided cells ss (some (mark m l)) holds.past (mark_number m) table
     unfolding refusal_of pick
-    mark-second h = refuses (some (mark m l)) (mark_number m) (number-some m) (rw (mark_cause cells ss m l, good, is_taken h))
+    mark-second h = refuses (some (mark m l)) (mark_number m) (mark_some m) (rw (mark_cause cells ss m l, good, is_taken h))
 
     pub mark-admitted : get_or table (mark_place m l) 0 ≡ 0
         → Decided cells ss (some (mark m l)) holds.past 0 (set (set table (mark_place m l) (mark_value m)) (mention_place l) 1)
@@ -119,58 +119,54 @@ module _ (cells : List Cell) {table : List ℕ} {ss : List Statement} (holds : N
 
 -- ---- a range
 
--- The causes of a range by the tests of the code.
-unfoldable pub range_flags : Range → List ℕ → List (ℕ × Bool)
-range_flags r table =
-    (No.line_bad, line_bad r.line)
-    ∷ (No.not_input, not (eqb (get_or table (driver_place r.line) 0) 1))
-    ∷ (No.range_bad, bounds_bad r.low r.high || not (eqb (get_or table (range_place r.line) 0) 0))
-    ∷ []
-
-module _ (r : Range) (table : List ℕ) where
-  flags-none : 0 ≡ lowest (range_flags r table)
-      → (line_bad r.line ≡ false) × ((bounds_bad r.low r.high || not (eqb (get_or table (range_place r.line) 0) 0)) ≡ false)
-  unfolding range_flags Each
-  flags-none e = let none = lowest-none (range_flags r table) (search rules) (sym e) in (none.0, none.1.1.0)
-
-  -- Where none holds the bounds are good.
-  pub range-fits : 0 ≡ lowest (range_flags r table) → (1 ≤ r.low) × (r.low ≤ r.high) × (r.high ≤ Size.most_price)
-  range-fits e = bounds-fit r.low r.high (or_left (bounds_bad r.low r.high) _ (flags-none e).1)
-
 module _ (cells : List Cell) {table : List ℕ} {ss : List Statement} (holds : NetlistHolds table ss) (so : Sound cells ss) (r : Range) where
-  -- The two tests of the table, of a line in range.
-  asks-input : line_bad r.line ≡ false → eqb (get_or table (driver_place r.line) 0) 1 ≡ is_input r.line ss
-  asks-input good =
-      rw (holds.words, driver-word ss holds.past r.line (line_bad-range r.line good).0 (line_bad-range r.line good).1)
-      (driver-input ss r.line)
+  pub range-line : line_bad r.line ≡ true → Decided cells ss (some (priced r)) holds.past No.line_bad table
+  unfolding refusal_of pick
+  range-line bad = refuses cells holds (some (priced r)) No.line_bad (λ e. omega arith) (rw (range_cause cells ss r, bad))
 
-  asks-range : line_bad r.line ≡ false → eqb (get_or table (range_place r.line) 0) 0 ≡ not (has_range r.line ss)
-  asks-range good =
-      rw (holds.words, range-word ss holds.past r.line (line_bad-range r.line good).0 (line_bad-range r.line good).1)
-      (range-taken ss r.line so.ranges)
+  module _ (good : line_bad r.line ≡ false) where
+    -- The two words of the table, as tests.
+    asks-input : input_at table r.line ≡ is_input r.line ss
+    asks-input =
+        rw (holds.words, driver-word ss holds.past r.line (line_bad-range r.line good).0 (line_bad-range r.line good).1)
+        (driver-input ss r.line)
 
-  not-not : (b : Bool) → not (not b) ≡ b
-  not-not true = refl
-  not-not false = refl
+    asks-range : eqb (get_or table (range_place r.line) 0) 0 ≡ not (has_range r.line ss)
+    asks-range =
+        rw (holds.words, range-word ss holds.past r.line (line_bad-range r.line good).0 (line_bad-range r.line good).1)
+        (range-taken ss r.line so.ranges)
 
-  range-weighed : lowest (range_flags r table) ≡ refusal_of cells ss (some (priced r))
-  unfolding range_flags lowest refusal_of pick
-  range-weighed =
-      by_test (line_bad r.line)
-      (λ t. rw (range_cause cells ss r, t))
-      (λ t. rw (range_cause cells ss r, t, asks-input t, asks-range t, not-not (has_range r.line ss)))
+    pub range-unmarked : input_at table r.line ≡ false → Decided cells ss (some (priced r)) holds.past No.not_input table
+    unfolding refusal_of pick
+    range-unmarked h =
+        let no : is_input r.line ss ≡ false = sym asks-input ∙ h in
+        refuses cells holds (some (priced r)) No.not_input (λ e. omega arith) (rw (range_cause cells ss r, good, no))
 
-  pub range-refused : (n : ℕ) → n ≡ lowest (range_flags r table) → (n ≡ 0 → ⊥) → Decided cells ss (some (priced r)) holds.past n table
-  range-refused n e h = refuses cells holds (some (priced r)) n h (e ∙ range-weighed)
+    module _ (marked : input_at table r.line ≡ true) where
+      is-input : is_input r.line ss ≡ true
+      is-input = sym asks-input ∙ marked
 
-  pub range-admitted : 0 ≡ lowest (range_flags r table) → Decided cells ss (some (priced r)) holds.past 0 (range_stored r table)
-  range-admitted e =
-      let good = (flags-none r table e).0 in
-      let taken : eqb (get_or table (range_place r.line) 0) 0 ≡ true =
-      not-false _ (or_right (bounds_bad r.low r.high) _ (flags-none r table e).1)
-      in
-      let free : has_range r.line ss ≡ false = not-true _ (sym (asks-range good) ∙ taken) in
-      admits cells holds (priced r) _ (e ∙ range-weighed) (ap (range_stored r) holds.words ∙ stored-range ss holds.past r good free)
+      pub range-unfit : bounds_bad r.low r.high ≡ true → Decided cells ss (some (priced r)) holds.past No.range_bad table
+      unfolding refusal_of pick
+      range-unfit bad =
+          refuses cells holds (some (priced r)) No.range_bad (λ e. omega arith) (rw (range_cause cells ss r, good, is-input, bad))
+
+      module _ (fit : bounds_bad r.low r.high ≡ false) where
+        pub range-second : (get_or table (range_place r.line) 0 ≡ 0 → ⊥)
+            → Decided cells ss (some (priced r)) holds.past No.range_bad table
+        unfolding refusal_of pick
+        range-second h =
+            let has : has_range r.line ss ≡ true = not-false _ (sym asks-range ∙ ne_eqb _ 0 h) in
+            refuses cells holds (some (priced r)) No.range_bad (λ e. omega arith)
+            (rw (range_cause cells ss r, good, is-input, fit, has))
+
+        pub range-admitted : get_or table (range_place r.line) 0 ≡ 0
+            → Decided cells ss (some (priced r)) holds.past 0 (range_stored r table)
+        unfolding refusal_of pick
+        range-admitted e =
+            let free : has_range r.line ss ≡ false = not-true _ (sym asks-range ∙ eq-eqb _ 0 e) in
+            admits cells holds (priced r) _ (rw (range_cause cells ss r, good, is-input, fit, free))
+            (ap (range_stored r) holds.words ∙ stored-range ss holds.past r good free)
 
 -- ---- a gate
 

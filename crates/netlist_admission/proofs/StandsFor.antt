@@ -1,8 +1,8 @@
--- Which statement the numbers stand for, by its form and its kind.
-use Rattle.common_laws.proofs.Base.{true, false, List, ⊎_elim, Option, none, some, ◌≡◌, refl, sym, ap, ◌∙◌, ℕ, zero, suc, ◌≤◌, arith, get_or}
+-- Which statement the numbers stand for, by their kind.
+use Rattle.std.specs.Prelude.{Some, None}
+use Rattle.common_laws.proofs.Base.{List, Option, none, some, ◌≡◌, refl, sym, ap, ◌∙◌, ℕ, zero, suc, ◌≤◌, ◌<◌, arith, get_or}
 use Rattle.table.specs.Blocks.{fitted}
 use Rattle.reading.specs.Numbers as No
-use Rattle.reading.proofs.Laws.{clash}
 use Rattle.library_table.specs.Cells.{Cell}
 use Rattle.netlist_table.specs.declared.RawStatement.{RawStatement}
 use Rattle.netlist_table.specs.Netlist.{Gate, Mark, input, output, opened, Statement, Range, mark, gate, priced, kind_of, gate_kind, range_kind, last_kind}
@@ -54,40 +54,36 @@ of_kind-kind opened = refl
 same_kind : (m k : Mark) → kind_of m ≡ kind_of k → m ≡ k
 same_kind m k e = sym (of_kind-kind m) ∙ ap of_kind e ∙ of_kind-kind k
 
+pub formless : (w : Option Statement) → StandsFor None w → w ≡ none
+unfolding StandsFor
+formless none is = refl
+formless (some s) is = absurd is
+
 module _ (p : RawStatement) where
-  pub formless : (w : Option Statement) → StandsFor p w → p.form ≡ false → w ≡ none
+  pub kind-mark : (m : Mark) (w : Option Statement) → StandsFor (Some p) w → p.kind ≡ kind_of m → w ≡ some (mark m p.line)
   unfolding StandsFor
-  formless none is e = refl
-  formless (some (mark m l)) is e = clash p.form is.form e
-  formless (some (gate g)) is e = clash p.form is.form e
-  formless (some (priced r)) is e = clash p.form is.form e
+  kind-mark m none is k = absurd (omega (arith, kind-low m))
+  kind-mark m (some (mark n l)) is k = rw (is.line, same_kind n m (sym is.kind ∙ k))
+  kind-mark m (some (gate g)) is k = absurd (kind_no_gate m (sym k ∙ is.kind))
+  kind-mark m (some (priced r)) is k = absurd (kind_no_range m (sym k ∙ is.kind))
 
-  module _ (e : p.form ≡ true) where
-    pub kind-mark : (m : Mark) (w : Option Statement) → StandsFor p w → p.kind ≡ kind_of m → w ≡ some (mark m p.line)
-    unfolding StandsFor
-    kind-mark m none is k = ⊎_elim (λ f. clash p.form e f) (λ h. absurd (omega (arith, kind-low m))) is
-    kind-mark m (some (mark n l)) is k = rw (is.line, same_kind n m (sym is.kind ∙ k))
-    kind-mark m (some (gate g)) is k = absurd (kind_no_gate m (sym k ∙ is.kind))
-    kind-mark m (some (priced r)) is k = absurd (kind_no_range m (sym k ∙ is.kind))
-
-    pub kind-gate : (w : Option Statement) → StandsFor p w → p.kind ≡ gate_kind → (g : Gate) × (w ≡ some (gate g)) × IsGate g p
-    unfolding StandsFor
-    kind-gate none is k = ⊎_elim (λ f. clash p.form e f) (λ h. absurd (omega arith)) is
-    kind-gate (some (mark m l)) is k = absurd (kind_no_gate m (sym is.kind ∙ k))
-    kind-gate (some (gate g)) is k = (g, refl, is)
-    kind-gate (some (priced r)) is k = absurd (omega (arith, is.kind))
-
-    pub kind-range : (w : Option Statement) → StandsFor p w → p.kind ≡ range_kind → (r : Range) × (w ≡ some (priced r)) × IsRange r p
-    unfolding StandsFor
-    kind-range none is k = ⊎_elim (λ f. clash p.form e f) (λ h. absurd (omega arith)) is
-    kind-range (some (mark m l)) is k = absurd (kind_no_range m (sym is.kind ∙ k))
-    kind-range (some (gate g)) is k = absurd (omega (arith, is.kind))
-    kind-range (some (priced r)) is k = (r, refl, is)
-
-  pub kind_unknown : (w : Option Statement) → StandsFor p w → ((m : Mark) → p.kind ≡ kind_of m → ⊥) → (p.kind ≡ gate_kind → ⊥)
-      → (p.kind ≡ range_kind → ⊥) → w ≡ none
+  pub kind-gate : (w : Option Statement) → StandsFor (Some p) w → p.kind ≡ gate_kind → (g : Gate) × (w ≡ some (gate g)) × IsGate g p
   unfolding StandsFor
-  kind_unknown none is marks gates ranges = refl
-  kind_unknown (some (mark m l)) is marks gates ranges = absurd (marks m is.kind)
-  kind_unknown (some (gate g)) is marks gates ranges = absurd (gates is.kind)
-  kind_unknown (some (priced r)) is marks gates ranges = absurd (ranges is.kind)
+  kind-gate none is k = absurd (omega arith)
+  kind-gate (some (mark m l)) is k = absurd (kind_no_gate m (sym is.kind ∙ k))
+  kind-gate (some (gate g)) is k = (g, refl, is)
+  kind-gate (some (priced r)) is k = absurd (omega (arith, is.kind))
+
+  pub kind-range : (w : Option Statement) → StandsFor (Some p) w → p.kind ≡ range_kind → (r : Range) × (w ≡ some (priced r)) × IsRange r p
+  unfolding StandsFor
+  kind-range none is k = absurd (omega arith)
+  kind-range (some (mark m l)) is k = absurd (kind_no_range m (sym is.kind ∙ k))
+  kind-range (some (gate g)) is k = absurd (omega (arith, is.kind))
+  kind-range (some (priced r)) is k = (r, refl, is)
+
+  pub kind_unknown : (w : Option Statement) → StandsFor (Some p) w → last_kind < p.kind → w ≡ none
+  unfolding StandsFor
+  kind_unknown none is h = refl
+  kind_unknown (some (mark m l)) is h = absurd (omega (arith, kind-low m, is.kind))
+  kind_unknown (some (gate g)) is h = absurd (omega (arith, is.kind))
+  kind_unknown (some (priced r)) is h = absurd (omega (arith, is.kind))

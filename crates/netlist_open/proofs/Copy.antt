@@ -1,6 +1,6 @@
 -- The new rules accept the copy, and give it the numbers that the old rules gave.
 use Rattle.common_laws.proofs.Base.{Bool, true, false, not, ◌&&◌, ◌||◌, or-false, or-true, List, [], ◌∷◌, ◌++◌, append-nil, append_assoc, flat_map, Option, none, some, ◌≡◌, refl}
-use Rattle.common_laws.proofs.Base.{sym, ap, ◌∙◌, ℕ, zero, suc, ◌+◌, ◌-◌, ◌≤◌, ◌<◌, arith, eqb, leb, ltb, length, eq-eqb, ne_eqb, eqb-true, eqb-false, le-leb, leb-true, not-true}
+use Rattle.common_laws.proofs.Base.{sym, ap, ◌∙◌, ℕ, zero, suc, ◌+◌, ◌≤◌, ◌<◌, arith, eqb, leb, ltb, length, eq-eqb, ne_eqb, eqb-true, eqb-false, le-leb, leb-true, not-true}
 use Rattle.common_laws.proofs.Lists.{flatMap_append}
 use Rattle.sizes.specs.Sizes as Size
 use Rattle.reading.specs.Choice.{pick}

@@ -1,6 +1,6 @@
 -- The copy as it is put into a buffer, and what the reading by the old rules comes to.
 use Rattle.common_laws.proofs.Base.{Bool, true, false, ◌||◌, List, [], ◌∷◌, ◌++◌, append-nil, append_assoc, ◌≡◌, refl, sym, ap, fun_ext, ◌∙◌, ℕ, zero, suc, ◌+◌, ◌*◌, ◌-◌, ◌≤◌, ◌<◌}
-use Rattle.common_laws.proofs.Base.{arith, le-ltb, length, drop, length-append, replicate, length-replicate}
+use Rattle.common_laws.proofs.Base.{arith, le-ltb, length, drop, length-append, replicate}
 use Rattle.sizes.specs.Sizes as Size
 use Rattle.reading.specs.Choice.{pick}
 use Rattle.reading.specs.Numbers as No
@@ -30,14 +30,16 @@ use Rattle.demands.specs.Outcome as O
 use Rattle.netlist_open.specs.Copy.{open_line, open_lines, copy_of, declared_too}
 use Rattle.netlist_open.specs.Kept.{Kept}
 use Rattle.netlist_open.proofs.Copy.{copy_keeps}
-use Rattle.analysis_texts.specs.declared.Progress.{Progress}
-use Rattle.analysis_texts.specs.declared.Progress.TheVariants.{Unrefused, AtEntry, Later}
-use Rattle.analysis_texts.specs.Progress.{Reached}
+use Rattle.analysis_texts.specs.Progress.{Progress}
+use Rattle.analysis_texts.specs.declared.Stop.{Stop}
+use Rattle.analysis_texts.specs.declared.Stop.TheVariants.{AtEntry, Later}
+use Rattle.analysis_texts.specs.Progress.{Reached, refusal_of}
 use Rattle.demands.specs.Outcome.{entry_by, given_by, read_pair, text_long, report_of}
 use Rattle.demands.proofs.Acceptance.{read_as}
 use Rattle.demands.proofs.EntryChecks.{entered, own-entry_by}
 use Rattle.demands.specs.Printed.{reported, printed}
 use Rattle.netlist_open.specs.Copied.{copy_bytes, copied, copy_printed, Accepted, Copied}
+use Rattle.std.specs.Prelude.{Ok, Err}
 
 -- ---- the lines, one more
 
@@ -178,15 +180,12 @@ module _ (lib net : List ℕ) where
 
   module _ (lib' table : List ℕ) (said : Progress)
       (h : Reached (given_by Old lib net) first (replicate Size.library 0) (replicate Size.netlist 0) lib' table said) where
-    pub at-entry : (r : Refusal) → said ≡ AtEntry r → copied lib net ≡ refused r.number r.line
-    unfolding Reached copied ◌>>◌
-    at-entry r e = let q = rw e at h in rw (← first_is_lem, q.0)
-
-    pub later : (r : Refusal) → said ≡ Later r → copied lib net ≡ refused r.number r.line
+    pub stopped : (stop : Stop) → said ≡ Err stop → (r : Refusal) → r ≡ refusal_of stop → copied lib net ≡ refused r.number r.line
     unfolding Reached copied ◌>>◌ ◌>>=◌
-    later r e = let q = rw e at h in rw (← first_is_lem, q.0, q.1)
+    stopped (AtEntry r) e t f = let q = rw e at h in rw (f, ← first_is_lem, q.0)
+    stopped (Later r) e t f = let q = rw e at h in rw (f, ← first_is_lem, q.0, q.1)
 
-    pub both-old : said ≡ Unrefused → BothOld table
+    pub both-old : said ≡ Ok tt → BothOld table
     unfolding Reached given_by
     both-old e =
         let q = rw e at h in

@@ -1,7 +1,6 @@
 -- A text in front of another: where every line of the first is ended, the lines of both are those of the one and of the other.
-use Rattle.common_laws.proofs.Base.{Bool, true, false, List, [], ◌∷◌, ◌++◌, Option, none, some, ◌≡◌, refl, sym, ap, ◌∙◌, ℕ, arith, eqb, eq-eqb}
+use Rattle.common_laws.proofs.Base.{Bool, true, false, List, [], ◌∷◌, ◌++◌, Option, none, some, ◌≡◌, refl, sym, ap, ◌∙◌, ℕ, eqb, eq-eqb}
 use Rattle.reading.specs.Each.{Each}
-use Rattle.reading.proofs.Laws.{by_test}
 use Rattle.text.specs.Lines.{cut, split, fields, unended, ended, lines}
 
 -- ---- parts put together

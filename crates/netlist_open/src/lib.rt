@@ -8,54 +8,48 @@
 ghost use Rattle.std.specs.Prelude.{◌≡◌, [], ◌++◌, ◌≤◌};
 ghost use Rattle.sizes.specs.Sizes as Size;
 ghost use Rattle.reading.specs.Choice.{pick};
-ghost use Rattle.writer.specs.Put.{Put};
+ghost use Rattle.writer.specs.Put.{Put, Puts};
 ghost use Rattle.netlist_table.specs.Netlist.{lines_where};
 ghost use Rattle.netlist_table.specs.Admission.{words_undeclared};
 ghost use Rattle.netlist_open.specs.Copy.{open_line, open_lines};
 ghost use Rattle.netlist_open.specs.Copied.{Copied};
 
-use analysis_texts::{Progress, Tables, read_texts};
+use analysis_texts::{Tables, read_texts};
 use netlist_admission::undeclared;
 use netlist_table::Rules;
+use writer::bytes::Cursor;
 
 // The most bytes of a copy: those of a text, and a line `open,L` for each line.
 pub const COPY_BYTES: usize = sizes::TEXT_BYTES + sizes::LINES * (6 + sizes::NUMBER_DIGITS);
 
 const LINE_END: u8 = 10;
 
-fn put_open(copy: &mut [u8], at: usize, l: u32) -> usize
-    ensures { Put at (open_line l) copy.old copy.new result }
+fn put_open(copy: &mut Cursor, l: u32)
+    ensures { Puts (open_line l) copy.old copy.new }
 {
-    let word = writer::bytes::put_bytes(copy, at, b"open,");
-    let end = writer::bytes::put_decimal(copy, word, l);
-    writer::bytes::put_byte(copy, end, LINE_END)
+    copy.put_bytes(b"open,");
+    copy.put_decimal(l);
+    copy.put_byte(LINE_END);
 }
 
 // The line of a text for a line that is read or marked, and neither driven nor open.
-fn put_one(copy: &mut [u8], at: usize, netlist: &[u32], l: usize) -> usize
+#[tactic(auto, using(writer::proofs::Steps::nothing_put), unfolding(reading::specs::Choice::pick))]
+fn put_one(copy: &mut Cursor, netlist: &[u32], l: usize)
     requires { l ≤ Size.lines }
-    ensures { Put at (pick (words_undeclared netlist.now l) (open_line l) [])
-        copy.old copy.new result }
+    ensures { Puts (pick (words_undeclared netlist.now l) (open_line l) []) copy.old copy.new }
 {
     if undeclared(netlist, l) {
-        put_open(copy, at, l as u32)
-    } else {
-        at
+        put_open(copy, l as u32);
     }
 }
 
 // Those of all lines, ascending.
-fn put_opens(copy: &mut [u8], at: usize, netlist: &[u32]) -> usize
-    ensures { Put at (open_lines (lines_where (words_undeclared netlist.now) Size.lines 1))
-        copy.old copy.new result }
+fn put_opens(copy: &mut Cursor, netlist: &[u32])
+    ensures { Puts (open_lines (lines_where (words_undeclared netlist.now) Size.lines 1)) copy.old copy.new }
 {
-    let mut next = at;
-    let mut row = 0;
-    while row < sizes::LINES {
-        next = put_one(copy, next, netlist, 1 + row);
-        row += 1;
+    for row in 0..sizes::LINES {
+        put_one(copy, netlist, 1 + row);
     }
-    next
 }
 
 // The netlist byte for byte, and the lines behind it.
@@ -63,8 +57,10 @@ fn put_declared(copy: &mut [u8], net: &[u8], netlist: &[u32]) -> usize
     ensures { Put 0 (net.now ++ open_lines (lines_where (words_undeclared netlist.now) Size.lines 1))
         copy.old copy.new result }
 {
-    let at = writer::bytes::put_bytes(copy, 0, net);
-    put_opens(copy, at, netlist)
+    let mut text = Cursor::new(copy);
+    text.put_bytes(net);
+    put_opens(&mut text, netlist);
+    text.at
 }
 
 // What `scoap_open` prints of a library and a netlist: the copy, or the refusal. Its tables are its own, and zero.
@@ -83,8 +79,7 @@ pub fn put_copy(lib: &[u8], net: &[u8], copy: &mut [u8; COPY_BYTES]) -> usize
         Tables::Own,
     );
     match progress {
-        Progress::AtEntry(r) => writer::put_refusal(copy, 0, r),
-        Progress::Later(r) => writer::put_refusal(copy, 0, r),
-        Progress::Unrefused => put_declared(copy, net, &netlist),
+        Ok(()) => put_declared(copy, net, &netlist),
+        Err(stop) => writer::show(copy, Err(stop.into())),
     }
 }

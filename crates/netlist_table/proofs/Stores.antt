@@ -52,11 +52,6 @@ sets-front [] xs ys i h = refl
 sets-front (w ∷ ws) xs ys i h =
     rw (set-append_left xs ys i w (omega arith)) (sets-front ws (set xs i w) ys (suc i) (rw (length-set xs i w) (omega arith)))
 
-sets-one : (table : List ℕ) (at v : ℕ) (ws : List ℕ)
-    → set (sets table at ws) (at + length ws) v ≡ sets table at (ws ++ (v ∷ []))
-sets-one table at v [] = rw (add-zero at)
-sets-one table at v (w ∷ ws) = rw (add-suc at (length ws), ← suc-add at (length ws)) (sets-one (set table at w) (suc at) v ws)
-
 -- number j of part i, where that makes another part of it
 set_blocks : {A : Type 0} (f : A → List ℕ) (k : ℕ) → ((x : A) → length (f x) ≡ k) → (d y : A) (xs : List A) (i j v : ℕ)
     → i < length xs → j < k → set (f (get_or xs i d)) j v ≡ f y
@@ -97,14 +92,6 @@ set-line_words f g n first i v h here other =
 
 take-one : (xs : List ℕ) (i : ℕ) → i < length xs → take (i + 1) xs ≡ take i xs ++ (get_or xs i 0 ∷ [])
 take-one xs i h = rw (add-one i) (take-suc xs i 0 h)
-
-pub sets-step : (pins : List ℕ) (i : ℕ) (table : List ℕ) (at : ℕ) → i < length pins
-    → set (sets table at (take i pins)) (at + i) (get_or pins i 0) ≡ sets table at (take (i + 1) pins)
-sets-step pins i table at h =
-    let n : length (take i pins) ≡ i = length-take-le i pins (omega arith) in
-    rw (take-one pins i h)
-    (ap (λ (k : ℕ). set (sets table at (take i pins)) (at + k) (get_or pins i 0)) (sym n)
-    ∙ sets-one table at (get_or pins i 0) (take i pins))
 
 mention_last : (ls : List ℕ) (l : ℕ) (table : List ℕ)
     → set (mention_all ls table) (mention_place l) 1 ≡ mention_all (ls ++ (l ∷ [])) table

@@ -1,5 +1,6 @@
 -- One statement over plain numbers, as `admit` takes it from texts and from records, and what admitting it comes to.
-use Rattle.std.specs.Prelude.{Bool, true, false, ◌&&◌, not, List, [], ◌∷◌, ◌++◌, ◌⊎◌, ◌≡◌, ℕ, ◌+◌, ◌%◌, ◌<◌, min, eqb, length, get_or, set, take}
+use Rattle.std.specs.Prelude.{Bool, ◌&&◌, not, List, [], ◌∷◌, ◌++◌, ◌≡◌, ℕ, ◌+◌, ◌%◌, ◌<◌, min, eqb, length, get_or, set, take}
+use Rattle.std.specs.Prelude as Code
 use Rattle.std.proofs.Math.Option.{Option, none, some}
 use Rattle.std.proofs.lemmas.List.Edits.{sets}
 use Rattle.sizes.specs.Places.{driver_place, output_place, mention_place, range_place, ranged_place, gate_place}
@@ -20,12 +21,10 @@ use Rattle.netlist_table.specs.Sound.{Sound}
 -- ---- a statement
 
 pub record IsMark (m : Mark) (l : ℕ) (p : RawStatement) : Type 0 where
-  pub form : p.form ≡ true
   pub kind : p.kind ≡ kind_of m
   pub line : p.line ≡ l
 
 pub record IsGate (g : Gate) (p : RawStatement) : Type 0 where
-  pub form : p.form ≡ true
   pub kind : p.kind ≡ gate_kind
   pub cell : p.cell ≡ g.cell
   pub line : p.line ≡ g.line
@@ -35,17 +34,18 @@ pub record IsGate (g : Gate) (p : RawStatement) : Type 0 where
 
 -- L, LOW and HIGH are gathered as the pins of a gate are.
 pub record IsRange (r : Range) (p : RawStatement) : Type 0 where
-  pub form : p.form ≡ true
   pub kind : p.kind ≡ range_kind
   pub line : p.line ≡ r.line
   pub pins : p.pins ≡ fitted 0 Size.pins (r.line ∷ r.low ∷ r.high ∷ [])
 
--- The statement that the numbers stand for; none is bad form, which they say themselves, or by a kind that is not known.
-unfoldable pub StandsFor : RawStatement → Option Statement → Type 0
-StandsFor p none = (p.form ≡ false) ⊎ (last_kind < p.kind)
-StandsFor p (some (mark m l)) = IsMark m l p
-StandsFor p (some (gate g)) = IsGate g p
-StandsFor p (some (priced r)) = IsRange r p
+-- The statement that the numbers stand for; none is bad form, which there are no numbers of, or a kind that is not known.
+unfoldable pub StandsFor : Code.Option RawStatement → Option Statement → Type 0
+StandsFor Code.None none = Unit {0}
+StandsFor Code.None (some s) = ⊥
+StandsFor (Code.Some p) none = last_kind < p.kind
+StandsFor (Code.Some p) (some (mark m l)) = IsMark m l p
+StandsFor (Code.Some p) (some (gate g)) = IsGate g p
+StandsFor (Code.Some p) (some (priced r)) = IsRange r p
 
 -- ---- what admitting a statement comes to
 

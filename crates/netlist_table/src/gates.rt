@@ -20,16 +20,12 @@ pub fn place_of(gate: usize) -> usize
     sizes::GATES_AT + gate * sizes::GATE_WORDS
 }
 
-// How many gates the table has, no more than there may be.
+// How many gates the table has, no more than there may be. (No twin of `library_table::cells::count`, which answers any number
+// that stands there.)
 pub fn count(table: &[u32]) -> usize
     ensures { result ≡ count_held table.now }
 {
-    let count = word(table, 0) as usize;
-    if count < sizes::GATES {
-        count
-    } else {
-        sizes::GATES
-    }
+    (word(table, 0) as usize).min(sizes::GATES)
 }
 
 // The cell of a gate, from 0 in library order.

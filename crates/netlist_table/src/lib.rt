@@ -34,28 +34,29 @@ pub enum Rules {
     New,
 }
 
-// One statement over plain numbers, not checked yet: whether it has good form, its kind, its cell's place
-// in the library, its line, the lines of as many pins as a gate has at most, 0 after the last, how many
-// pins it has, and whether a pin's line is out of range.
+// One statement over plain numbers, not checked yet: its kind, its cell's place in the library, its line,
+// the lines of as many pins as a gate has at most, 0 after the last, how many pins it has, which may be
+// more (13), and whether a pin's line is out of range. What has no good form is none of these.
 #[derive(Clone, Copy)]
 pub struct RawStatement {
-    pub form: bool,
+    // A number, not an enum: `admit` answers 10 for one that is not known (D39), and a wrong program of `netlist_admission`
+    // asks that of it.
     pub kind: u32,
     pub cell: u32,
     pub line: u32,
     pub pins: [u32; sizes::PINS],
     pub count: usize,
+    // A flag, not an `Option` of the pins: of those past the last that a gate may have, which are not stored, one may be bad,
+    // too.
     pub bad: bool,
 }
 
 // Whether a line number is out of range.
+#[tactic(auto, unfolding(crate::specs::Netlist::line_bad))]
 pub fn line_bad(l: u32) -> bool
     ensures { result ≡ line_bad l }
 {
-    if l < 1 {
-        return true;
-    }
-    sizes::LINES < l as usize
+    l < 1 || sizes::LINES < l as usize
 }
 
 // Whether some line has a range: one number of the table says so.

@@ -9,7 +9,8 @@ use table::{used, word};
 
 pub mod unchecked;
 
-// What drives a line: 0 nothing, 1 an input, 2 a gate, 3 nothing, and it is declared open.
+// What drives a line: 0 nothing, 1 an input, 2 a gate, 3 nothing, and it is declared open. A number, not an enum: the call is
+// open, and this number of any table is its equation (docs/PROVED.md).
 pub fn driver_of(table: &[u32], l: u32) -> u32
     ensures { result ≡ get_or table.now (driver_place l) 0 }
 {

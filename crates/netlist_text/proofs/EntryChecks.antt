@@ -1,12 +1,11 @@
 -- The entry of the reader: what its two checks say of the lengths, and what the reader answers and leaves then.
-use Rattle.common_laws.proofs.Base.{List, [], ◌≡◌, refl, sym, ◌∙◌, ℕ, ◌≤◌, ltb-false, ltb, length}
+use Rattle.common_laws.proofs.Base.{List, [], ◌≡◌, refl, ℕ, ◌≤◌, ltb-false, ltb, length}
 use Rattle.sizes.specs.Sizes as Size
 use Rattle.reading.specs.Numbers as No
 use Rattle.reading.specs.Refusal.{read}
-use Rattle.reading.specs.Verdict.{verdict_read}
+use Rattle.reading.specs.Answer.{answer_read}
 use Rattle.reading.specs.declared.Refusal.{Refusal}
-use Rattle.reading.specs.declared.Verdict.{Verdict}
-use Rattle.reading.specs.declared.Verdict.TheVariants.{Accepted, Refused}
+use Rattle.std.specs.Prelude.{Result, Err}
 use Rattle.reading.proofs.Laws.{or_right, weigh-one}
 use Rattle.library_table.specs.Cells.{Cell}
 use Rattle.library_table.specs.Layout.{CellsTold, TellsCells}
@@ -25,20 +24,16 @@ module _ (text library table : ℕ) where
 
 -- ---- what the reader answers and leaves
 
-module _ (rules : Rules) (text library before : List ℕ) (v : Verdict)
-    (enters : verdict_read v ≡ netlist_entry (length text) (length library) (length before)) where
-  pub shut : (r : Refusal) → v ≡ Refused r → ReadsNetlist rules text library before v before
-  unfolding ReadsNetlist ReadsFrom verdict_read
-  shut r q = rw (← enters, q) (refl, refl)
+module _ (rules : Rules) (text library before : List ℕ) where
+  pub shut : (r : Refusal) → answer_read (Err r) ≡ netlist_entry (length text) (length library) (length before)
+      → ReadsNetlist rules text library before (Err r) before
+  unfolding ReadsNetlist ReadsFrom answer_read
+  shut r enters = rw (← enters) (refl, refl)
 
-  pub unshut : v ≡ Accepted → netlist_entry (length text) (length library) (length before) ≡ read tt
-  unfolding verdict_read
-  unshut q = sym enters ∙ rw q
-
-  pub behind : v ≡ Accepted → (w : Verdict) (after : List ℕ)
+  pub behind : netlist_entry (length text) (length library) (length before) ≡ read tt → (w : Result (Unit {0}) Refusal) (after : List ℕ)
       → (part : List ℕ) → TellsCells library part
       → ((cells : List Cell) → CellsTold part cells → ReadsAs (netlist rules cells text) before w after)
       → ReadsNetlist rules text library before w after
   unfolding ReadsNetlist ReadsFrom
-  behind q w after part tells reads =
-      rw (unshut q) (record { any = reads _ tells.any; holds = λ cells h. reads cells (tells.holds cells h) })
+  behind unshut w after part tells reads =
+      rw unshut (record { any = reads _ tells.any; holds = λ cells h. reads cells (tells.holds cells h) })

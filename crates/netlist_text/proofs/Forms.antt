@@ -1,39 +1,44 @@
 -- The statement of a line of text, field by field.
-use Rattle.common_laws.proofs.Base.{Bool, true, false, ◌&&◌, ◌||◌, or-false, or_assoc, List, [], ◌∷◌, ◌++◌, append-nil, append_assoc, inl, Option, none, some, ◌≡◌, refl, sym, ap}
-use Rattle.common_laws.proofs.Base.{◌∙◌, ℕ, ◌+◌, ◌≤◌, ◌<◌, arith, ne_eqb, eqb, length, get_or, set, length-append}
+use Rattle.std.specs.Prelude as Code
+use Rattle.common_laws.proofs.Base.{true, false, ◌&&◌, ◌||◌, or-false, or_assoc, List, [], ◌∷◌, ◌++◌, append-nil, append_assoc, Option, none, some, ◌≡◌, refl, sym, ap}
+use Rattle.common_laws.proofs.Base.{◌∙◌, ℕ, ◌+◌, ◌≤◌, ◌<◌, arith, length, get_or, set, length-append}
 use Rattle.sizes.specs.Sizes as Size
 use Rattle.table.specs.Blocks.{fitted}
 use Rattle.reading.specs.Choice.{pick}
+use Rattle.text.specs.Bytes.{bytes}
 use Rattle.text.specs.Lines.{part, fields, fields_from, next_after, same_bytes}
 use Rattle.text.specs.Numeral.{decimal, name_form, numeral_read}
-use Rattle.text.specs.declared.fields.Numeral.{Numeral}
-use Rattle.text.specs.declared.fields.Numeral.TheVariants.{Value, Bad}
 use Rattle.text.proofs.Laws.{fields_from-start, fields_from-step, fields_from-end}
 use Rattle.library_table.specs.Cells.{Cell}
 use Rattle.library_table.specs.Library.{cell_named}
 use Rattle.netlist_text.specs.declared.statements.Pins.{Pins}
 use Rattle.netlist_table.specs.declared.RawStatement.{RawStatement}
-use Rattle.netlist_table.specs.Netlist.{Statement, gate_kind, range_kind, range_of, with, decimals, lone, driven_by, gate_of, line_bad, any_line_bad}
+use Rattle.netlist_table.specs.declared.Rules.{Rules}
+use Rattle.netlist_table.specs.Netlist.{Statement, input, output, opened, gate_kind, range_kind, declaring, mark_of, range_of, with, decimals, lone, driven_by, gate_of, statement_of, line_bad, any_line_bad}
 use Rattle.netlist_table.specs.Admission.{StandsFor}
 use Rattle.netlist_text.specs.Gathered.{PinsAre, PinsRead}
 use Rattle.netlist_table.proofs.Stores.{set-fitted}
 
--- Numbers of bad form stand for no statement.
-pub stands-none : (p : RawStatement) (w : Option Statement) → w ≡ none → p.form ≡ false → StandsFor p w
+-- What has bad form stands for no statement.
+pub stands-none : (w : Option Statement) → w ≡ none → StandsFor Code.None w
 unfolding StandsFor
-stands-none p w e bad = rw e (inl bad)
+stands-none w e = rw e tt
 
 -- ---- numbers
 
 -- What `decimal` answered of a part of the line.
-module _ {n : Numeral} {f g : List ℕ} (said : numeral_read n ≡ decimal f) (is : f ≡ g) where
-  pub number-good : {l : ℕ} → n ≡ Value l → decimal g ≡ some l
+module _ {n : Code.Option ℕ} {f g : List ℕ} (said : numeral_read n ≡ decimal f) (is : f ≡ g) where
+  pub number-good : {l : ℕ} → n ≡ Code.Some l → decimal g ≡ some l
   unfolding numeral_read
   number-good e = rw (← is) (sym said ∙ ap numeral_read e)
 
-  pub number-bad : n ≡ Bad → decimal g ≡ none
+  pub number-bad : n ≡ Code.None → decimal g ≡ none
   unfolding numeral_read
   number-bad e = rw (← is) (sym said ∙ ap numeral_read e)
+
+-- The cursor behind a part of a text, as the code tells the part.
+pub cursor-behind : (text : List ℕ) (at : ℕ) {n : ℕ} {f g : List ℕ} → n ≡ next_after text at f → f ≡ g → n ≡ next_after text at g
+cursor-behind text at said is = said ∙ ap (next_after text at) is
 
 -- ---- pins gathered
 
@@ -71,22 +76,19 @@ onto-one ls l (some ms) = ap some (sym (append_assoc ls (l ∷ []) ms))
 -- The pins of the fields from one cursor on, gathered up to another.
 pub record Passed (line : List ℕ) (from at : ℕ) (p : Pins) : Type 0 where
   pub lines : List ℕ
-  pub form : p.form ≡ true
   pub holds : PinsAre lines p
   pub rest : decimals (fields_from line from) ≡ onto lines (decimals (fields_from line at))
 
-pub passed_start : (line : List ℕ) (from : ℕ) (p : Pins) → (p.form ≡ true) × PinsAre [] p → Passed line from from p
-passed_start line from p h =
-    record { lines = []; form = h.0; holds = h.1; rest = onto-none (decimals (fields_from line from)) }
+pub passed_start : (line : List ℕ) (from : ℕ) (p : Pins) → PinsAre [] p → Passed line from from p
+passed_start line from p h = record { lines = []; holds = h; rest = onto-none (decimals (fields_from line from)) }
 
 module _ {line : List ℕ} {from at : ℕ} {p : Pins} (so_far : Passed line from at p) where
-  pub passed-more : (l : ℕ) (r : Pins) → at ≤ length line → decimal (part 44 line at) ≡ some l → r.form ≡ p.form
+  pub passed-more : (l : ℕ) (r : Pins) → at ≤ length line → decimal (part 44 line at) ≡ some l
       → ((ls : List ℕ) → PinsAre ls p → PinsAre (ls ++ (l ∷ [])) r) → Passed line from (next_after line at (part 44 line at)) r
   unfolding decimals
-  passed-more l r h number form holds =
+  passed-more l r h number holds =
       record {
         lines = so_far.lines ++ (l ∷ []);
-        form = form ∙ so_far.form;
         holds = holds so_far.lines so_far.holds;
         rest =
             so_far.rest
@@ -94,14 +96,13 @@ module _ {line : List ℕ} {from at : ℕ} {p : Pins} (so_far : Passed line from
             (onto-one so_far.lines l (decimals (fields_from line (next_after line at (part 44 line at)))));
       }
 
-  pub passed-bad : (r : Pins) → at ≤ length line → decimal (part 44 line at) ≡ none → r.form ≡ false
-      → PinsRead (decimals (fields_from line from)) r
+  pub passed-bad : at ≤ length line → decimal (part 44 line at) ≡ none → PinsRead (decimals (fields_from line from)) Code.None
   unfolding decimals with onto PinsRead
-  passed-bad r h number form = rw (so_far.rest, fields_from-step line at h, number) form
+  passed-bad h number = rw (so_far.rest, fields_from-step line at h, number) tt
 
-  pub passed-end : length line < at → PinsRead (decimals (fields_from line from)) p
+  pub passed-end : length line < at → PinsRead (decimals (fields_from line from)) (Code.Some p)
   unfolding decimals onto PinsRead
-  passed-end h = rw (so_far.rest, fields_from-end line at h, append-nil so_far.lines) (so_far.form, so_far.holds)
+  passed-end h = rw (so_far.rest, fields_from-end line at h, append-nil so_far.lines) so_far.holds
 
 -- ---- the one number of a mark
 
@@ -149,42 +150,59 @@ module _ (cells : List Cell) (line : List ℕ) (at : ℕ) where
         gate-lines l number = rw (fields_from-step line at h, name, ← after, fields_from-step line next q, number)
 
 -- A gate's numbers with the pins that were gathered.
-pub gathered-gate : (cell l : ℕ) (o : Option (List ℕ)) (ps : Pins) (p : RawStatement) → PinsRead o ps → p.form ≡ ps.form
+pub gathered-gate : (cell l : ℕ) (o : Option (List ℕ)) (ps : Pins) (p : RawStatement) → PinsRead o (Code.Some ps)
     → p.kind ≡ gate_kind → p.cell ≡ cell → p.line ≡ l → p.pins ≡ ps.pins → p.count ≡ ps.count → p.bad ≡ ps.bad
-    → StandsFor p (driven_by cell (with (some l) o))
+    → StandsFor (Code.Some p) (driven_by cell (with (some l) o))
 unfolding PinsRead StandsFor driven_by with
-gathered-gate cell l none ps p h form kind named line pins count bad = inl (form ∙ h)
-gathered-gate cell l (some ls) ps p h form kind named line pins count bad =
-    record {
-      form = form ∙ h.0;
-      kind = kind;
-      cell = named;
-      line = line;
-      pins = pins ∙ h.1.pins;
-      count = count ∙ h.1.count;
-      bad = bad ∙ h.1.bad;
-    }
+gathered-gate cell l none ps p h kind named line pins count bad = absurd h
+gathered-gate cell l (some ls) ps p h kind named line pins count bad =
+    record { kind = kind; cell = named; line = line; pins = pins ∙ h.pins; count = count ∙ h.count; bad = bad ∙ h.bad }
+
+pub no_pins : (cell l : ℕ) (o : Option (List ℕ)) → PinsRead o Code.None → StandsFor Code.None (driven_by cell (with (some l) o))
+unfolding PinsRead StandsFor driven_by with
+no_pins cell l none h = tt
+no_pins cell l (some ls) h = absurd h
 
 -- ---- a range
 
 -- Three numbers, gathered as pins are.
-pub gathered-range : (o : Option (List ℕ)) (ps : Pins) (p : RawStatement) → PinsRead o ps → p.form ≡ (ps.form && eqb ps.count 3)
-    → p.kind ≡ range_kind → p.line ≡ get_or ps.pins 0 0 → p.pins ≡ ps.pins → StandsFor p (range_of o)
+pub gathered-range : (o : Option (List ℕ)) (ps : Pins) (p : RawStatement) → PinsRead o (Code.Some ps) → ps.count ≡ 3
+    → p.kind ≡ range_kind → p.line ≡ get_or ps.pins 0 0 → p.pins ≡ ps.pins → StandsFor (Code.Some p) (range_of o)
 unfolding PinsRead StandsFor range_of fitted
-gathered-range none ps p h form kind line pins = inl (form ∙ rw h)
-gathered-range (some []) ps p h form kind line pins = inl (form ∙ rw (h.0, h.1.count))
-gathered-range (some (l ∷ [])) ps p h form kind line pins = inl (form ∙ rw (h.0, h.1.count))
-gathered-range (some (l ∷ (a ∷ []))) ps p h form kind line pins = inl (form ∙ rw (h.0, h.1.count))
-gathered-range (some (l ∷ (a ∷ (b ∷ [])))) ps p h form kind line pins =
-    record { form = form ∙ rw (h.0, h.1.count); kind = kind; line = line ∙ rw h.1.pins; pins = pins ∙ h.1.pins }
-gathered-range (some (l ∷ (a ∷ (b ∷ (c ∷ ls))))) ps p h form kind line pins =
-    inl (form ∙ rw (h.0, h.1.count) (ne_eqb (length (l ∷ a ∷ b ∷ c ∷ ls)) 3 (λ e. omega arith)))
+gathered-range none ps p h three kind line pins = absurd h
+gathered-range (some []) ps p h three kind line pins = absurd (omega (arith, h.count))
+gathered-range (some (l ∷ [])) ps p h three kind line pins = absurd (omega (arith, h.count))
+gathered-range (some (l ∷ (a ∷ []))) ps p h three kind line pins = absurd (omega (arith, h.count))
+gathered-range (some (l ∷ (a ∷ (b ∷ [])))) ps p h three kind line pins =
+    record { kind = kind; line = line ∙ rw h.pins; pins = pins ∙ h.pins }
+gathered-range (some (l ∷ (a ∷ (b ∷ (c ∷ ls))))) ps p h three kind line pins = absurd (omega (arith, h.count))
+
+pub no_range : (o : Option (List ℕ)) → PinsRead o Code.None → StandsFor Code.None (range_of o)
+unfolding PinsRead StandsFor range_of
+no_range none h = tt
+no_range (some ls) h = absurd h
+
+pub no_three : (o : Option (List ℕ)) (ps : Pins) → PinsRead o (Code.Some ps) → (ps.count ≡ 3 → ⊥) → StandsFor Code.None (range_of o)
+unfolding PinsRead StandsFor range_of
+no_three none ps h other = tt
+no_three (some []) ps h other = tt
+no_three (some (l ∷ [])) ps h other = tt
+no_three (some (l ∷ (a ∷ []))) ps h other = tt
+no_three (some (l ∷ (a ∷ (b ∷ [])))) ps h other = absurd (other h.count)
+no_three (some (l ∷ (a ∷ (b ∷ (c ∷ ls))))) ps h other = tt
 
 -- ---- a statement
 
--- What `same` answered of the first field.
-pub same_is : (word : List ℕ) {t b : Bool} {f g : List ℕ} → f ≡ g → t ≡ same_bytes f word → t ≡ b → same_bytes g word ≡ b
-same_is word is said e = ap (λ (x : List ℕ). same_bytes x word) (sym is) ∙ sym said ∙ e
-
-pub all-fields : (line : List ℕ) → fields line ≡ part 44 line 0 ∷ fields_from line (next_after line 0 (part 44 line 0))
+all-fields : (line : List ℕ) → fields line ≡ part 44 line 0 ∷ fields_from line (next_after line 0 (part 44 line 0))
 all-fields line = sym (fields_from-start line) ∙ fields_from-step line 0 (omega arith)
+
+-- By the first field, and the cursor behind it.
+pub statement_by : (rules : Rules) (cells : List Cell) (line : List ℕ) {f : List ℕ} {at : ℕ} → f ≡ part 44 line 0 → at ≡ next_after line 0 f
+    → statement_of rules cells (fields line)
+    ≡ pick (same_bytes f (bytes "input")) (mark_of input (lone (fields_from line at)))
+    (pick (same_bytes f (bytes "output")) (mark_of output (lone (fields_from line at)))
+    (pick (same_bytes f (bytes "gate")) (gate_of cells (fields_from line at))
+    (pick (declaring rules && same_bytes f (bytes "open")) (mark_of opened (lone (fields_from line at)))
+    (pick (declaring rules && same_bytes f (bytes "range")) (range_of (decimals (fields_from line at))) none))))
+unfolding statement_of
+statement_by rules cells line field moved = rw (all-fields line, ← field, moved)

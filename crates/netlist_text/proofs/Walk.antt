@@ -7,8 +7,9 @@ use Rattle.text.proofs.Laws.{linesFrom_start, linesFrom_line, linesFrom_end, lin
 use Rattle.reading.specs.Choice.{pick}
 use Rattle.reading.specs.Numbers as No
 use Rattle.reading.specs.Refusal.{Read, refused, read, ◌>>=◌, form}
-use Rattle.reading.specs.Verdict.{verdict_read, done_read}
-use Rattle.reading.specs.declared.Verdict.{Verdict}
+use Rattle.reading.specs.Answer.{answer_read, done_read}
+use Rattle.std.specs.Prelude.{Result}
+use Rattle.reading.specs.declared.Refusal.{Refusal}
 use Rattle.reading.proofs.Laws.{refused-read}
 use Rattle.library_table.specs.Cells.{Cell}
 use Rattle.netlist_table.specs.declared.Rules.{Rules}
@@ -123,12 +124,12 @@ module _ {rules : Rules} {cells : List Cell} {text : List ℕ} {at number : ℕ}
 read_same : {A : Type 0} {x y : A} → read x ≡ read y → x ≡ y
 read_same e = cc
 
-module _ (o : Read (List Statement)) (before : List ℕ) (answer : Verdict) (after : List ℕ) where
-  pub fills-refused : {number line : ℕ} → o ≡ refused number line → verdict_read answer ≡ refused number line → Fills o before answer after
+module _ (o : Read (List Statement)) (before : List ℕ) (answer : Result (Unit {0}) Refusal) (after : List ℕ) where
+  pub fills-refused : {number line : ℕ} → o ≡ refused number line → answer_read answer ≡ refused number line → Fills o before answer after
   unfolding done_read
   fills-refused e said = record { answers = rw e said; filled = λ ss q. refused-read (sym e ∙ q) }
 
-  pub fills-read : {ss : List Statement} → o ≡ read ss → verdict_read answer ≡ read tt → after ≡ netlist_words ss ++ drop Size.netlist before
+  pub fills-read : {ss : List Statement} → o ≡ read ss → answer_read answer ≡ read tt → after ≡ netlist_words ss ++ drop Size.netlist before
       → Fills o before answer after
   unfolding done_read
   fills-read e said words =

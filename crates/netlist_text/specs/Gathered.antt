@@ -1,5 +1,6 @@
 -- The pins of a line of text, as they are gathered.
-use Rattle.std.specs.Prelude.{true, false, List, ◌≡◌, ℕ, length}
+use Rattle.std.specs.Prelude.{List, ◌≡◌, ℕ, length}
+use Rattle.std.specs.Prelude as Code
 use Rattle.std.proofs.Math.Option.{Option, none, some}
 use Rattle.sizes.specs.Sizes as Size
 use Rattle.table.specs.Blocks.{fitted}
@@ -14,6 +15,8 @@ pub record PinsAre (ls : List ℕ) (p : Pins) : Type 0 where
   pub bad : p.bad ≡ any_line_bad ls
 
 -- What gathering the pins of a line's fields comes to; none is bad form.
-unfoldable pub PinsRead : Option (List ℕ) → Pins → Type 0
-PinsRead none p = p.form ≡ false
-PinsRead (some ls) p = (p.form ≡ true) × PinsAre ls p
+unfoldable pub PinsRead : Option (List ℕ) → Code.Option Pins → Type 0
+PinsRead none Code.None = Unit {0}
+PinsRead none (Code.Some p) = ⊥
+PinsRead (some ls) Code.None = ⊥
+PinsRead (some ls) (Code.Some p) = PinsAre ls p

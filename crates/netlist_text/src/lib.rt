@@ -12,8 +12,8 @@ mod statements;
 ghost use Rattle.std.specs.Prelude.{◌≡◌, List, ◌≤◌, length};
 ghost use Rattle.sizes.specs.Sizes as Size;
 ghost use Rattle.text.specs.Lines.{fields};
-ghost use Rattle.reading.specs.Refusal.{refused};
-ghost use Rattle.reading.specs.Verdict.{verdict_read, done_read};
+ghost use Rattle.reading.specs.Cause.{refusal_number};
+ghost use Rattle.reading.specs.Answer.{answer_read, done_read};
 ghost use Rattle.library_table.specs.Cells.{Cell};
 ghost use Rattle.library_table.specs.Layout.{CellsTold};
 ghost use Rattle.netlist_table.specs.Netlist.{Statement, statement_of, text_statements, declared, netlist};
@@ -26,15 +26,16 @@ use crate::statements::{declaring, statement_of};
 use library_table::cells::told;
 use netlist_admission::{admit, some_undeclared};
 use netlist_table::Rules;
-use reading::{Refusal, Verdict};
-use table::clear;
+use reading::{Cause, Refusal};
+use table::read_cleared;
 use text::{after, line};
 
 // ---- a line of text
 
-fn read_line(rules: Rules, line: &[u8], library: &[u32], table: &mut [u32]) -> u32
+fn read_line(rules: Rules, line: &[u8], library: &[u32], table: &mut [u32]) -> Result<(), Cause>
     ensures { (cells : List Cell) → CellsTold library.now cells
-        → Admits cells (statement_of rules cells (fields line.now)) table.old result table.new }
+        → Admits cells (statement_of rules cells (fields line.now)) table.old
+        (refusal_number result) table.new }
 {
     let s = statement_of(rules, line, library);
     admit(table, library, s)
@@ -42,17 +43,8 @@ fn read_line(rules: Rules, line: &[u8], library: &[u32], table: &mut [u32]) -> u
 
 // ---- the text
 
-fn refusal(number: u32, line: usize) -> Verdict
-    ensures { verdict_read result ≡ refused number line }
-{
-    Verdict::Refused(Refusal {
-        number: number,
-        line: line,
-    })
-}
-
 // Reads the lines of a text against the cells of a library table.
-fn read_lines(rules: Rules, text: &[u8], library: &[u32], table: &mut [u32]) -> Verdict
+fn read_lines(rules: Rules, text: &[u8], library: &[u32], table: &mut [u32]) -> Result<(), Refusal>
     requires { (length text.now ≤ Size.text_bytes) × NoStatements table.old }
     ensures { (cells : List Cell) → CellsTold library.now cells
         → Fills (text_statements rules cells text.now) table.old result table.new }
@@ -64,91 +56,79 @@ fn read_lines(rules: Rules, text: &[u8], library: &[u32], table: &mut [u32]) -> 
         let l = line(text, at);
         let end = after(text, at, l);
         if n < end {
-            return refusal(reading::NETLIST_FORM, number);
+            return Err(Cause::NetlistForm.at(number));
         }
-        let cause = read_line(rules, l, library, table);
-        if cause != 0 {
-            return refusal(cause, number);
-        }
+        read_line(rules, l, library, table).map_err(|cause| cause.at(number))?;
         at = end;
         number += 1;
     }
-    Verdict::Accepted
+    Ok(())
 }
 
 // What comes behind the lines of a text: the new rules ask that each line read or marked is driven or open.
-fn declare(rules: Rules, table: &[u32]) -> Verdict
+fn declare(rules: Rules, table: &[u32]) -> Result<(), Refusal>
     ensures { (cells : List Cell) (ss : List Statement) → Sound cells ss → NetlistHolds table.now ss
-        → verdict_read result ≡ done_read (declared rules ss) }
+        → answer_read result ≡ done_read (declared rules ss) }
 {
-    let asked = declaring(rules) & some_undeclared(table);
-    if asked {
-        return refusal(reading::UNDECLARED, 0);
+    if declaring(rules) && some_undeclared(table) {
+        return Err(Cause::Undeclared.at(0));
     }
-    Verdict::Accepted
+    Ok(())
 }
 
 // The lines of a text, and what comes behind them, into a table that holds no statement.
-pub fn read_all(rules: Rules, text: &[u8], library: &[u32], table: &mut [u32]) -> Verdict
+pub fn read_all(
+    rules: Rules,
+    text: &[u8],
+    library: &[u32],
+    table: &mut [u32],
+) -> Result<(), Refusal>
     requires { (length text.now ≤ Size.text_bytes) × NoStatements table.old }
     ensures { (cells : List Cell) → CellsTold library.now cells
         → Fills (netlist rules cells text.now) table.old result table.new }
 {
-    let lines = read_lines(rules, text, library, table);
-    match lines {
-        Verdict::Refused(_) => lines,
-        Verdict::Accepted => declare(rules, table),
-    }
+    read_lines(rules, text, library, table)?;
+    declare(rules, table)
 }
 
 // Behind the entry: the table is cleared before the first line, and whole where the text is refused.
-fn fill(rules: Rules, text: &[u8], library: &[u32], table: &mut [u32]) -> Verdict
+fn fill(rules: Rules, text: &[u8], library: &[u32], table: &mut [u32]) -> Result<(), Refusal>
     requires { (length text.now ≤ Size.text_bytes) × (Size.netlist ≤ length table.old) }
     ensures { (cells : List Cell) → CellsTold library.now cells
         → ReadsAs (netlist rules cells text.now) table.old result table.new }
 {
-    clear(table, sizes::NETLIST);
-    let answer = read_all(rules, text, library, table);
-    match answer {
-        Verdict::Accepted => answer,
-        Verdict::Refused(_) => {
-            clear(table, table.len());
-            answer
-        }
-    }
+    read_cleared(
+        table,
+        sizes::NETLIST,
+        |table| read_all(rules, text, library, table),
+    )
 }
 
 // The entry's two checks, by lengths.
-fn entry(text: usize, library: usize, table: usize) -> Verdict
-    ensures { verdict_read result ≡ netlist_entry text library table }
+fn entry(text: usize, library: usize, table: usize) -> Result<(), Refusal>
+    ensures { answer_read result ≡ netlist_entry text library table }
 {
-    let table_short = (library < sizes::LIBRARY) | (table < sizes::NETLIST);
-    if table_short {
-        return Verdict::Refused(Refusal {
-            number: reading::TABLE_SHORT,
-            line: 0,
-        });
+    if library < sizes::LIBRARY || table < sizes::NETLIST {
+        return Err(Cause::TableShort.at(0));
     }
-    let text_long = sizes::TEXT_BYTES < text;
-    if text_long {
-        return Verdict::Refused(Refusal {
-            number: reading::TEXT_LONG,
-            line: 0,
-        });
+    if sizes::TEXT_BYTES < text {
+        return Err(Cause::TextLong.at(0));
     }
-    Verdict::Accepted
+    Ok(())
 }
 
 // Reads a netlist text against the cells of a library table, into a table. A table that no library is read into is read as it
 // stands, and one that counts more cells or pins than a library has, as none. A refusal at entry leaves the netlist table as it
 // was, a later one leaves it zero.
-pub fn read_netlist(rules: Rules, text: &[u8], library: &[u32], table: &mut [u32]) -> Verdict
+pub fn read_netlist(
+    rules: Rules,
+    text: &[u8],
+    library: &[u32],
+    table: &mut [u32],
+) -> Result<(), Refusal>
     ensures { ReadsNetlist rules text.now library.now table.old result
         table.new }
 {
-    let entered = entry(text.len(), library.len(), table.len());
-    match entered {
-        Verdict::Refused(_) => entered,
-        Verdict::Accepted => fill(rules, text, told(library), table),
-    }
+    entry(text.len(), library.len(), table.len())?;
+    fill(rules, text, told(library), table)
 }

@@ -1,5 +1,4 @@
 -- The laws that carry a sentence of the papers, as one theorem.
-use mathlib.Core.List.{[]}
 use Rattle.netlist_table.specs.declared.Rules.TheVariants.{New}
 use Rattle.netlist_table.proofs.Reread.{text_rereadable}
 use Rattle.netlist_table.proofs.Soundness.{gate_ceiling_lem}
@@ -38,7 +37,7 @@ laws_hold =
       observing_descends = observing-descends;
       entry_accepted = entry-accepted;
       never_means = never-means;
-      never_of_records = λ lib rs. never-means-of (given_records lib rs) (checked lib [] [] [] [] rs);
+      never_of_records = λ lib rs. never-means-of (given_records lib rs) (checked lib rs);
       never_at_prices = λ lib net. never-at-prices (given_texts lib net) (texts-checked lib net);
       gate_ceiling = gate_ceiling_lem;
       all_stand = all-stand;

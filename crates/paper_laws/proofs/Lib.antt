@@ -1,4 +1,5 @@
 pub mod PlanCost
 pub mod PlanRead
 pub mod Topmost
+pub mod Headings
 pub mod Laws

@@ -1,9 +1,9 @@
 -- A plan written out beside a standing analysis costs the number that stands.
-use Rattle.common_laws.proofs.Base.{true, ◌&&◌, List, ◌≡◌, refl, sym, ap, subst, ◌∙◌, ℕ, ◌+◌, ◌≤◌, arith, leb-true, leb, get_or}
+use Rattle.common_laws.proofs.Base.{true, ◌&&◌, List, ◌≡◌, refl, sym, ap, ◌∙◌, ℕ, ◌≤◌, arith, leb-true, leb, get_or}
 use Rattle.sizes.specs.Sizes as Size
 use Rattle.reading.specs.Choice.{pick}
 use Rattle.reading.specs.Refusal.{Read, refused, read, ◌>>=◌, ◌>>◌}
-use Rattle.reading.proofs.Laws.{by_test, and_left, and_right, refused-read, then-read}
+use Rattle.reading.proofs.Laws.{by_test, and_left, and_right, refused-read}
 use Rattle.cost.specs.Cost.{most, never}
 use Rattle.writer.specs.Buffer.{length_read}
 use Rattle.calculation.specs.Nodes.{set, node}

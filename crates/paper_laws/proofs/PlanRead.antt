@@ -1,6 +1,6 @@
 -- A plan's text read back is the plan's tree: its lines by their depths, then the tree of the depths.
-use Rattle.common_laws.proofs.Base.{true, false, List, [], ◌∷◌, ◌++◌, map, append_assoc, append-nil, List-as-Memᴰ, List-Memᴰ-head, List-Memᴰ-tail, List-Memᴰ-not-nil}
-use Rattle.common_laws.proofs.Base.{List-Memᴰ-append-cases, ⊎_elim, Option, some, ◌≡◌, refl, sym, ap, ◌∙◌, ℕ, zero, suc, ◌+◌, ◌%◌, ◌/◌, ◌^◌, ◌≤◌, ◌<◌, arith, eq-eqb, ne_eqb, eqb}
+use Rattle.common_laws.proofs.Base.{List, [], ◌∷◌, ◌++◌, map, append_assoc, append-nil, List-as-Memᴰ, List-Memᴰ-head, List-Memᴰ-tail}
+use Rattle.common_laws.proofs.Base.{List-Memᴰ-append-cases, ⊎_elim, ◌≡◌, refl, sym, ap, ◌∙◌, ℕ, zero, suc, ◌+◌, ◌%◌, ◌/◌, ◌^◌, ◌≤◌, ◌<◌, arith, eq-eqb, ne_eqb}
 use Rattle.common_laws.proofs.Base.{ltb, length, length-append}
 use Rattle.reading.specs.Choice.{pick}
 use Rattle.reading.specs.Each.{Each}

@@ -1,6 +1,6 @@
 -- Which line, and which number, a text is refused by: weighing conditions in ascending order finds the least cause.
-use Rattle.common_laws.proofs.Base.{Bool, true, false, not, ◌||◌, List, [], ◌∷◌, ◌++◌, List-as-Memᴰ, List-Memᴰ-head, List-Memᴰ-tail, List-Memᴰ-not-nil, ◌↔◌, Option, none, some, ◌≡◌}
-use Rattle.common_laws.proofs.Base.{refl, sym, ap, subst, ◌∙◌, ℕ, suc, ◌≤◌, ◌<◌, arith, leb, eqb, length}
+use Rattle.common_laws.proofs.Base.{Bool, true, false, not, ◌||◌, List, [], ◌∷◌, ◌++◌, List-as-Memᴰ, List-Memᴰ-head, List-Memᴰ-tail, List-Memᴰ-not-nil, Option, none, some, ◌≡◌}
+use Rattle.common_laws.proofs.Base.{refl, sym, ap, ℕ, suc, ◌≤◌, ◌<◌, arith, leb, eqb, length}
 use Rattle.sizes.specs.Sizes as Size
 use Rattle.reading.specs.Choice.{pick}
 use Rattle.reading.specs.Each.{Each}
@@ -9,10 +9,11 @@ use Rattle.reading.specs.Refusal.{Read, refused, read, ◌>>=◌, ◌>>◌, weig
 use Rattle.reading.proofs.Laws.{by_test, clash, each_member, refused-read, same-refusal}
 use Rattle.library_table.specs.declared.Word.{Word}
 use Rattle.library_table.specs.Cells.{Group, Cell}
-use Rattle.library_table.specs.Library.{Fields, any_of, above_rows, above, group_count, column_count, row_idle, rows_after, row_line, Header, name_used, pins_bad, name_after, name_line, end_after, Place, outside, inside, word_line, end_line, Reading, line_after, begun, with_groups, library_line, library_end, library_from, library}
+use Rattle.library_table.specs.Library.{Fields, any_of, above_rows, above, group_count, column_count, row_idle, rows_after, row_line, Header, name_used, pins_bad, name_after, name_line, end_after, Place, outside, inside, Reading, library_line, library_end, library_from, library}
+use Rattle.library_table.specs.declared.Wanted.TheVariants.{Rows as word_line, End as end_line}
 use Rattle.text.specs.Lines.{lines}
 use Rattle.netlist_table.specs.Netlist.{Statement, causes, admit, admitted}
-use Rattle.paper_laws.specs.Topmost.{Least, StatementCause, TopmostStatement, TopmostStatement.here, TopmostStatement.later, NetlistTopmost, NameCause, NameCause.used, NameCause.pins, NameCause.many, RowsCause, RowsCause.groups, RowsCause.bits, RowsCause.idle, FormOr, PlaceCause, LineCause, TopmostLine, TopmostLine.here, TopmostLine.later, TopmostLine.broken_off, LibraryTopmost}
+use Rattle.paper_laws.specs.Topmost.{Least, TopmostStatement, TopmostStatement.here, TopmostStatement.later, NetlistTopmost, NameCause, NameCause.used, NameCause.pins, NameCause.many, RowsCause, RowsCause.groups, RowsCause.bits, RowsCause.idle, FormOr, PlaceCause, TopmostLine, TopmostLine.here, TopmostLine.later, TopmostLine.broken_off, LibraryTopmost}
 
 -- ---- weighing
 

@@ -10,7 +10,9 @@ use Rattle.reading.specs.Refusal.{refused, read}
 use Rattle.text.specs.Lines.{lines}
 use Rattle.library_table.specs.declared.Word.{Word}
 use Rattle.library_table.specs.Cells.{Group, Cell}
-use Rattle.library_table.specs.Library.{Fields, any_of, above_rows, above, group_count, column_count, row_idle, rows_after, Header, name_after, end_after, name_used, pins_bad, Wanted, word_line, end_line, Place, outside, inside, Reading, library_line, library}
+use Rattle.library_table.specs.Library.{Fields, any_of, above_rows, above, group_count, column_count, row_idle, rows_after, Header, name_after, end_after, name_used, pins_bad, Place, outside, inside, Reading, library_line, library}
+use Rattle.library_table.specs.declared.Wanted.{Wanted}
+use Rattle.library_table.specs.declared.Wanted.TheVariants.{Rows as word_line, End as end_line}
 use Rattle.netlist_table.specs.Netlist.{Statement, causes, admitted}
 
 -- "within it the lowest number"

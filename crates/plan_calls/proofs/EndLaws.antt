@@ -1,16 +1,18 @@
 -- The end of the call.
-use Rattle.common_laws.proofs.Base.{true, ◌&&◌, List, ◌++◌, ◌≡◌, refl, sym, ap, ◌∙◌, ℕ, zero, suc, ◌+◌, ◌≤◌, ◌<◌, ℕ_discrete, arith, lt-ltb, le-ltb, le-leb, leb-true, ltb-true}
-use Rattle.common_laws.proofs.Base.{ltb-false, leb, ltb, length, get_or, take, drop, List-get_or-append, take_at}
+use Rattle.common_laws.proofs.Base.{true, ◌&&◌, List, ◌++◌, ◌≡◌, refl, sym, ap, ◌∙◌, ℕ, zero, suc, ◌≤◌, ◌<◌, ℕ_discrete, arith, lt-ltb, le-ltb, le-leb, leb-true, ltb-true}
+use Rattle.common_laws.proofs.Base.{ltb-false, leb, ltb, length, get_or, drop, List-get_or-append, take_at}
 use Rattle.sizes.specs.Sizes as Size
 use Rattle.sizes.specs.Places.{setting_place}
 use Rattle.reading.specs.Choice.{pick}
 use Rattle.reading.specs.Numbers.{no_figure, plan_long}
 use Rattle.reading.specs.Refusal.{Read, refused, read, ◌>>◌, weigh}
 use Rattle.reading.proofs.Laws.{by_test, and_left, and_right, refused-read}
+use Rattle.reading.specs.Answer.{answer_read}
 use Rattle.cost.specs.Cost.{most, over, never}
 use Rattle.plans.specs.Exact.{Stands}
-use Rattle.writer.specs.declared.Written.{Written}
-use Rattle.writer.specs.Buffer.{text_within, length_read, left_by, written_read, Writes, Refuses, Closes}
+use Rattle.std.specs.Prelude.{Result}
+use Rattle.reading.specs.declared.Refusal.{Refusal}
+use Rattle.writer.specs.Buffer.{text_within, length_read, left_by, Writes, Refuses, Closes}
 use Rattle.writer.proofs.Buffer.{text-fits, text-long, refuses-writes, put-closed}
 use Rattle.library_table.specs.Cells.{Cell}
 use Rattle.netlist_table.specs.Netlist.{Statement}
@@ -147,12 +149,12 @@ module _ (cells : List Cell) (ss : List Statement) (l v kind : ℕ) (before : Li
       by_test (ltb (length before) (length text)) (λ u. long (ltb-false most number t) (ltb-true (length before) (length text) u))
       (λ u. fits (ltb-false most number t) (ltb-false (length before) (length text) u)))
 
-  module _ (after : List ℕ) (w : Written) where
+  module _ (after : List ℕ) (w : Result ℕ Refusal) where
     ends : BothSound cells ss → Writes (plan_read cells ss l v kind (length before)) before after w
-        → (number ≤ most → Cheapest cells ss (kind_of kind) l v) → PlanConcluded cells ss l v kind before after (written_read w)
+        → (number ≤ most → Cheapest cells ss (kind_of kind) l v) → PlanConcluded cells ss l v kind before after (answer_read w)
     unfolding length_read left_by
     ends sound c plan =
-        let over_only : (line : ℕ) → written_read w ≡ refused no_figure line → most < number =
+        let over_only : (line : ℕ) → answer_read w ≡ refused no_figure line → most < number =
         λ line q.
         tested (λ h. h)
         (λ h k. refusals_differ no_figure plan_long line 0 (λ z. omega arith) (sym q ∙ c.answers ∙ ap length_read (long-read h k)))
@@ -174,12 +176,12 @@ module _ (cells : List Cell) (ss : List Statement) (l v kind : ℕ) (before : Li
               (λ h k. (h, k)) (λ h k. refused-read (sym q ∙ c.answers ∙ ap length_read (fits_read h k)));
         }
 
-    pub ends-over : BothSound cells ss → most < number → Refuses no_figure 0 before after w → PlanConcluded cells ss l v kind before after (written_read w)
+    pub ends-over : BothSound cells ss → most < number → Refuses no_figure 0 before after w → PlanConcluded cells ss l v kind before after (answer_read w)
     ends-over sound h r =
         ends sound (rw (over-read h) (refuses-writes no_figure 0 before after w refl r)) (λ q. absurd (omega arith))
 
     pub ends-written : BothSound cells ss → number ≤ most → (middle : List ℕ) (end : ℕ) → PlanPut cells ss (kind_of kind) l v before middle end
-        → Closes plan_long end middle after w → PlanConcluded cells ss l v kind before after (written_read w)
+        → Closes plan_long end middle after w → PlanConcluded cells ss l v kind before after (answer_read w)
     ends-written sound h middle end put c =
         ends sound (rw (figure-read h) (put-closed plan_long refl put.put c)) (λ z. put.plan)
 

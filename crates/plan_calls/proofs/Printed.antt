@@ -1,11 +1,13 @@
 -- What is printed of two texts, from the promise of `write_plan` on tables of its own and a buffer of 65,536 bytes.
+use Rattle.std.specs.Prelude.{Result}
 use Rattle.common_laws.proofs.Base.{true≢false, List, ◌≡◌, refl, sym, ap, ◌∙◌, ℕ, arith, length}
 use Rattle.sizes.specs.Sizes as Size
 use Rattle.reading.specs.Choice.{pick}
 use Rattle.reading.specs.Refusal.{Read, refused, read, ◌>>=◌, ◌>>◌}
 use Rattle.reading.proofs.Bounds.{text-not-entry}
-use Rattle.writer.specs.declared.Written.{Written}
-use Rattle.writer.specs.Buffer.{left_by, written_read, ShownBy, Writes}
+use Rattle.reading.specs.Answer.{answer_read}
+use Rattle.reading.specs.declared.Refusal.{Refusal}
+use Rattle.writer.specs.Buffer.{left_by, ShownBy, Writes}
 use Rattle.writer.proofs.Buffer.{writes-prints}
 use Rattle.demands.specs.Outcome.{Given, Lent, Pair, entry, read_pair, zeroed, given_texts}
 use Rattle.demands.specs.Own.{own_tables}
@@ -29,8 +31,8 @@ text-left g checked m l v kind = from_entry (entry g m) refl
     from_entry (refused number line) e = rw (e, entry-number g checked m number line e) refl
     from_entry (read u) e = from_pair e (read_pair g) refl
 
-module _ (lib net before : List ℕ) (l v kind : ℕ) (mid : Lent) (w : Written)
-    (p : PlanPromised (given_texts lib net) (own_tables before) mid l v kind (written_read w)) where
+module _ (lib net before : List ℕ) (l v kind : ℕ) (mid : Lent) (w : Result ℕ Refusal)
+    (p : PlanPromised (given_texts lib net) (own_tables before) mid l v kind (answer_read w)) where
   writes : Writes (plan_outcome (given_texts lib net) (own_tables before) l v kind) before mid.report w
   unfolding own_tables
   writes =
@@ -40,7 +42,7 @@ module _ (lib net before : List ℕ) (l v kind : ℕ) (mid : Lent) (w : Written)
             ∙ text-left (given_texts lib net) (texts-checked lib net) (own_tables before) l v kind;
       }
 
-  pub plan-printed : Size.report_bytes ≡ length mid.report → (after : List ℕ) (said : ℕ) → ShownBy (written_read w) mid.report after said
+  pub plan-printed : Size.report_bytes ≡ length mid.report → (after : List ℕ) (said : ℕ) → ShownBy (answer_read w) mid.report after said
       → PlanPrinted lib net l v kind before after said
   unfolding plan_printed own_tables ShownBy
   plan-printed long after said s =
@@ -48,7 +50,7 @@ module _ (lib net before : List ℕ) (l v kind : ℕ) (mid : Lent) (w : Written)
         bytes =
             rw (text-left (given_texts lib net) (texts-checked lib net) (own_tables before) l v kind) (writes-prints (omega arith) long writes s);
         tables = mid;
-        answer = written_read w;
+        answer = answer_read w;
         promised = p;
         shows = s;
         seen = λ n q. let t = rw q at s in rw (t.0, t.1) (p.seen n q);

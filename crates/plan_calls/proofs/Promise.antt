@@ -1,5 +1,6 @@
 -- From the parts of the call to its promise.
-use Rattle.common_laws.proofs.Base.{true, false, true≢false, ◌||◌, List, ◌≡◌, refl, sym, ap, subst, ◌∙◌, ℕ, arith, eqb-true, eqb, length, drop, replicate}
+use Rattle.std.specs.Prelude.{Ok, Err}
+use Rattle.common_laws.proofs.Base.{true, false, true≢false, List, ◌≡◌, refl, sym, ap, subst, ◌∙◌, ℕ, arith, eqb-true, eqb, length, drop, replicate}
 use Rattle.sizes.specs.Sizes as Size
 use Rattle.reading.specs.Choice.{pick}
 use Rattle.reading.specs.Numbers as No
@@ -18,9 +19,9 @@ use Rattle.demands.proofs.Acceptance.{read_as}
 use Rattle.demands.proofs.Given.{Checked}
 use Rattle.demands.proofs.Room.{entry-number, entry-short, pair-number, pair-sound}
 use Rattle.demands.proofs.Numbers.{numbers-stand}
-use Rattle.analysis_texts.specs.declared.Progress.{Progress}
-use Rattle.analysis_texts.specs.declared.Progress.TheVariants.{Unrefused, AtEntry, Later}
-use Rattle.analysis_texts.specs.Progress.{Reached}
+use Rattle.analysis_texts.specs.declared.Stop.{Stop}
+use Rattle.analysis_texts.specs.declared.Stop.TheVariants.{AtEntry, Later}
+use Rattle.analysis_texts.specs.Progress.{Progress, refusal_of, left_at, Reached}
 use Rattle.analysis_texts.proofs.Reached.{stands_hold, zeroed-same}
 use Rattle.plan_calls.specs.Concluded.{plan_read, PlanConcluded, PlanMade}
 use Rattle.plan_calls.specs.Promise.{own_number, plan_outcome, tables_filled, plan_filled, plan_later, plan_from, plan_left, PlanSeen, PlanRefusals, PlanPromised}
@@ -165,7 +166,7 @@ module _ (g : Given) (m : Lent) (l v kind : ℕ) where
     -- ---- from where reading left the call
 
     module _ (library' netlist' : List ℕ) (s : Progress) (h : Reached g (entry g m) m.library m.netlist library' netlist' s) where
-      pub call-entry : (r : Refusal) → s ≡ AtEntry r
+      call-entry : (r : Refusal) → s ≡ Err (AtEntry r)
           → PlanPromised g m (lent_of library' netlist' m.numbers m.report) l v kind (refused r.number r.line)
       unfolding Reached plan_outcome length_read plan_left plan_from ◌>>◌
       call-entry r e =
@@ -173,7 +174,7 @@ module _ (g : Given) (m : Lent) (l v kind : ℕ) where
           keeps _ (refused r.number r.line) (rw q.0 refl) (rw q.0 (λ i. lent_of (q.1 i) (q.2 i) m.numbers m.report))
           (λ p a b. refused-read (sym q.0 ∙ a))
 
-      pub call_later : (r : Refusal) → s ≡ Later r → length library' ≡ length m.library → length netlist' ≡ length m.netlist
+      call_later : (r : Refusal) → s ≡ Err (Later r) → length library' ≡ length m.library → length netlist' ≡ length m.netlist
           → (after : Lent) → after ≡ zeroed (lent_of library' netlist' m.numbers m.report)
           → PlanPromised g m after l v kind (refused r.number r.line)
       unfolding Reached plan_outcome length_read plan_left plan_from plan_later ◌>>◌ ◌>>=◌
@@ -182,7 +183,14 @@ module _ (g : Given) (m : Lent) (l v kind : ℕ) where
           keeps after (refused r.number r.line) (rw (q.0, q.1) refl) (rw (q.0, q.1) (z ∙ zeroed-same m library' netlist' same-library same-netlist))
           (λ p a b. refused-read (sym q.1 ∙ b))
 
-      pub call-made : s ≡ Unrefused → (numbers' text' : List ℕ) (told : Read ℕ)
+      pub call-stopped : (stop : Stop) → s ≡ Err stop → length library' ≡ length m.library → length netlist' ≡ length m.netlist
+          → (after : Lent) → after ≡ left_at stop (lent_of library' netlist' m.numbers m.report) (zeroed (lent_of library' netlist' m.numbers m.report))
+          → (x : Refusal) → x ≡ refusal_of stop → PlanPromised g m after l v kind (refused x.number x.line)
+      unfolding left_at
+      call-stopped (AtEntry r) e same-library same-netlist after left x told = rw (left, told) (call-entry r e)
+      call-stopped (Later r) e same-library same-netlist after left x told = rw told (call_later r e same-library same-netlist after left)
+
+      pub call-made : s ≡ Ok tt → (numbers' text' : List ℕ) (told : Read ℕ)
           → ((cells : List Cell) (ss : List Statement) → Holds library' netlist' cells ss
           → PlanMade cells ss l v kind m.numbers m.report numbers' text' told)
           → PlanPromised g m (lent_of library' netlist' numbers' text') l v kind told

@@ -10,7 +10,7 @@
 pub mod end;
 
 ghost use Rattle.sizes.specs.Sizes as Size;
-ghost use Rattle.writer.specs.Buffer.{written_read};
+ghost use Rattle.reading.specs.Answer.{answer_read};
 ghost use Rattle.demands.specs.Answer.{lent_of};
 ghost use Rattle.demands.specs.Outcome.{given_texts};
 ghost use Rattle.analysis_texts.specs.Tables.{ZeroIfOwn};
@@ -18,10 +18,10 @@ ghost use Rattle.plan_calls.specs.Printed.{PlanPrinted};
 ghost use Rattle.plan_calls.specs.Promise.{PlanPromised};
 
 use crate::end::calculate_plan;
-use analysis_texts::entry::clear_all;
-use analysis_texts::{Progress, Tables, read_texts};
+use analysis_texts::entry::stopped_all;
+use analysis_texts::{Tables, read_texts};
 use netlist_table::Rules;
-use writer::Written;
+use reading::Refusal;
 
 // As `write_plan`, where the library and the netlist table may be the caller's own.
 pub fn write_plan_into(
@@ -35,12 +35,12 @@ pub fn write_plan_into(
     value: usize,
     kind: usize,
     tables: Tables,
-) -> Written
+) -> Result<usize, Refusal>
     requires { ZeroIfOwn tables Size.library library.old × ZeroIfOwn tables Size.netlist netlist.old }
     ensures { PlanPromised (given_texts lib.now net.now)
         (lent_of library.old netlist.old numbers.old text.old)
         (lent_of library.new netlist.new numbers.new text.new)
-        line value kind (written_read result) }
+        line value kind (answer_read result) }
 {
     let progress = read_texts(
         Rules::New,
@@ -52,14 +52,8 @@ pub fn write_plan_into(
         tables,
     );
     match progress {
-        Progress::AtEntry(r) => Written::Refused(r),
-        Progress::Later(r) => {
-            clear_all(library, netlist, numbers, text);
-            Written::Refused(r)
-        }
-        Progress::Unrefused => {
-            calculate_plan(library, netlist, numbers, text, line, value, kind)
-        }
+        Err(stop) => Err(stopped_all(stop, library, netlist, numbers, text)),
+        Ok(()) => calculate_plan(library, netlist, numbers, text, line, value, kind),
     }
 }
 
@@ -74,11 +68,11 @@ pub fn write_plan(
     line: usize,
     value: usize,
     kind: usize,
-) -> Written
+) -> Result<usize, Refusal>
     ensures { PlanPromised (given_texts lib.now net.now)
         (lent_of library.old netlist.old numbers.old text.old)
         (lent_of library.new netlist.new numbers.new text.new)
-        line value kind (written_read result) }
+        line value kind (answer_read result) }
 {
     write_plan_into(
         lib,

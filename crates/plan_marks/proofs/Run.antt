@@ -15,7 +15,6 @@ use Rattle.calculation.specs.Nodes.{Kind, combinational, sequential, kind_number
 use Rattle.calculation.specs.Calculation.{start}
 use Rattle.calculation.proofs.Places.{start-length, start-bounded}
 use Rattle.calculation.proofs.Prices.{own-figures}
-use Rattle.sweep_links.specs.Lines.{Links}
 use Rattle.sweep_turns.specs.Fits.{LinksFit}
 use Rattle.sweep_runs.specs.Order.{sweep_visits}
 use Rattle.calculation.specs.Stored.{Holds}
@@ -30,12 +29,12 @@ use Rattle.plan_marks.specs.Lowered.{setting_trace}
 use Rattle.plan_marks.proofs.Sweeps.{gates-length}
 use Rattle.plan_marks.proofs.Rest.{visits, trace-lower, visits-inside}
 
--- The links of accepted cells and statements, for the sweeps that set lines.
-pub links-fit : {library netlist links : List ℕ} {cells : List Cell} {ss : List Statement} → Holds library netlist cells ss → Links library netlist links
-    → (xs : List ℕ) → length xs ≡ Size.numbers → Bounded xs → (kind : ℕ) → kind ≤ 1 → LinksFit 0 kind library netlist links
-links-fit h linked xs n b zero f = (set-fits h linked combinational n b).links_fit
-links-fit h linked xs n b (suc zero) f = (set-fits h linked sequential n b).links_fit
-links-fit h linked xs n b (suc (suc kind)) f = absurd (omega arith)
+-- The tables of accepted cells and statements, for the sweeps that set lines.
+pub links-fit : {library netlist : List ℕ} {cells : List Cell} {ss : List Statement} → Holds library netlist cells ss
+    → (xs : List ℕ) → length xs ≡ Size.numbers → Bounded xs → (kind : ℕ) → kind ≤ 1 → LinksFit 0 kind library netlist
+links-fit h xs n b zero f = (set-fits h combinational n b).links_fit
+links-fit h xs n b (suc zero) f = (set-fits h sequential n b).links_fit
+links-fit h xs n b (suc (suc kind)) f = absurd (omega arith)
 
 module _ (kind : ℕ) (library netlist : List ℕ) where
   abbrev pub run-visits : List Visit

@@ -24,7 +24,7 @@ use Rattle.plan_marks.specs.Marks.{row_place, gate_row, last_pin, written_row, a
 use Rattle.plan_marks.specs.Visits.{Fits, turn_visit, Traced}
 use Rattle.plan_marks.proofs.Marks.{stands-still, stands-lowered}
 
-module _ (kind : ℕ) (library netlist links numbers marks : List ℕ) (fits : Fits kind library netlist links numbers marks) (g e : ℕ) (inside : g < get_or netlist 0 0) (value : e ≤ 1)
+module _ (kind : ℕ) (library netlist numbers marks : List ℕ) (fits : Fits kind library netlist numbers marks) (g e : ℕ) (inside : g < get_or netlist 0 0) (value : e ≤ 1)
     (lines : List ℕ) (pins group : ℕ) (lines_are : lines ≡ gate_lines netlist g) (pins-are : pins ≡ gate_pins library netlist g)
     (group_is : group ≡ group_place (gate_cell netlist g) (visit_group 0 kind e)) where
   gate-fits : GateFits library netlist g

@@ -8,8 +8,8 @@ use Rattle.sweep_runs.specs.Asleep.{Resting}
 use Rattle.plan_marks.specs.Visits.{Fits}
 
 -- A sweep from a time on: gates that are asleep are idle.
-pub record SweepFits (kind : ℕ) (library netlist links numbers marks awake : List ℕ) (clock : ℕ) : Type 0 where
-  pub fits : Fits kind library netlist links numbers marks
+pub record SweepFits (kind : ℕ) (library netlist numbers marks awake : List ℕ) (clock : ℕ) : Type 0 where
+  pub fits : Fits kind library netlist numbers marks
   pub timed : clock + 2 * Size.gates < 2 ^ 32
   pub resting : Resting 0 kind library netlist awake numbers
 

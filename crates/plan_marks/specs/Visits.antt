@@ -9,19 +9,18 @@ use Rattle.sweep_turns.specs.Fits.{LinksFit}
 use Rattle.sweep_turns.specs.Renewed.{Swept}
 use Rattle.plan_marks.specs.Marks.{Stands}
 
--- The tables, the links and the arrays beside them.
-pub record Fits (kind : ℕ) (library netlist links numbers marks : List ℕ) : Type 0 where
-  pub links_fit : LinksFit 0 kind library netlist links
+-- The tables and the arrays beside them.
+pub record Fits (kind : ℕ) (library netlist numbers marks : List ℕ) : Type 0 where
+  pub links_fit : LinksFit 0 kind library netlist
   pub size : length numbers ≡ Size.numbers
   pub bounded : Bounded numbers
   pub marks_size : length marks ≡ Size.marks
 
--- The two visits of a gate, from a time on, with the set of gates that are awake.
-pub record GateFits (kind : ℕ) (library netlist links numbers marks awake : List ℕ) (gate clock : ℕ) : Type 0 where
-  pub fits : Fits kind library netlist links numbers marks
+-- The two visits of a gate, from a time on.
+pub record GateFits (kind : ℕ) (library netlist numbers marks : List ℕ) (gate clock : ℕ) : Type 0 where
+  pub fits : Fits kind library netlist numbers marks
   pub inside : gate < get_or netlist 0 0
   pub timed : clock + 2 < 2 ^ 32
-  pub awake_size : length awake ≡ Size.awake_words
 
 -- The visit of a gate's output at a value, of the visits by turn.
 abbrev pub turn_visit : ℕ → List ℕ → List ℕ → ℕ → ℕ → Visit

@@ -4,29 +4,31 @@
 // For the crates above: `least_in`, `first_row`, `as_written` and `asking_columns`, over the library table and the costs of a
 // gate's columns. specs/Rows.antt has what they answer.
 ghost use Rattle.std.specs.Prelude.{◌≡◌};
+ghost use Rattle.cost.specs.Kind.{kind_index};
 ghost use Rattle.plans.specs.Sweep.{least};
 ghost use Rattle.sweep_sums.specs.Sums.{Summed};
 ghost use Rattle.sweep_groups.specs.Fits.{ReadFits, LeastFits};
 ghost use Rattle.sweep_groups.specs.Tables.{read_row, group_columns};
 ghost use Rattle.plan_marks.specs.Rows.{as_written, asking_columns, FirstOf};
 
+use cost::Kind;
+use library_table::Heading;
 use sweep_groups::{is_way, least_sum, least_wired, read_sum};
-use sweep_sums::kinds::wide;
 use sweep_sums::{Sum, is_lower};
 use sweep_wires::once;
 
 // The least row sum of a group, as `least_of` of crate `sweep_groups` has it, which the sweeps of an analysis alone call.
 pub fn least_in(
     wired: bool,
-    kind: usize,
+    kind: Kind,
     library: &[u32],
     group: usize,
     lines: &[u32; sizes::GATE_LINES],
     pins: usize,
     costs: &[u32; sizes::COLUMNS],
 ) -> Sum
-    requires { LeastFits wired kind library.now group pins costs.now }
-    ensures { Summed kind (least costs.now (group_columns
+    requires { LeastFits wired (kind_index kind) library.now group pins costs.now }
+    ensures { Summed (kind_index kind) (least costs.now (group_columns
         (read_row wired lines.now pins) library.now group)) result }
 {
     if wired {
@@ -38,7 +40,7 @@ pub fn least_in(
 // The first row of a group, from 0, that comes to the least row sum.
 pub fn first_row(
     wired: bool,
-    kind: usize,
+    kind: Kind,
     library: &[u32],
     group: usize,
     lines: &[u32; sizes::GATE_LINES],
@@ -46,15 +48,14 @@ pub fn first_row(
     costs: &[u32; sizes::COLUMNS],
     lowest: Sum,
 ) -> usize
-    requires { LeastFits wired kind library.now group pins costs.now
-        × Summed kind (least costs.now (group_columns (read_row wired lines.now pins) library.now group))
+    requires { LeastFits wired (kind_index kind) library.now group pins costs.now
+        × Summed (kind_index kind) (least costs.now (group_columns (read_row wired lines.now pins) library.now group))
         lowest }
     ensures { FirstOf (read_row wired lines.now pins) library.now group
         costs.now result }
 {
-    let rows = wide(library[group]);
-    let mut row = 0;
-    while row < rows {
+    let rows = library[group] as usize;
+    for row in 0..rows {
         let at = group + 1 + sizes::ROW_WORDS * row;
         let depth = library[at];
         let columns = library[at + 1];
@@ -64,20 +65,16 @@ pub fn first_row(
                 return row;
             }
         }
-        row += 1;
     }
-    row
+    rows
 }
 
 // A row as its entry writes it, by its cell's heading.
 pub fn as_written(heading: u32, depth: u32, columns: u32) -> u32
     ensures { result ≡ as_written heading depth columns }
 {
-    if heading == 0 {
-        ((columns as u64 * 2 + depth as u64) % 4294967296) as u32
-    } else {
-        ((columns as u64 * 8 + depth as u64) % 4294967296) as u32
-    }
+    let depths = Heading::told(heading).depths();
+    columns.wrapping_mul(depths).wrapping_add(depth)
 }
 
 // The columns by which a row asks that is a way.

@@ -10,20 +10,22 @@ ghost use Rattle.std.specs.Prelude.{[], ◌∷◌, ◌≡◌, ◌+◌, ◌^◌, 
 ghost use Rattle.std.proofs.lemmas.List.Edits.{sets};
 ghost use Rattle.sizes.specs.Sizes as Size;
 ghost use Rattle.sizes.specs.Places.{mark_place};
+ghost use Rattle.cost.specs.Kind.{kind_index};
 ghost use Rattle.sweep_turns.specs.Order.{gate_visits};
 ghost use Rattle.sweep_turns.specs.Wakes.{ChangesWoken};
 ghost use Rattle.plan_marks.specs.Visits.{Fits, GateFits, turn_visit, Traced};
 
 use crate::rows::{as_written, asking_columns, first_row, least_in};
+use cost::Kind;
 use netlist_table::gates::{place_of, unchecked};
 use sweep_groups::cell_place;
 use sweep_groups::gather::column_costs;
-use sweep_groups::turns::{SETTING, visit_group, visit_place};
+use sweep_groups::turns::{Role, visit_group, visit_place};
 use sweep_links::awake::wake_readers;
+use sweep_links::circuit::Circuit;
 use sweep_links::is_tied;
-use sweep_sums::kinds::wide;
 use sweep_sums::lesser_of;
-use sweep_turns::visits::{either, store};
+use sweep_turns::visits::store;
 use table::word;
 
 // Notes the visit of a line at a value, with the row that it took as it is written, the columns by which
@@ -41,7 +43,7 @@ fn note(
     ensures { marks.new ≡ sets marks.old (mark_place line value)
         (visit ∷ row ∷ columns ∷ last ∷ []) }
 {
-    let at = (wide(line) * sizes::VALUES + value) * sizes::MARK_WORDS;
+    let at = (line as usize * sizes::VALUES + value) * sizes::MARK_WORDS;
     marks[at] = visit;
     marks[at + 1] = row;
     marks[at + 2] = columns;
@@ -51,41 +53,50 @@ fn note(
 // A visit to a gate's output at a value, at a time: lowers its number to the least row sum, and notes
 // the row, which is looked for only then. Whether it was lowered.
 fn visit(
-    kind: usize,
-    library: &[u32],
-    netlist: &[u32],
-    links: &[sizes::Link; sizes::LINKS],
+    kind: Kind,
+    circuit: &Circuit,
     gate: usize,
     value: usize,
     clock: u32,
     numbers: &mut [u32; sizes::NUMBERS],
     marks: &mut [u32; sizes::MARKS],
 ) -> bool
-    requires { Fits kind library.now netlist.now links.now numbers.old marks.old
-        × (gate < get_or netlist.now 0 0) × (value ≤ 1) × (clock + 1 < 2 ^ 32) }
-    ensures { Traced kind library.now netlist.now
-        (turn_visit kind library.now netlist.now gate value ∷ []) clock
+    requires { Fits (kind_index kind) circuit.now.library.now circuit.now.netlist.now numbers.old marks.old
+        × (gate < get_or circuit.now.netlist.now 0 0) × (value ≤ 1) × (clock + 1 < 2 ^ 32) }
+    ensures { Traced (kind_index kind) circuit.now.library.now circuit.now.netlist.now
+        (turn_visit (kind_index kind) circuit.now.library.now circuit.now.netlist.now gate value ∷ []) clock
         numbers.old marks.old numbers.new marks.new result }
 {
-    let cell = cell_place(netlist, gate);
-    let pins = wide(library[cell + sizes::PINS_AT]);
-    let lines = unchecked::lines_of(netlist, gate);
+    let cell = cell_place(circuit.netlist, gate);
+    let pins = circuit.library[cell + sizes::PINS_AT] as usize;
+    let lines = unchecked::lines_of(circuit.netlist, gate);
     let mut costs = [0u32; sizes::COLUMNS];
-    column_costs(true, SETTING, kind, &lines, pins, numbers, &mut costs);
-    let group = cell + sizes::GROUPS_AT + visit_group(SETTING, kind, value) * sizes::GROUP_WORDS;
-    let place = visit_place(SETTING, kind, &lines, pins, value);
-    let wired = is_tied(links, gate);
-    let lowest = least_in(wired, kind, library, group, &lines, pins, &costs);
+    column_costs(true, Role::Setting, kind, &lines, pins, numbers, &mut costs);
+    let group = cell
+        + sizes::GROUPS_AT
+        + visit_group(Role::Setting, kind, value) * sizes::GROUP_WORDS;
+    let place = visit_place(Role::Setting, kind, &lines, pins, value);
+    let wired = is_tied(circuit.links, gate);
+    let lowest = least_in(wired, kind, circuit.library, group, &lines, pins, &costs);
     let sum = lesser_of(numbers[place], lowest);
     if !store(numbers, place, sum) {
         return false;
     }
-    let first = first_row(wired, kind, library, group, &lines, pins, &costs, lowest);
+    let first = first_row(
+        wired,
+        kind,
+        circuit.library,
+        group,
+        &lines,
+        pins,
+        &costs,
+        lowest,
+    );
     let row = group + 1 + sizes::ROW_WORDS * first;
-    let columns = word(library, row + 1);
+    let columns = word(circuit.library, row + 1);
     let written = as_written(
-        word(library, cell + sizes::HEADING_AT),
-        word(library, row),
+        word(circuit.library, cell + sizes::HEADING_AT),
+        word(circuit.library, row),
         columns,
     );
     let asking = asking_columns(wired, &lines, pins, columns);
@@ -104,41 +115,31 @@ fn visit(
 // A gate's two visits from a time on, "the output's 0 before its 1"; where one lowers its number, the gates that read
 // the line are woken. Whether one did.
 pub fn visit_gate(
-    kind: usize,
-    library: &[u32],
-    netlist: &[u32],
-    links: &[sizes::Link; sizes::LINKS],
+    kind: Kind,
+    circuit: &Circuit,
     gate: usize,
     clock: u32,
     numbers: &mut [u32; sizes::NUMBERS],
     marks: &mut [u32; sizes::MARKS],
     awake: &mut [u64; sizes::AWAKE_WORDS],
 ) -> bool
-    requires { GateFits kind library.now netlist.now links.now numbers.old marks.old
-        awake.old gate clock }
-    ensures traced { Traced kind library.now netlist.now
-        (gate_visits 0 kind library.now netlist.now gate) clock
+    requires { GateFits (kind_index kind) circuit.now.library.now circuit.now.netlist.now numbers.old marks.old
+        gate clock }
+    ensures traced { Traced (kind_index kind) circuit.now.library.now circuit.now.netlist.now
+        (gate_visits 0 (kind_index kind) circuit.now.library.now circuit.now.netlist.now gate) clock
         numbers.old marks.old numbers.new marks.new result }
-    ensures wakes { ChangesWoken 0 kind library.now netlist.now awake.old
+    ensures wakes { ChangesWoken 0 (kind_index kind) circuit.now.library.now circuit.now.netlist.now awake.old
         numbers.old awake.new numbers.new }
 {
-    let at_zero = visit(
-        kind, library, netlist, links, gate, 0, clock, numbers, marks,
-    );
-    let at_one = visit(
-        kind,
-        library,
-        netlist,
-        links,
-        gate,
-        1,
-        clock + 1,
-        numbers,
-        marks,
-    );
-    if !either(at_zero, at_one) {
+    let at_zero = visit(kind, circuit, gate, 0, clock, numbers, marks);
+    let at_one = visit(kind, circuit, gate, 1, clock + 1, numbers, marks);
+    if !(at_zero | at_one) {
         return false;
     }
-    wake_readers(awake, links, unchecked::line_of(netlist, gate, 0));
+    wake_readers(
+        awake,
+        circuit.links,
+        unchecked::line_of(circuit.netlist, gate, 0),
+    );
     true
 }

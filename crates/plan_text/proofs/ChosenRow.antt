@@ -1,6 +1,6 @@
 -- What a mark tells: which gate serves a purpose, in which role and by which row, that what the row asks for was last lowered
 -- earlier, and that it sums to the number.
-use Rattle.common_laws.proofs.Base.{List, [], ◌∷◌, List-as-Memᴰ, Memᴰ-map, Memᴰ-of-map, map, ◌⊎◌, inl, inr, Option, none, some, ◌≡◌, refl, sym, ap, subst, ◌∙◌, ℕ, suc, ◌+◌, ◌≤◌, ◌<◌}
+use Rattle.common_laws.proofs.Base.{List, List-as-Memᴰ, Memᴰ-map, Memᴰ-of-map, map, ◌⊎◌, inl, inr, Option, none, some, ◌≡◌, refl, sym, ap, subst, ◌∙◌, ℕ, suc, ◌≤◌, ◌<◌}
 use Rattle.common_laws.proofs.Base.{arith, length, get_or, length-map}
 use Rattle.common_laws.proofs.Lists.{get_d_map}
 use Rattle.cost.specs.Cost.{most}

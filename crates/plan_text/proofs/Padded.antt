@@ -1,14 +1,14 @@
 -- Outputs that are added, as pads are, change no setting plan's text: the setting plans of a route are those that K3 writes.
 -- No code cites this page yet: request E1 is to (D196).
-use Rattle.common_laws.proofs.Base.{List, [], ◌∷◌, ◌++◌, map, List-as-Memᴰ, List-Memᴰ-head, List-Memᴰ-tail, append-nil, append_assoc, Option, none, some, ◌≡◌, refl, sym, ap, ap₂}
-use Rattle.common_laws.proofs.Base.{subst, ◌∙◌, ℕ, zero, suc, ◌%◌, ◌≤◌, ◌<◌, dec_lt, arith, length, get_or, List-get_or-eq-default}
+use Rattle.common_laws.proofs.Base.{List, [], ◌∷◌, ◌++◌, map, List-as-Memᴰ, List-Memᴰ-head, List-Memᴰ-tail, append-nil, append_assoc, Option, none, some, ◌≡◌, refl, ap, ap₂}
+use Rattle.common_laws.proofs.Base.{◌∙◌, ℕ, zero, suc, ◌%◌, ◌<◌, dec_lt, arith, length, get_or, List-get_or-eq-default}
 use Rattle.plans.specs.Trace.{Mark}
 use Rattle.library_table.specs.Cells.{Row, Cell, Column, no_row}
 use Rattle.netlist_table.specs.Netlist.{Gate, Statement, mark, output, gates_of}
 use Rattle.netlist_table.proofs.Pad.{pad-gates, pad-inputs, pad-outputs, pad-prices}
 use Rattle.calculation.specs.Prices.{prices_of}
 use Rattle.calculation.specs.Nodes.{Kind, Purpose, set}
-use Rattle.calculation.specs.Ways.{cell_of, pin_line, asked, Role, setting, asks, Turn, setting_turns}
+use Rattle.calculation.specs.Ways.{cell_of, pin_line, asked, Role, asks, Turn, setting_turns}
 use Rattle.calculation.specs.Acceptance.{BothSound}
 use Rattle.calculation.specs.Added.{OutputsAdded}
 use Rattle.calculation.specs.Pads.{padded}

@@ -10,7 +10,7 @@ use Rattle.plans.specs.Sweep.{at, sums, way}
 use Rattle.plans.specs.Trace.{Mark}
 use Rattle.library_table.specs.Cells.{Row, Cell, Column}
 use Rattle.netlist_table.specs.Netlist.{Gate, Statement, gates_of, is_input, is_output}
-use Rattle.calculation.specs.Prices.{input_cost, prices_of}
+use Rattle.calculation.specs.Prices.{prices_of}
 use Rattle.calculation.specs.Nodes.{Kind, Purpose, set, observe, node}
 use Rattle.calculation.specs.Ways.{cell_of, asked, needs, Role, setting, observing, purpose_of, group_of, asks, is_way, way_of}
 use Rattle.calculation.specs.Acceptance.{BothSound}

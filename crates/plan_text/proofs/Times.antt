@@ -1,5 +1,5 @@
 -- A mark's time is before the end of the sweeps, which are few.
-use Rattle.common_laws.proofs.Base.{List, [], ◌∷◌, ◌⊎◌, inl, inr, Option, none, some, Option-some-injective, Option-none-ne-some, ◌≡◌, refl, sym, ap, subst, ◌∙◌, ℕ, zero, suc, ◌+◌}
+use Rattle.common_laws.proofs.Base.{List, [], ◌∷◌, ◌⊎◌, inl, inr, Option, none, some, Option-some-injective, Option-none-ne-some, ◌≡◌, sym, ap, subst, ◌∙◌, ℕ, zero, suc, ◌+◌}
 use Rattle.common_laws.proofs.Base.{◌*◌, ◌≤◌, ◌<◌, ℕ_discrete, dec_lt, arith, lt-ltb, le-ltb, length, get_or, set, replicate, length-replicate, get_or-replicate, List-get_or-eq-default}
 use Rattle.common_laws.proofs.Base.{get_or-set_same, get_or-set_other, set_out}
 use Rattle.sizes.specs.Sizes as Size

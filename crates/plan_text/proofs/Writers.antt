@@ -2,19 +2,19 @@
 use Rattle.common_laws.proofs.Base.{List, [], ◌∷◌, ◌++◌, ◌≡◌, refl, sym, ap, ◌∙◌, ℕ, zero, suc, ◌+◌, ◌-◌, ◌/◌, ◌%◌, ◌^◌, ◌≤◌, ◌<◌, add-one, arith, lt-ltb, le-ltb, ltb-true, bit_and}
 use Rattle.common_laws.proofs.Base.{count_trailing_zeros, ltb, length}
 use Rattle.common_laws.proofs.Lists.{sets-past}
-use Rattle.sizes.specs.Sizes as Size
 use Rattle.reading.specs.Choice.{pick}
 use Rattle.reading.proofs.Laws.{by_test}
-use Rattle.writer.specs.Put.{Put}
-use Rattle.writer.proofs.Steps.{put-none, put_then}
+use Rattle.writer.specs.Put.{Puts}
+use Rattle.writer.specs.declared.bytes.Cursor.{Cursor}
+use Rattle.writer.proofs.Steps.{puts-none, puts_then}
 use Rattle.sweep_sums.proofs.Columns.{no_places, lowest_first}
 use Rattle.plan_text.specs.PlanText.{node_line, joined}
 use Rattle.plan_text.specs.Writers.{visit_at, row_at, last_at, columns_at, goal_at, goals, goal_row, goal_line, levels, line_bytes, row_bytes}
 
 -- ---- a cursor past the buffer's end
 
-pub put-past : (at : ℕ) (vs l : List ℕ) → length l < at → Put at vs l l at
-put-past at vs l h = record { stored = sym (sets-past vs l at (omega arith)); moved = omega arith }
+pub puts-past : (c : Cursor) (vs : List ℕ) → length c.buffer.now < c.at → Puts vs c c
+puts-past c vs h = record { lent = refl; put = record { stored = sym (sets-past vs c.buffer.now c.at (omega arith)); moved = omega arith } }
 
 -- ---- levels enough
 
@@ -85,28 +85,27 @@ module _ (marks netlist : List ℕ) where
 
   -- ---- what the two writers leave
 
-  module _ (before depth goal : ℕ) {at next end : ℕ} {out out₁ out₂ : List ℕ} where
+  module _ (before depth goal : ℕ) {out out₁ out₂ : Cursor} where
     pub line-put : (visit row columns last : ℕ) → visit ≡ visit_at marks goal → row ≡ row_at marks goal → columns ≡ columns_at marks goal → last ≡ last_at marks goal → visit < before
-        → Put at (node_line depth (goal / 2) (goal % 2) (goal_row visit row)) out out₁ next
-        → Put next (row_bytes marks netlist visit (depth + 1) last columns) out₁ out₂ end
-        → Put at (line_bytes marks netlist before depth goal) out out₂ end
+        → Puts (node_line depth (goal / 2) (goal % 2) (goal_row visit row)) out out₁
+        → Puts (row_bytes marks netlist visit (depth + 1) last columns) out₁ out₂
+        → Puts (line_bytes marks netlist before depth goal) out out₂
     unfolding goal_line
     line-put visit row columns last v d c l below p q =
         rw (line-some before depth goal (rw v at below))
-        (put_then (rw (v, d) at p) (rw (v, c, l, add-one depth) at q))
+        (puts_then (rw (v, d) at p) (rw (v, c, l, add-one depth) at q))
 
   -- Whatever the rest of a row puts from here, the whole row puts from its start.
-  abbrev pub Puts : ℕ → ℕ → ℕ → ℕ → List ℕ → ℕ → ℕ → ℕ → List ℕ → Type 0
-  Puts before depth last at out columns rest next now =
-      (end : ℕ) (after : List ℕ) → Put next (row_bytes marks netlist before depth last rest) now after end
-      → Put at (row_bytes marks netlist before depth last columns) out after end
+  abbrev pub PutsRest : ℕ → ℕ → ℕ → Cursor → ℕ → ℕ → Cursor → Type 0
+  PutsRest before depth last out columns rest now =
+      (after : Cursor) → Puts (row_bytes marks netlist before depth last rest) now after → Puts (row_bytes marks netlist before depth last columns) out after
 
-  module _ (before depth last at columns : ℕ) (out : List ℕ) where
-    pub puts-more : (rest : ℕ) {next then : ℕ} {now now₁ : List ℕ} → 0 < rest → rest < 2 ^ 32 → (goal : ℕ) → goal ≡ goal_at netlist last (count_trailing_zeros 32 rest)
-        → Put next (line_bytes marks netlist before depth goal) now now₁ then → Puts before depth last at out columns rest next now
-        → Puts before depth last at out columns (bit_and rest (rest - 1)) then now₁
-    puts-more rest some few goal e p h end after q = h end after (rw (row_some before depth last rest some few) (put_then (rw e at p) q))
+  module _ (before depth last columns : ℕ) (out : Cursor) where
+    pub rest-more : (rest : ℕ) {now now₁ : Cursor} → 0 < rest → rest < 2 ^ 32 → (goal : ℕ) → goal ≡ goal_at netlist last (count_trailing_zeros 32 rest)
+        → Puts (line_bytes marks netlist before depth goal) now now₁ → PutsRest before depth last out columns rest now
+        → PutsRest before depth last out columns (bit_and rest (rest - 1)) now₁
+    rest-more rest some few goal e p h after q = h after (rw (row_some before depth last rest some few) (puts_then (rw e at p) q))
 
-    pub puts-all : (rest : ℕ) {next : ℕ} {now : List ℕ} → rest ≤ 0 → Puts before depth last at out columns rest next now
-        → Put at (row_bytes marks netlist before depth last columns) out now next
-    puts-all rest {next} {now} none h = h next now (rw (row_none before depth last rest none) (put-none next now))
+    pub rest-all : (rest : ℕ) {now : Cursor} → rest ≤ 0 → PutsRest before depth last out columns rest now
+        → Puts (row_bytes marks netlist before depth last columns) out now
+    rest-all rest {now} none h = h now (rw (row_none before depth last rest none) (puts-none now))

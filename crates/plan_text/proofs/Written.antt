@@ -6,7 +6,9 @@ use Rattle.sizes.specs.Places.{heading_place, group_place, gate_place}
 use Rattle.reading.specs.Choice.{pick}
 use Rattle.table.proofs.Places.{getD_fitted}
 use Rattle.plans.specs.Trace.{Mark, mark_at}
-use Rattle.library_table.specs.Cells.{Heading, plain, deep, deepest, depth_bits, Row, row_value, Group, Cell, no_row, Column, pin, output}
+use Rattle.library_table.specs.Cells.{deepest, depth_bits, Row, row_value, Group, Cell, no_row, Column, pin, output}
+use Rattle.library_table.specs.declared.Heading.{Heading}
+use Rattle.library_table.specs.declared.Heading.TheVariants.{Plain as plain, Deep as deep}
 use Rattle.library_table.specs.Cells as C
 use Rattle.library_table.specs.Library.{column_count}
 use Rattle.library_table.specs.Layout.{library_words, heading_number}

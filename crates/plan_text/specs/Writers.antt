@@ -1,6 +1,6 @@
 -- What the two writers put, over the tables: the marks that crate `plan_marks` notes, and the netlist table. A goal is a line
 -- at a value, as twice the line and the value.
-use Rattle.std.specs.Prelude.{List, [], ◌∷◌, ◌++◌, ℕ, zero, suc, ◌+◌, ◌*◌, ◌-◌, ◌/◌, ◌%◌, ltb, eqb, get_or}
+use Rattle.std.specs.Prelude.{List, [], ◌++◌, ℕ, zero, suc, ◌+◌, ◌*◌, ◌-◌, ◌/◌, ◌%◌, ltb, eqb, get_or}
 use Rattle.sizes.specs.Sizes as Size
 use Rattle.reading.specs.Choice.{pick}
 use Rattle.writer.specs.Octal.{octal_bytes}

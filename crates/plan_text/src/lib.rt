@@ -8,65 +8,53 @@
 #![tactic(auto)]
 
 ghost use Rattle.std.specs.Prelude.{◌≡◌, ◌+◌, ◌-◌, ◌/◌, ◌%◌, ◌^◌, ◌<◌};
-ghost use Rattle.std.specs.Int.Count.{count_trailing_zeros};
-ghost use Rattle.writer.specs.Put.{Put};
+ghost use Rattle.cost.specs.Kind.{kind_index};
+ghost use Rattle.writer.specs.Put.{Puts};
 ghost use Rattle.plan_text.specs.Asked.{Askable, PutWhere};
 ghost use Rattle.plan_text.specs.PlanText.{node_line};
 ghost use Rattle.plan_text.specs.Writers.{goal_at, goal_row, line_bytes, row_bytes};
 
+use cost::Kind;
 use plan_marks::trace;
+use sweep_sums::bits::{lowest, others};
 use table::word;
-use writer::bytes::{put_byte, put_bytes, put_decimal, put_octal};
+use writer::bytes::Cursor;
 
 const COMMA: u8 = 44;
 
 const LINE_END: u8 = 10;
 
 // "The row is octal as its entry writes it, or `input`": no visit lowered an input's number.
-fn put_row(out: &mut [u8], at: usize, visit: u32, row: u32) -> usize
-    ensures { Put at (goal_row visit row) out.old out.new result }
+fn put_row(out: &mut Cursor, visit: u32, row: u32)
+    ensures { Puts (goal_row visit row) out.old out.new }
 {
     if visit == 0 {
-        put_bytes(out, at, b"input")
+        out.put_bytes(b"input");
     } else {
-        put_octal(out, at, row as u64)
+        out.put_octal(row as u64);
     }
 }
 
 // "depth in tree,line,value,row"
-fn put_node(out: &mut [u8], at: usize, depth: u32, goal: usize, visit: u32, row: u32) -> usize
+fn put_node(out: &mut Cursor, depth: u32, goal: usize, visit: u32, row: u32)
     requires { goal < 2 ^ 33 }
-    ensures { Put at (node_line depth (goal / 2) (goal % 2) (goal_row visit row)) out.old
-        out.new result }
+    ensures { Puts (node_line depth (goal / 2) (goal % 2) (goal_row visit row)) out.old out.new }
 {
-    let depth_end = put_decimal(out, at, depth);
-    let line = put_byte(out, depth_end, COMMA);
-    let line_end = put_decimal(out, line, (goal / 2) as u32);
-    let value = put_byte(out, line_end, COMMA);
-    let value_end = put_decimal(out, value, (goal % 2) as u32);
-    let row_at = put_byte(out, value_end, COMMA);
-    let row_end = put_row(out, row_at, visit, row);
-    put_byte(out, row_end, LINE_END)
-}
-
-// The lowest named column of a row that names one.
-fn lowest(columns: u32) -> u32
-    requires { 0 < columns }
-    ensures { result ≡ count_trailing_zeros 32 columns }
-{
-    u32::trailing_zeros(columns)
+    out.put_decimal(depth);
+    out.put_byte(COMMA);
+    out.put_decimal((goal / 2) as u32);
+    out.put_byte(COMMA);
+    out.put_decimal((goal % 2) as u32);
+    out.put_byte(COMMA);
+    put_row(out, visit, row);
+    out.put_byte(LINE_END);
 }
 
 // Where the line of a column's pin stands in the netlist table, from that of the last pin back.
 fn pin_place(last: u32, column: u32) -> usize
     ensures { result ≡ last - column / 2 }
 {
-    let back = column / 2;
-    if back <= last {
-        (last - back) as usize
-    } else {
-        0
-    }
+    last.saturating_sub(column / 2) as usize
 }
 
 // What a column asks for: a line at a value, as twice the line and the value.
@@ -82,57 +70,51 @@ fn goal_at(netlist: &[u32], last: u32, column: u32) -> usize
 // the text is not followed further.
 #[cycle(write_line_write_row)]
 fn write_line(
-    out: &mut [u8],
-    at: usize,
+    out: &mut Cursor,
     marks: &[u32; sizes::MARKS],
     netlist: &[u32],
     depth: u32,
     before: u32,
     goal: usize,
-) -> usize
+)
     requires { (depth + before < 2 ^ 32) × (goal < 2 ^ 33) }
-    ensures { Put at (line_bytes marks.now netlist.now before depth goal)
-        out.old out.new result }
+    ensures { Puts (line_bytes marks.now netlist.now before depth goal) out.old out.new }
 {
     let mark = goal * sizes::MARK_WORDS;
     let visit = word(marks, mark);
     if before <= visit {
-        return at;
+        return;
     }
-    if out.len() < at {
-        return at;
+    if out.buffer.len() < out.at {
+        return;
     }
     let columns = word(marks, mark + 2);
     let last = word(marks, mark + 3);
     let row = word(marks, mark + 1);
-    let next = put_node(out, at, depth, goal, visit, row);
-    write_row(out, next, marks, netlist, depth + 1, visit, columns, last)
+    put_node(out, depth, goal, visit, row);
+    write_row(out, marks, netlist, depth + 1, visit, columns, last);
 }
 
 // ".. and a row to each line it names, lowest column first"
 #[cycle(write_line_write_row)]
 fn write_row(
-    out: &mut [u8],
-    at: usize,
+    out: &mut Cursor,
     marks: &[u32; sizes::MARKS],
     netlist: &[u32],
     depth: u32,
     before: u32,
     columns: u32,
     last: u32,
-) -> usize
+)
     requires { depth + before < 2 ^ 32 }
-    ensures { Put at (row_bytes marks.now netlist.now before depth last columns)
-        out.old out.new result }
+    ensures { Puts (row_bytes marks.now netlist.now before depth last columns) out.old out.new }
 {
-    let mut next = at;
     let mut rest = columns;
     while 0 < rest {
         let goal = goal_at(netlist, last, lowest(rest));
-        next = write_line(out, next, marks, netlist, depth, before, goal);
-        rest = rest & (rest - 1);
+        write_line(out, marks, netlist, depth, before, goal);
+        rest = others(rest);
     }
-    next
 }
 
 // Above the visit of every mark.
@@ -146,21 +128,22 @@ pub fn put_cheapest(
     text: &mut [u8],
     line: usize,
     value: usize,
-    kind: usize,
+    kind: Kind,
 ) -> usize
-    requires { Askable library.now netlist.now line value kind }
-    ensures { PutWhere library.now netlist.now line value kind text.old
+    requires { Askable library.now netlist.now line value (kind_index kind) }
+    ensures { PutWhere library.now netlist.now line value (kind_index kind) text.old
         text.new result }
 {
     let mut marks = [0u32; sizes::MARKS];
     trace(kind, library, netlist, &mut marks);
+    let mut out = Cursor::new(text);
     write_line(
-        text,
-        0,
+        &mut out,
         &marks,
         netlist,
         0,
         ALL_VISITS,
         line * sizes::VALUES + value,
-    )
+    );
+    out.at
 }

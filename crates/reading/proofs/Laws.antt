@@ -6,7 +6,7 @@ pub use Rattle.common_laws.proofs.Tests.{by_test, clash, and_left, and_right, or
 use Rattle.reading.specs.Choice.{pick}
 use Rattle.reading.specs.Each.{Each}
 use Rattle.reading.specs.Refusal.{Read, refused, read, ◌>>=◌, ◌>>◌, weigh, form}
-use Rattle.reading.specs.Verdict.{done_read}
+use Rattle.reading.specs.Answer.{done_read}
 
 -- ---- choices
 

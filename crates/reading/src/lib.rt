@@ -1,75 +1,97 @@
 // What reading a text comes to: read, or refused by document 01's number and line. Beside the
 // definitions that every reader uses (specs/): `pick`, `Each`, `Read` with `weigh` and `form`, and the
-// refusal numbers, which have their one home here and in specs/Numbers.antt.
+// refusal numbers, which have their one home in specs/Numbers.antt, and in `Cause` for the code.
 //
-// Open to others: the types `Refusal` and `Verdict`, and the numbers.
+// Open to others: the types `Refusal` and `Cause`. A reader, and each call behind one, answers a
+// `Result` whose error is a `Refusal`; specs/Answer.antt says what it tells.
 #![tactic(auto)]
 
+ghost use Rattle.std.specs.Prelude.{◌≡◌};
+ghost use Rattle.reading.specs.Cause.{cause_number, refusal_at};
+
 // Why a text or a list of records is refused: document 01's number, and the line, or the place of a
-// record, from 1; 0 where neither is meant.
-#[derive(Clone, Copy)]
+// record, from 1; 0 where neither is meant. The number is one: C gets it, and what is printed may be any.
+#[derive(Clone, Copy, PartialEq, Eq)]
 pub struct Refusal {
     pub number: u32,
     pub line: usize,
 }
 
-// A reader's answer. `verdict_read` gives its cases.
-#[derive(Clone, Copy)]
-pub enum Verdict {
-    Accepted,
-    Refused(Refusal),
+// Why a line, a record or a whole text is refused, in the order of document 01's numbers (`number`).
+#[derive(Clone, Copy, PartialEq, Eq)]
+pub enum Cause {
+    // At entry: a lent table below its published size, a text that is too long.
+    TableShort,
+    TextLong,
+    // Of a library line.
+    LibraryForm,
+    NameUsed,
+    PinsBad,
+    GroupsBad,
+    BitAbove,
+    RowIdle,
+    CellsMany,
+    // Of a netlist line or a record.
+    NetlistForm,
+    LineBad,
+    CellUnknown,
+    PinsDiffer,
+    DrivenBefore,
+    MarkedBefore,
+    // Of the report. 16 is unused: a 1,001st gate is refused by 11 or 14 (K9).
+    ReportLong,
+    // Of a plan written out.
+    NoFigure,
+    PlanLong,
+    // Of a whole netlist, behind its lines.
+    Undeclared,
+    // Of a netlist line that prices an input within a range.
+    NotInput,
+    RangeBad,
+    // Of a pad: its line is not mentioned, or an output already; its ticket's count is not the present one.
+    Unpaddable,
+    TicketStale,
 }
 
-// At entry: a lent table below its published size, a text that is too long.
-pub const TABLE_SHORT: u32 = 1;
+impl Cause {
+    // Document 01's number.
+    pub fn number(self) -> u32
+        ensures { result ≡ cause_number self }
+    {
+        match self {
+            Cause::TableShort => 1,
+            Cause::TextLong => 2,
+            Cause::LibraryForm => 3,
+            Cause::NameUsed => 4,
+            Cause::PinsBad => 5,
+            Cause::GroupsBad => 6,
+            Cause::BitAbove => 7,
+            Cause::RowIdle => 8,
+            Cause::CellsMany => 9,
+            Cause::NetlistForm => 10,
+            Cause::LineBad => 11,
+            Cause::CellUnknown => 12,
+            Cause::PinsDiffer => 13,
+            Cause::DrivenBefore => 14,
+            Cause::MarkedBefore => 15,
+            Cause::ReportLong => 17,
+            Cause::NoFigure => 18,
+            Cause::PlanLong => 19,
+            Cause::Undeclared => 20,
+            Cause::NotInput => 21,
+            Cause::RangeBad => 22,
+            Cause::Unpaddable => 23,
+            Cause::TicketStale => 24,
+        }
+    }
 
-pub const TEXT_LONG: u32 = 2;
-
-// Of a library line.
-pub const LIBRARY_FORM: u32 = 3;
-
-pub const NAME_USED: u32 = 4;
-
-pub const PINS_BAD: u32 = 5;
-
-pub const GROUPS_BAD: u32 = 6;
-
-pub const BIT_ABOVE: u32 = 7;
-
-pub const ROW_IDLE: u32 = 8;
-
-pub const CELLS_MANY: u32 = 9;
-
-// Of a netlist line or a record.
-pub const NETLIST_FORM: u32 = 10;
-
-pub const LINE_BAD: u32 = 11;
-
-pub const CELL_UNKNOWN: u32 = 12;
-
-pub const PINS_DIFFER: u32 = 13;
-
-pub const DRIVEN_BEFORE: u32 = 14;
-
-pub const MARKED_BEFORE: u32 = 15;
-
-// Of the report. 16 is unused: a 1,001st gate is refused by 11 or 14 (K9).
-pub const REPORT_LONG: u32 = 17;
-
-// Of a plan written out.
-pub const NO_FIGURE: u32 = 18;
-
-pub const PLAN_LONG: u32 = 19;
-
-// Of a whole netlist, behind its lines.
-pub const UNDECLARED: u32 = 20;
-
-// Of a netlist line that prices an input within a range.
-pub const NOT_INPUT: u32 = 21;
-
-pub const RANGE_BAD: u32 = 22;
-
-// Of a pad: its line is not mentioned, or an output already; its ticket's count is not the present one.
-pub const UNPADDABLE: u32 = 23;
-
-pub const TICKET_STALE: u32 = 24;
+    // The refusal of a line, or of a record by its place; 0 where neither is meant.
+    pub fn at(self, line: usize) -> Refusal
+        ensures { result ≡ refusal_at self line }
+    {
+        Refusal {
+            number: self.number(),
+            line,
+        }
+    }
+}

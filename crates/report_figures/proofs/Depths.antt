@@ -5,8 +5,9 @@ use Prim.Native.String.{String}
 use Rattle.text.specs.Bytes.{text}
 use Rattle.reading.specs.Each.{Each}
 use Rattle.reading.specs.Refusal.{read}
-use Rattle.reading.specs.Verdict.{done_read}
-use Rattle.library_table.specs.Cells.{Cell, deep}
+use Rattle.reading.specs.Answer.{done_read}
+use Rattle.library_table.specs.Cells.{Cell}
+use Rattle.library_table.specs.declared.Heading.TheVariants.{Deep as deep}
 use Rattle.library_table.specs.Library.{library, library_open}
 use Rattle.report_figures.specs.Entries.{c1130_deep, delay}
 use Rattle.report_figures.specs.Figures.{Holds, outcome_open, lent, reported, c1130_figure}

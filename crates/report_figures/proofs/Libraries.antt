@@ -5,8 +5,9 @@ use Prim.Native.String.{String}
 use Rattle.text.specs.Bytes.{bytes, text}
 use Rattle.reading.specs.Each.{Each}
 use Rattle.reading.specs.Refusal.{refused, read}
-use Rattle.reading.specs.Verdict.{done_read}
-use Rattle.library_table.specs.Cells.{plain, Row, Cell}
+use Rattle.reading.specs.Answer.{done_read}
+use Rattle.library_table.specs.Cells.{Row, Cell}
+use Rattle.library_table.specs.declared.Heading.TheVariants.{Plain as plain}
 use Rattle.library_table.specs.Library.{library, library_open}
 use Rattle.report_figures.specs.Entries.{c1130, c1490, nand2}
 

@@ -3,7 +3,8 @@
 use Rattle.common_laws.proofs.Base.{List, [], ◌∷◌, ◌≡◌, refl, ℕ}
 use Rattle.text.specs.Bytes.{bytes, text}
 use Rattle.reading.specs.Refusal.{Read, refused, read}
-use Rattle.library_table.specs.Cells.{plain, Cell}
+use Rattle.library_table.specs.Cells.{Cell}
+use Rattle.library_table.specs.declared.Heading.TheVariants.{Plain as plain}
 use Rattle.netlist_table.specs.declared.Rules.TheVariants.{Old, New}
 use Rattle.netlist_table.specs.Netlist.{Statement, input, output, opened, mark, gate, netlist, netlist_open}
 

@@ -5,8 +5,8 @@ use Prim.Native.String.{String}
 use Rattle.text.specs.Bytes.{bytes, text}
 use Rattle.reading.specs.Each.{Each}
 use Rattle.reading.specs.Refusal.{read}
-use Rattle.reading.specs.Verdict.{done_read}
-use Rattle.library_table.specs.Cells.{plain}
+use Rattle.reading.specs.Answer.{done_read}
+use Rattle.library_table.specs.declared.Heading.TheVariants.{Plain as plain}
 use Rattle.library_table.specs.Library.{library, library_open}
 use Rattle.report_figures.specs.Entries.{and2, tie0, tie1}
 use Rattle.report_figures.specs.Figures.{Holds, outcome_open, lent, reported}

@@ -6,7 +6,8 @@ use Rattle.sizes.specs.Sizes as Size
 use Rattle.text.specs.Bytes.{text, bytes_open}
 use Rattle.reading.specs.Each.{Each}
 use Rattle.reading.specs.Refusal.{Read, refused, read}
-use Rattle.library_table.specs.Cells.{Column, plain, pin, observe, row_of, named, setting_columns, observing_columns}
+use Rattle.library_table.specs.Cells.{Column, pin, observe, row_of, named, setting_columns, observing_columns}
+use Rattle.library_table.specs.declared.Heading.TheVariants.{Plain as plain}
 use Rattle.library_table.specs.Library.{library_open}
 use Rattle.netlist_table.specs.Netlist.{netlist_open}
 use Rattle.calculation.specs.Calculation.{calculation_open}

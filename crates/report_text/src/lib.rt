@@ -11,13 +11,13 @@ ghost use Rattle.sizes.specs.Sizes as Size;
 ghost use Rattle.reading.specs.Choice.{pick};
 ghost use Rattle.netlist_table.specs.Lines.{highest_mentioned};
 ghost use Rattle.writer.specs.Decimal.{decimal_bytes};
-ghost use Rattle.writer.specs.Put.{Put};
+ghost use Rattle.writer.specs.Put.{Put, Puts};
 ghost use Rattle.report_text.specs.Report.{cost_bytes, costs_from, line_bytes, lines_bytes, sweeps_bytes, high_line};
 ghost use Rattle.report_text.specs.Arguments.{marked, report_of};
 
 use calculation::Counts;
 use netlist_table::lines;
-use writer::bytes::{put_byte, put_bytes, put_decimal};
+use writer::bytes::Cursor;
 
 const COMMA: u8 = 44;
 
@@ -25,62 +25,46 @@ const LINE_END: u8 = 10;
 
 const COSTS: u32 = sizes::COSTS as u32;
 
-fn put_cost(report: &mut [u8], at: usize, x: u32) -> usize
-    ensures { Put at (cost_bytes x) report.old report.new result }
+#[tactic(auto, unfolding(crate::specs::Report::cost_bytes, reading::specs::Choice::pick, text::specs::Bytes::bytes))]
+fn put_cost(report: &mut Cursor, x: u32)
+    ensures { Puts (cost_bytes x) report.old report.new }
 {
     if cost::NEVER <= x {
-        return put_bytes(report, at, b"never");
+        report.put_bytes(b"never");
+    } else if x == cost::OVER {
+        report.put_bytes(b"over");
+    } else {
+        report.put_decimal(x);
     }
-    if x == cost::OVER {
-        return put_bytes(report, at, b"over");
-    }
-    put_decimal(report, at, x)
 }
 
 // A line's costs from a place of the numbers table on, each behind a comma.
-fn put_costs(report: &mut [u8], at: usize, numbers: &[u32], place: u32) -> usize
-    ensures { Put at (costs_from numbers.now Size.costs place) report.old
-        report.new result }
+fn put_costs(report: &mut Cursor, numbers: &[u32], place: u32)
+    ensures { Puts (costs_from numbers.now Size.costs place) report.old report.new }
 {
-    let mut next = at;
-    let mut k = 0;
-    while k < sizes::COSTS {
-        let cost = put_byte(report, next, COMMA);
-        next = put_cost(report, cost, table::word(numbers, place as usize + k));
-        k += 1;
+    for k in 0..sizes::COSTS {
+        report.put_byte(COMMA);
+        put_cost(report, table::word(numbers, place as usize + k));
     }
-    next
 }
 
 // The line whose numbers are a row of the table: the rows count from 0, the lines from 1.
-fn put_line(report: &mut [u8], at: usize, numbers: &[u32], row: u32) -> usize
+fn put_line(report: &mut Cursor, numbers: &[u32], row: u32)
     requires { row < Size.lines }
-    ensures { Put at (line_bytes numbers.now (row + 1)) report.old
-        report.new result }
+    ensures { Puts (line_bytes numbers.now (row + 1)) report.old report.new }
 {
-    let costs = put_decimal(report, at, row + 1);
-    let end = put_costs(report, costs, numbers, row * COSTS);
-    put_byte(report, end, LINE_END)
+    report.put_decimal(row + 1);
+    put_costs(report, numbers, row * COSTS);
+    report.put_byte(LINE_END);
 }
 
-// Whether the netlist table mentions the row's line.
-fn mentioned(netlist: &[u32], row: u32) -> bool
+#[tactic(auto, using(writer::proofs::Steps::nothing_put), unfolding(crate::specs::Arguments::marked, reading::specs::Choice::pick))]
+fn put_row(report: &mut Cursor, netlist: &[u32], numbers: &[u32], row: u32)
     requires { row < Size.lines }
-    ensures { result ≡ marked netlist.now (row + 1) }
+    ensures { Puts (pick (marked netlist.now (row + 1)) (line_bytes numbers.now (row + 1)) []) report.old report.new }
 {
-    lines::mentioned(netlist, row + 1)
-}
-
-fn put_row(report: &mut [u8], at: usize, netlist: &[u32], numbers: &[u32], row: u32) -> usize
-    requires { row < Size.lines }
-    ensures { Put at (pick (marked netlist.now (row + 1))
-        (line_bytes numbers.now (row + 1)) []) report.old
-        report.new result }
-{
-    if mentioned(netlist, row) {
-        put_line(report, at, numbers, row)
-    } else {
-        at
+    if lines::mentioned(netlist, row + 1) {
+        put_line(report, numbers, row);
     }
 }
 
@@ -92,39 +76,33 @@ fn last_line(netlist: &[u32]) -> u32
 }
 
 // The lines that the netlist table mentions. Of those past the highest there is nothing to print, and they are not asked for.
-fn put_lines(report: &mut [u8], at: usize, netlist: &[u32], numbers: &[u32]) -> usize
-    ensures { Put at (lines_bytes (marked netlist.now) numbers.now Size.lines 1)
-        report.old report.new result }
+fn put_lines(report: &mut Cursor, netlist: &[u32], numbers: &[u32])
+    ensures { Puts (lines_bytes (marked netlist.now) numbers.now Size.lines 1) report.old report.new }
 {
-    let end = last_line(netlist);
-    let mut next = at;
-    let mut row = 0;
-    while row < end {
-        next = put_row(report, next, netlist, numbers, row);
-        row += 1;
+    for row in 0..last_line(netlist) {
+        put_row(report, netlist, numbers, row);
     }
-    next
 }
 
 // A sweep count, and the byte behind it.
-fn put_count(report: &mut [u8], at: usize, n: u32, behind: u8) -> usize
-    ensures { Put at (decimal_bytes n ++ (behind ∷ [])) report.old report.new result }
+fn put_count(report: &mut Cursor, n: u32, behind: u8)
+    ensures { Puts (decimal_bytes n ++ (behind ∷ [])) report.old report.new }
 {
-    let end = put_decimal(report, at, n);
-    put_byte(report, end, behind)
+    report.put_decimal(n);
+    report.put_byte(behind);
 }
 
-fn put_sweeps(report: &mut [u8], at: usize, sweeps: Counts) -> usize
-    ensures { Put at (sweeps_bytes sweeps) report.old report.new result }
+fn put_sweeps(report: &mut Cursor, sweeps: Counts)
+    ensures { Puts (sweeps_bytes sweeps) report.old report.new }
 {
-    let cc = put_bytes(report, at, b"sweeps,");
-    let sc = put_count(report, cc, sweeps.cc, COMMA);
-    let co = put_count(report, sc, sweeps.sc, COMMA);
-    let so = put_count(report, co, sweeps.co, COMMA);
-    put_count(report, so, sweeps.so, LINE_END)
+    report.put_bytes(b"sweeps,");
+    put_count(report, sweeps.cc, COMMA);
+    put_count(report, sweeps.sc, COMMA);
+    put_count(report, sweeps.co, COMMA);
+    put_count(report, sweeps.so, LINE_END);
 }
 
-// The report of the lines that the netlist table mentions, at a cursor; a place past a table's end counts
+// The report of the lines that the netlist table mentions, at a place of a buffer; a place past a table's end counts
 // as 0.
 pub fn put_report(
     report: &mut [u8],
@@ -136,14 +114,19 @@ pub fn put_report(
     ensures { Put at (report_of netlist.now numbers.now sweeps) report.old
         report.new result }
 {
-    let lines = put_bytes(report, at, b"line,cc0,cc1,sc0,sc1,co,so\n");
-    let counts = put_lines(report, lines, netlist, numbers);
-    put_sweeps(report, counts, sweeps)
+    let mut text = Cursor { buffer: report, at };
+    text.put_bytes(b"line,cc0,cc1,sc0,sc1,co,so\n");
+    put_lines(&mut text, netlist, numbers);
+    put_sweeps(&mut text, sweeps);
+    text.at
 }
 
 // "the second after a line `high`" (02, K10)
+#[tactic(auto, using(writer::proofs::Steps::puts_lender), unfolding(crate::specs::Report::high_line, text::specs::Bytes::bytes))]
 pub fn put_high(report: &mut [u8], at: usize) -> usize
     ensures { Put at high_line report.old report.new result }
 {
-    put_bytes(report, at, b"high\n")
+    let mut text = Cursor { buffer: report, at };
+    text.put_bytes(b"high\n");
+    text.at
 }

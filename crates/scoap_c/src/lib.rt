@@ -19,9 +19,7 @@ ghost use Rattle.answer_codes.specs.Stand.{StandCoded, AskCoded, CommitCoded};
 
 use analysis_texts::Tables;
 use answer_codes::qualifies::qualifies_code;
-use answer_codes::{
-    advised_code, answer_code, change_code, limit_plan, pads_code, ranked_code, steps_code,
-};
+use answer_codes::{advised_code, answer_code, change_code, limit_plan};
 
 // For C: tables of its own, and one number for the answer: the report's length when accepted, else
 // the refusal number times 1,000,000 plus the line.
@@ -134,7 +132,7 @@ pub extern "C" fn scoap_ask(
         answer.old answer.new result }
 {
     let asked = standing_calls::ask(lib, net, standing, line as usize, answer);
-    pads_code(asked)
+    writer::code(asked)
 }
 
 // For C: commits a ticket, a line and the number that its ask answered: the number of pads placed then, else the refusal
@@ -151,7 +149,7 @@ pub extern "C" fn scoap_commit(
         standing.new result }
 {
     let committed = standing_calls::commit(lib, net, standing, line as usize, count as usize);
-    pads_code(committed)
+    writer::code(committed)
 }
 
 // For C: the best numbers within a budget of steps, in a buffer of `sizes::BEST` numbers, on tables of its own, and one
@@ -162,7 +160,7 @@ pub extern "C" fn scoap_best(lib: &[u8], net: &[u8], budget: u64, best: &mut [u3
     ensures { BestCoded lib.now net.now budget best.old best.new result }
 {
     let steps = budget_call::best_within(lib, net, budget as usize, best);
-    steps_code(steps)
+    writer::code(steps)
 }
 
 // For C: names the line that, padded alone, leaves the lowest largest CO, which goes into the answer's first entry; 0
@@ -184,7 +182,7 @@ pub extern "C" fn scoap_rank(lib: &[u8], net: &[u8], forbidden: &[u32], ranks: &
         ranks.old ranks.new result }
 {
     let ranked = advice_calls::rank(lib, net, forbidden, ranks);
-    ranked_code(ranked)
+    writer::code(ranked)
 }
 
 // For C: changes the library of a standing analysis, which was made with `lib`: 1 where the sweeps went on, 0 where the

@@ -7,55 +7,37 @@ ghost use Rattle.std.specs.Prelude.{◌≡◌};
 ghost use Rattle.files.specs.Output.{of_files, PrintsFiles};
 ghost use Rattle.netlist_open.specs.Copied.{copy_bytes, copy_printed};
 
-use files::{FILE_BYTES, Loaded, front, put_unreadable};
+use files::{Loaded, front, load_file, put_unreadable};
 use netlist_open::COPY_BYTES;
 
-fn put_output(
-    lib_loaded: Loaded,
-    lib: &[u8; FILE_BYTES],
-    net_loaded: Loaded,
-    net: &[u8; FILE_BYTES],
-    output: &mut [u8; COPY_BYTES],
-) -> usize
-    ensures { PrintsFiles copy_bytes copy_printed lib_loaded lib.now net_loaded net.now
-        output.new result }
+fn put_output(lib: &Loaded, net: &Loaded, output: &mut [u8; COPY_BYTES]) -> usize
+    ensures { PrintsFiles copy_bytes copy_printed lib.now.length lib.now.buffer net.now.length
+        net.now.buffer output.new result }
 {
-    let Loaded::Bytes(lib_length) = lib_loaded else {
+    let Some(lib_length) = lib.length else {
         return put_unreadable(output);
     };
-    let Loaded::Bytes(net_length) = net_loaded else {
+    let Some(net_length) = net.length else {
         return put_unreadable(output);
     };
-    netlist_open::put_copy(front(lib, lib_length), front(net, net_length), output)
+    netlist_open::put_copy(
+        front(&lib.buffer, lib_length),
+        front(&net.buffer, net_length),
+        output,
+    )
 }
 
 // Writes what the program prints of its files. The files are handed on for the condition alone.
-fn print_output(
-    rt: &impl Print,
-    lib_loaded: Loaded,
-    lib: &[u8; FILE_BYTES],
-    net_loaded: Loaded,
-    net: &[u8; FILE_BYTES],
-    bytes: &[u8],
-)
-    requires { bytes.now ≡ of_files copy_printed lib_loaded lib.now net_loaded net.now }
+fn print_output(rt: &impl Print, lib: &Loaded, net: &Loaded, bytes: &[u8])
+    requires { bytes.now ≡ of_files copy_printed lib.now.length lib.now.buffer net.now.length net.now.buffer }
 {
     files::print(rt, bytes);
 }
 
 fn main(rt: HostRuntime) {
-    let mut lib = [0u8; FILE_BYTES];
-    let mut net = [0u8; FILE_BYTES];
-    let lib_loaded = files::load(&rt, b"lib.txt", &mut lib);
-    let net_loaded = files::load(&rt, b"net.txt", &mut net);
+    let lib = load_file(&rt, b"lib.txt");
+    let net = load_file(&rt, b"net.txt");
     let mut output = [0u8; COPY_BYTES];
-    let length = put_output(lib_loaded, &lib, net_loaded, &net, &mut output);
-    print_output(
-        &rt,
-        lib_loaded,
-        &lib,
-        net_loaded,
-        &net,
-        front(&output, length),
-    );
+    let length = put_output(&lib, &net, &mut output);
+    print_output(&rt, &lib, &net, front(&output, length));
 }

@@ -1,21 +1,19 @@
 -- What is printed of good arguments and of bad ones, from what the parts of the program put into the buffer.
-use Rattle.common_laws.proofs.Base.{List, [], ◌∷◌, ◌||◌, ◌≡◌, refl, ℕ, arith, length, replicate}
+use Rattle.common_laws.proofs.Base.{List, [], ◌∷◌, ◌||◌, ◌≡◌, ℕ, arith, length, replicate}
+use Rattle.std.specs.Prelude.{Option, Some, None}
 use Rattle.sizes.specs.Sizes as Size
-use Rattle.reading.specs.Choice.{pick}
 use Rattle.reading.specs.Numbers as No
 use Rattle.reading.specs.Refusal.{weigh}
 use Rattle.text.specs.Bytes.{bytes}
 use Rattle.writer.specs.Put.{Put}
 use Rattle.demands.specs.Outcome as O
-use Rattle.demands.specs.Outcome.{given_by, given_texts, text_long}
+use Rattle.demands.specs.Outcome.{given_texts, text_long}
 use Rattle.demands.specs.Own.{own_tables}
 use Rattle.plan_calls.specs.Promise.{plan_outcome}
 use Rattle.plan_calls.specs.Printed.{plan_printed, PlanPrinted}
-use Rattle.files.specs.declared.Loaded.{Loaded}
 use Rattle.files.specs.Output.{Outputs, LongRefused, PrintsFiles}
 use Rattle.files.proofs.Output.{prints-outputs, put-outputs, long-shown, either-long}
 use Rattle.scoap_plan.specs.declared.arguments.Arguments.{Arguments}
-use Rattle.scoap_plan.specs.declared.arguments.Arguments.TheVariants.{Plan, Usage}
 use Rattle.scoap_plan.specs.Arguments.{usage}
 use Rattle.demands.proofs.EntryChecks.{own-entry}
 use Rattle.scoap_plan.specs.Output.{plan_shown, plan_output, PlanOutputs}
@@ -39,27 +37,23 @@ plan-outputs lib net before line value kind f e p = rw (f, ← e) at (prints-out
 
 -- ---- all of it
 
-module _ (a : Arguments) (l : Loaded) (lib : List ℕ) (n : Loaded) (net : List ℕ) where
-  pub asked-outputs : {after : List ℕ} {line value kind said : ℕ} → a ≡ Plan line value kind
-      → PrintsFiles Size.report_bytes (plan_shown line value kind) l lib n net after said → PlanOutputs a l lib n net after said
+module _ (a : Option Arguments) (l : Option ℕ) (lib : List ℕ) (n : Option ℕ) (net : List ℕ) where
+  pub asked-outputs : {after : List ℕ} {asked : Arguments} {said : ℕ} → a ≡ Some asked
+      → PrintsFiles Size.report_bytes (plan_shown asked.line asked.value asked.kind) l lib n net after said → PlanOutputs a l lib n net after said
   unfolding plan_output
-  asked-outputs {line = line} {value = value} {kind = kind} e p =
+  asked-outputs {asked = asked} e p =
       rw e
       (record {
         outputs = p.outputs;
-        files = λ line' value' kind' same.
-            let x : line ≡ line' = cc in
-            let y : value ≡ value' = cc in
-            let z : kind ≡ kind' = cc in
-            rw (← x, ← y, ← z) p;
+        files = λ other same. let x : asked ≡ other = cc in rw (← x) p;
       })
 
-  pub usage-outputs : {before after : List ℕ} {said : ℕ} → a ≡ Usage → Size.report_bytes ≡ length before → Put 0 usage before after said
+  pub usage-outputs : {before after : List ℕ} {said : ℕ} → a ≡ None → Size.report_bytes ≡ length before → Put 0 usage before after said
       → PlanOutputs a l lib n net after said
   unfolding plan_output usage bytes
   usage-outputs e s p =
       rw e
       (record {
         outputs = put-outputs s (omega arith) p;
-        files = λ line value kind same. absurd (let z : ◌≡◌ {A = ℕ} 0 1 = cc in omega arith);
+        files = λ asked same. absurd (let z : ◌≡◌ {A = ℕ} 0 1 = cc in omega arith);
       })

@@ -1,53 +1,62 @@
 // The arguments of the program `scoap_plan`: a line, a value and a kind as decimals, or the usage.
 //
-// For this crate: `Arguments`, `read_arguments`, `put_usage`. specs/Arguments.antt has what they answer.
+// For this crate: `Words`, `Arguments`, `read_arguments`, `put_usage`. specs/Arguments.antt has what they answer.
 ghost use Rattle.std.specs.Prelude.{◌≡◌};
 ghost use Rattle.text.specs.Numeral.{numeral_read};
 ghost use Rattle.writer.specs.Put.{Put};
 ghost use Rattle.scoap_plan.specs.Arguments.{three_decimals, arguments_of, usage};
 
-use text::fields::Numeral;
+use writer::bytes::Cursor;
 
 // The program's name and its three arguments.
 const WORDS: usize = 4;
 
-// Which plan is asked for, by line, value and kind; or that the usage is to be printed.
+// What the program was started with: how many words, its name among them, and the three behind the name.
 #[derive(Clone, Copy)]
-pub enum Arguments {
-    Plan(u32, u32, u32),
-    Usage,
+pub struct Words<'a> {
+    pub count: usize,
+    pub line: &'a [u8],
+    pub value: &'a [u8],
+    pub kind: &'a [u8],
 }
 
-fn three_decimals(line: Numeral, value: Numeral, kind: Numeral) -> Arguments
+// Which plan is asked for. Any number may be typed in the place of a kind; `plan_calls::put_plan` refuses others than its own.
+#[derive(Clone, Copy)]
+pub struct Arguments {
+    pub line: u32,
+    pub value: u32,
+    pub kind: u32,
+}
+
+fn three_decimals(line: Option<u32>, value: Option<u32>, kind: Option<u32>) -> Option<Arguments>
     ensures { result ≡ three_decimals (numeral_read line) (numeral_read value) (numeral_read kind) }
 {
-    let Numeral::Value(l) = line else {
-        return Arguments::Usage;
-    };
-    let Numeral::Value(v) = value else {
-        return Arguments::Usage;
-    };
-    let Numeral::Value(k) = kind else {
-        return Arguments::Usage;
-    };
-    Arguments::Plan(l, v, k)
+    Some(Arguments {
+        line: line?,
+        value: value?,
+        kind: kind?,
+    })
 }
 
-pub fn read_arguments(count: usize, line: &[u8], value: &[u8], kind: &[u8]) -> Arguments
-    ensures { result ≡ arguments_of count line.now value.now kind.now }
+// The arguments, or none where the usage is to be printed.
+pub fn read_arguments(words: &Words) -> Option<Arguments>
+    ensures { result ≡ arguments_of words.now.count words.now.line.now words.now.value.now words.now.kind.now }
 {
-    if count != WORDS {
-        return Arguments::Usage;
+    if words.count != WORDS {
+        return None;
     }
     three_decimals(
-        text::fields::decimal(line),
-        text::fields::decimal(value),
-        text::fields::decimal(kind),
+        text::fields::decimal(words.line),
+        text::fields::decimal(words.value),
+        text::fields::decimal(words.kind),
     )
 }
 
+#[tactic(auto, using(writer::proofs::Steps::puts_lender), unfolding(crate::specs::Arguments::usage, text::specs::Bytes::bytes))]
 pub fn put_usage(output: &mut [u8]) -> usize
     ensures { Put 0 usage output.old output.new result }
 {
-    writer::bytes::put_bytes(output, 0, b"usage: scoap_plan LINE VALUE KIND\n")
+    let mut text = Cursor::new(output);
+    text.put_bytes(b"usage: scoap_plan LINE VALUE KIND\n");
+    text.at
 }

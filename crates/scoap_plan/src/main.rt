@@ -14,8 +14,8 @@ ghost use Rattle.files.specs.Output.{PrintsFiles};
 ghost use Rattle.scoap_plan.specs.Arguments.{arguments_of};
 ghost use Rattle.scoap_plan.specs.Output.{plan_shown, plan_output, PlanOutputs};
 
-use crate::arguments::{Arguments, put_usage, read_arguments};
-use files::{FILE_BYTES, Loaded, front, put_unreadable};
+use crate::arguments::{Arguments, Words, put_usage, read_arguments};
+use files::{Loaded, front, load_file, put_unreadable};
 use std::env::FillError;
 use std::rt::Env;
 
@@ -24,73 +24,50 @@ const ARGUMENT_BYTES: usize = sizes::DECIMAL_DIGITS + 1;
 
 // What is printed of good arguments. The buffer is cleared first, so that what it held plays no part.
 fn put_of_files(
-    line: u32,
-    value: u32,
-    kind: u32,
-    lib_loaded: Loaded,
-    lib: &[u8; FILE_BYTES],
-    net_loaded: Loaded,
-    net: &[u8; FILE_BYTES],
+    asked: Arguments,
+    lib: &Loaded,
+    net: &Loaded,
     output: &mut [u8; sizes::REPORT_BYTES],
 ) -> usize
-    ensures { PrintsFiles Size.report_bytes (plan_shown line value kind) lib_loaded lib.now
-        net_loaded net.now output.new result }
+    ensures { PrintsFiles Size.report_bytes (plan_shown asked.line asked.value asked.kind) lib.now.length lib.now.buffer
+        net.now.length net.now.buffer output.new result }
 {
-    let Loaded::Bytes(lib_length) = lib_loaded else {
+    let Some(lib_length) = lib.length else {
         return put_unreadable(output);
     };
-    let Loaded::Bytes(net_length) = net_loaded else {
+    let Some(net_length) = net.length else {
         return put_unreadable(output);
     };
     table::clear_bytes(output);
     plan_calls::put_plan(
-        front(lib, lib_length),
-        front(net, net_length),
-        line as usize,
-        value as usize,
-        kind as usize,
+        front(&lib.buffer, lib_length),
+        front(&net.buffer, net_length),
+        asked.line as usize,
+        asked.value as usize,
+        asked.kind as usize,
         output,
     )
 }
 
 fn put_output(
-    count: usize,
-    line: &[u8],
-    value: &[u8],
-    kind: &[u8],
-    lib_loaded: Loaded,
-    lib: &[u8; FILE_BYTES],
-    net_loaded: Loaded,
-    net: &[u8; FILE_BYTES],
+    words: &Words,
+    lib: &Loaded,
+    net: &Loaded,
     output: &mut [u8; sizes::REPORT_BYTES],
 ) -> usize
-    ensures { PlanOutputs (arguments_of count line.now value.now kind.now)
-        lib_loaded lib.now net_loaded net.now output.new result }
+    ensures { PlanOutputs (arguments_of words.now.count words.now.line.now words.now.value.now words.now.kind.now)
+        lib.now.length lib.now.buffer net.now.length net.now.buffer output.new result }
 {
-    let arguments = read_arguments(count, line, value, kind);
-    match arguments {
-        Arguments::Plan(l, v, k) => {
-            put_of_files(l, v, k, lib_loaded, lib, net_loaded, net, output)
-        }
-        Arguments::Usage => put_usage(output),
+    match read_arguments(words) {
+        Some(asked) => put_of_files(asked, lib, net, output),
+        None => put_usage(output),
     }
 }
 
 // Writes what the program prints of its arguments and its files. They are handed on for the condition alone.
-fn print_output(
-    rt: &impl Print,
-    count: usize,
-    line: &[u8],
-    value: &[u8],
-    kind: &[u8],
-    lib_loaded: Loaded,
-    lib: &[u8; FILE_BYTES],
-    net_loaded: Loaded,
-    net: &[u8; FILE_BYTES],
-    bytes: &[u8],
-)
-    requires { bytes.now ≡ plan_output (arguments_of count line.now value.now kind.now)
-        lib_loaded lib.now net_loaded net.now }
+fn print_output(rt: &impl Print, words: &Words, lib: &Loaded, net: &Loaded, bytes: &[u8])
+    requires { bytes.now ≡ plan_output (arguments_of words.now.count words.now.line.now words.now.value.now words.now.kind.now)
+        lib.now.length lib.now.buffer net.now.length net.now.buffer }
 {
     files::print(rt, bytes);
 }
@@ -105,53 +82,29 @@ fn count_words(rt: &impl Env) -> usize {
     usize::MAX
 }
 
-// The i-th word into the front of a buffer: how many bytes it has, or 0 where it is missing or longer than the buffer.
-fn argument(rt: &impl Env, i: usize, buffer: &mut [u8]) -> usize
-    ensures { result ≤ length buffer.new }
+// The i-th word, in the front of a buffer; no bytes where it is missing or longer than the buffer.
+fn argument<'a>(rt: &impl Env, i: usize, buffer: &'a mut [u8]) -> &'a [u8]
+    ensures { length result.now ≤ length buffer.old }
 {
     match rt.arg(i, buffer) {
-        Ok(length) => length,
-        Err(_) => 0,
+        Ok(length) => &buffer[..length],
+        Err(_) => &[],
     }
 }
 
 fn main(rt: HostRuntime) {
-    let mut line_bytes = [0u8; ARGUMENT_BYTES];
-    let mut value_bytes = [0u8; ARGUMENT_BYTES];
-    let mut kind_bytes = [0u8; ARGUMENT_BYTES];
-    let line_length = argument(&rt, 1, &mut line_bytes);
-    let value_length = argument(&rt, 2, &mut value_bytes);
-    let kind_length = argument(&rt, 3, &mut kind_bytes);
-    let line = front(&line_bytes, line_length);
-    let value = front(&value_bytes, value_length);
-    let kind = front(&kind_bytes, kind_length);
-    let count = count_words(&rt);
-    let mut lib = [0u8; FILE_BYTES];
-    let mut net = [0u8; FILE_BYTES];
-    let lib_loaded = files::load(&rt, b"lib.txt", &mut lib);
-    let net_loaded = files::load(&rt, b"net.txt", &mut net);
+    let mut line = [0u8; ARGUMENT_BYTES];
+    let mut value = [0u8; ARGUMENT_BYTES];
+    let mut kind = [0u8; ARGUMENT_BYTES];
+    let words = Words {
+        count: count_words(&rt),
+        line: argument(&rt, 1, &mut line),
+        value: argument(&rt, 2, &mut value),
+        kind: argument(&rt, 3, &mut kind),
+    };
+    let lib = load_file(&rt, b"lib.txt");
+    let net = load_file(&rt, b"net.txt");
     let mut output = [0u8; sizes::REPORT_BYTES];
-    let length = put_output(
-        count,
-        line,
-        value,
-        kind,
-        lib_loaded,
-        &lib,
-        net_loaded,
-        &net,
-        &mut output,
-    );
-    print_output(
-        &rt,
-        count,
-        line,
-        value,
-        kind,
-        lib_loaded,
-        &lib,
-        net_loaded,
-        &net,
-        front(&output, length),
-    );
+    let length = put_output(&words, &lib, &net, &mut output);
+    print_output(&rt, &words, &lib, &net, front(&output, length));
 }

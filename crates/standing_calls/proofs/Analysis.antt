@@ -10,10 +10,9 @@ use Rattle.calculation.specs.Calculation.{Analysed, analysed}
 use Rattle.calculation.specs.Pads.{fresh}
 use Rattle.calculation.proofs.StandingAnalysis.{fresh-standing}
 use Rattle.calculation.specs.Stored.{whole}
-use Rattle.demands.specs.declared.Answer.{Answer}
-use Rattle.demands.specs.declared.Answer.TheVariants.{Accepted, Refused}
+use Rattle.std.specs.Prelude.{Result, Ok, Err}
 use Rattle.demands.specs.declared.Summary.{Summary}
-use Rattle.demands.specs.Answer.{answer_read}
+use Rattle.reading.specs.Answer.{answer_read}
 use Rattle.demands.specs.Demands.{PairRead, Promised}
 use Rattle.demands.specs.Outcome.{Given, Lent, entry, outcome, answer, reading, left, left_from, left_later, filled, summary}
 use Rattle.demands.specs.Outcome as O
@@ -245,24 +244,24 @@ module _ (g : Given) (checks : Checked g) (before report : List ℕ) where
 -- ---- by the answer in the code
 
 module _ (g : Given) (checks : Checked g) (before report : List ℕ) (long : table_short before ≡ false)
-    (tables : Lent) (x : Answer) (p : Promised g (own_tables report) tables (answer_read x)) where
-  pub told-refused : (r : Refusal) → x ≡ Refused r → (after : List ℕ) → after ≡ pick (No.of_entry r.number) before (replicate (length before) 0)
-      → StandPromised g before report after tables.report (answer_read (Refused r))
+    (tables : Lent) (x : Result Summary Refusal) (p : Promised g (own_tables report) tables (answer_read x)) where
+  pub told-refused : (r : Refusal) → x ≡ Err r → (after : List ℕ) → after ≡ pick (No.of_entry r.number) before (replicate (length before) 0)
+      → StandPromised g before report after tables.report (answer_read (Err r))
   told-refused r e after left =
       subst (StandPromised g before report after tables.report) (ap answer_read e)
       (stand-refused g checks before report long tables (answer_read x) p r.number r.line (refused-so r e) after left)
     where
-      refused-so : (r : Refusal) → x ≡ Refused r → answer_read x ≡ refused r.number r.line
+      refused-so : (r : Refusal) → x ≡ Err r → answer_read x ≡ refused r.number r.line
       refused-so r e = unfold answer_read in rw e
 
-  pub told-accepted : (a : Summary) → x ≡ Accepted a → (after : List ℕ)
+  pub told-accepted : (a : Summary) → x ≡ Ok a → (after : List ℕ)
       → after ≡ standing_words [] (whole a.counts tables.numbers) ++ drop Size.standing before
-      → StandPromised g before report after tables.report (answer_read (Accepted a))
+      → StandPromised g before report after tables.report (answer_read (Ok a))
   told-accepted a e after left =
       subst (StandPromised g before report after tables.report) (ap answer_read e)
       (stand-accepted g checks before report long tables (answer_read x) p a (accepted-so a e) after left)
     where
-      accepted-so : (a : Summary) → x ≡ Accepted a → answer_read x ≡ read a
+      accepted-so : (a : Summary) → x ≡ Ok a → answer_read x ≡ read a
       accepted-so a e = unfold answer_read in rw e
 
 -- ---- the report's length

@@ -1,5 +1,5 @@
 -- Asking and committing, from what their parts leave.
-use Rattle.common_laws.proofs.Base.{Bool, true, false, not, ◌||◌, List, [], ◌∷◌, ◌++◌, ◌≡◌, refl, sym, ap, ◌∙◌, ℕ, suc, ◌+◌, ◌≤◌, ◌<◌, arith, ltb-false, lt-ltb, le-ltb, eqb, ltb}
+use Rattle.common_laws.proofs.Base.{Bool, true, false, not, ◌||◌, List, [], ◌∷◌, ◌++◌, ◌≡◌, refl, sym, ap, ◌∙◌, ℕ, suc, ◌+◌, ◌≤◌, ◌<◌, arith, ltb-false, lt-ltb, le-ltb, eqb}
 use Rattle.common_laws.proofs.Base.{length, get_or, take, drop, length-append, length-take, length-drop}
 use Rattle.sizes.specs.Sizes as Size
 use Rattle.table.specs.Blocks.{fitted}
@@ -7,8 +7,8 @@ use Rattle.table.proofs.Places.{length-fitted}
 use Rattle.reading.specs.Choice.{pick}
 use Rattle.reading.specs.Numbers as No
 use Rattle.reading.specs.Refusal.{Read, refused, read, ◌>>=◌, ◌>>◌, weigh}
-use Rattle.reading.specs.Verdict.{done_read}
-use Rattle.reading.proofs.Laws.{or_left, or_right, bind_read, then-read, done_refused, refused-read, weigh-one}
+use Rattle.reading.specs.Answer.{done_read}
+use Rattle.reading.proofs.Laws.{bind_read, then-read, done_refused, refused-read, weigh-one}
 use Rattle.library_table.specs.Cells.{Cell}
 use Rattle.netlist_table.specs.Netlist.{Statement}
 use Rattle.netlist_table.specs.Sound.{InRange}
@@ -41,11 +41,17 @@ unfolding table_short
 is_long table h = le-ltb (length table) Size.standing h
 
 -- Both slices of an ask.
-pub both_long : (table answer : List ℕ) → (table_short table || answer_short answer) ≡ false → (table_short table ≡ false) × (Size.standing ≤ length table) × (Size.observed ≤ length answer)
+pub table_first : (table answer : List ℕ) → length table < Size.standing → (table_short table || answer_short answer) ≡ true
+unfolding table_short
+table_first table answer h = rw (lt-ltb (length table) Size.standing h)
+
+pub answer_next : (table answer : List ℕ) → Size.standing ≤ length table → length answer < Size.observed → (table_short table || answer_short answer) ≡ true
 unfolding table_short answer_short
-both_long table answer e =
-    let a = or_left (ltb (length table) Size.standing) (ltb (length answer) Size.observed) e in
-    (a, ltb-false (length table) Size.standing a, ltb-false (length answer) Size.observed (or_right (ltb (length table) Size.standing) (ltb (length answer) Size.observed) e))
+answer_next table answer h k = rw (le-ltb (length table) Size.standing h, lt-ltb (length answer) Size.observed k)
+
+pub neither_short : (table answer : List ℕ) → Size.standing ≤ length table → Size.observed ≤ length answer → (table_short table || answer_short answer) ≡ false
+unfolding table_short answer_short
+neither_short table answer h k = rw (le-ltb (length table) Size.standing h, le-ltb (length answer) Size.observed k)
 
 -- ---- what is answered and left, by what a call comes to
 

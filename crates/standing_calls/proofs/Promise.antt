@@ -7,7 +7,6 @@ use Rattle.reading.specs.Choice.{pick}
 use Rattle.reading.specs.Numbers as No
 use Rattle.reading.specs.Refusal.{Read, refused, read, ◌>>=◌, ◌>>◌, weigh}
 use Rattle.reading.proofs.Laws.{by_test, or_left, or_right, bind_read, then-read, refused-read, weigh-one}
-use Rattle.plans.specs.Sweep.{at}
 use Rattle.plans.proofs.Laws.{at_getD}
 use Rattle.library_table.proofs.Laws.{library-sound}
 use Rattle.calculation.specs.Acceptance.{BothSound}

@@ -8,8 +8,6 @@ use Rattle.calculation.specs.Pads.{padded, State, placed, Operation, ask, commit
 use Rattle.demands.specs.Outcome as O
 use Rattle.demands.specs.Own.{own_tables}
 use Rattle.standing_table.specs.Held.{entered, held_by}
-use Rattle.standing_calls.specs.declared.Pads.{Pads}
-use Rattle.standing_calls.specs.declared.Pads.TheVariants.{Count, Refused}
 use Rattle.standing_table.specs.StandingTable.{standing_words, observed_words}
 
 -- ---- asking and committing
@@ -45,11 +43,6 @@ placed_of (read s) l = read (length (placed s l).pads)
 unfoldable pub table_after : Read State → ℕ → List ℕ → List ℕ
 table_after (refused number line) l before = before
 table_after (read s) l before = standing_words (placed s l).pads (placed s l).analysis ++ drop Size.standing before
-
--- The answer of a call: a count of pads, or a refusal.
-unfoldable pub pads_read : Pads → Read ℕ
-pads_read (Count n) = read n
-pads_read (Refused r) = refused r.number r.line
 
 -- ---- on a standing analysis
 

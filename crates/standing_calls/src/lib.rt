@@ -2,7 +2,7 @@
 // call and read again, into tables of its own: so a call is safe whatever the table holds.
 //
 // Open to others: `stand`, an analysis that is to stand; `ask`, the CO and SO of all lines as if one more were marked
-// output; `commit`, which marks it; the type `Pads`. They have no condition on their input; specs/Calls.antt says what
+// output; `commit`, which marks it; both answer a count of pads. They have no condition on their input; specs/Calls.antt says what
 // they answer and leave, specs/Promise.antt what that means of a standing analysis. The published sizes are
 // `sizes::STANDING` and `sizes::OBSERVED`.
 // What they are made of: module `standing_table::texts` reads what is lent, crate `standing_table` runs and stores.
@@ -11,36 +11,28 @@
 ghost use Rattle.std.specs.Prelude.{◌≡◌, ◌+◌, ◌-◌, ◌<◌, length, replicate};
 ghost use Rattle.reading.specs.Choice.{pick};
 ghost use Rattle.reading.specs.Numbers as No;
-ghost use Rattle.demands.specs.Answer.{answer_read};
+ghost use Rattle.reading.specs.Answer.{answer_read};
 ghost use Rattle.demands.specs.Outcome.{given_texts};
-ghost use Rattle.standing_calls.specs.Calls.{pads_read};
 ghost use Rattle.standing_calls.specs.Promise.{StandPromised, AskPromised, CommitPromised};
 
 use analysis_call::analyse_into;
 use analysis_texts::Tables;
 use calculation::Counts;
-use demands::Answer;
-use reading::{Refusal, TABLE_SHORT, TEXT_LONG, Verdict};
-use standing_table::texts::{read_pad, refusal};
+use demands::Summary;
+use reading::{Cause, Refusal};
+use standing_table::texts::read_pad;
 use standing_table::{hand_observed, observe, put_pad, put_standing};
-use sweep_sums::kinds::wide;
 use table::word;
-
-// A count of pads, or a refusal. `pads_read` gives its cases.
-#[derive(Clone, Copy)]
-pub enum Pads {
-    Count(usize),
-    Refused(Refusal),
-}
 
 // ---- the calls
 
-// Zeroes a standing table after a refusal that is not at entry.
-fn clear_later(standing: &mut [u32], number: u32)
+// Zeroes a standing table after a refusal that is not at entry. A `Refusal` tells which by its number alone (D226).
+fn clear_later(standing: &mut [u32], refusal: Refusal)
     ensures { standing.new
-        ≡ pick (No.of_entry number) standing.old (replicate (length standing.old) 0) }
+        ≡ pick (No.of_entry refusal.number) standing.old (replicate (length standing.old) 0) }
 {
-    if (number == TABLE_SHORT) | (number == TEXT_LONG) {
+    let number = refusal.number;
+    if number == Cause::TableShort.number() || number == Cause::TextLong.number() {
         return;
     }
     table::clear(standing, standing.len());
@@ -48,12 +40,17 @@ fn clear_later(standing: &mut [u32], number: u32)
 
 // Analyses a library and a netlist as `analysis_call::analyse` does, on tables of its own, and lays the analysis that stands
 // then into the standing table. Entry refusals leave what was lent untouched, later ones leave it zero.
-pub fn stand(lib: &[u8], net: &[u8], standing: &mut [u32], report: &mut [u8]) -> Answer
+pub fn stand(
+    lib: &[u8],
+    net: &[u8],
+    standing: &mut [u32],
+    report: &mut [u8],
+) -> Result<Summary, Refusal>
     ensures { StandPromised (given_texts lib.now net.now)
         standing.old report.old standing.new report.new (answer_read result) }
 {
     if standing.len() < sizes::STANDING {
-        return Answer::Refused(refusal(TABLE_SHORT));
+        return Err(Cause::TableShort.at(0));
     }
     let mut library = [0u32; sizes::LIBRARY];
     let mut netlist = [0u32; sizes::NETLIST];
@@ -68,55 +65,55 @@ pub fn stand(lib: &[u8], net: &[u8], standing: &mut [u32], report: &mut [u8]) ->
         Tables::Own,
     );
     match answer {
-        Answer::Refused(r) => {
-            clear_later(standing, r.number);
-            Answer::Refused(r)
-        }
-        Answer::Accepted(s) => {
-            let counts = s.counts;
-            put_standing(standing, 0, counts, &numbers);
-            Answer::Accepted(s)
-        }
+        Ok(s) => put_standing(standing, 0, s.counts, &numbers),
+        Err(r) => clear_later(standing, r),
     }
+    answer
 }
 
 // Asks for a pad on a line: the number of pads placed so far, which with the line is the ticket, and in the answer the CO
 // and SO of each line as if it were marked output. Nothing is touched on refusal, the standing table never.
-pub fn ask(lib: &[u8], net: &[u8], standing: &[u32], line: usize, answer: &mut [u32]) -> Pads
+pub fn ask(
+    lib: &[u8],
+    net: &[u8],
+    standing: &[u32],
+    line: usize,
+    answer: &mut [u32],
+) -> Result<usize, Refusal>
     ensures { AskPromised (given_texts lib.now net.now) standing.now line
-        answer.old answer.new (pads_read result) }
+        answer.old answer.new (answer_read result) }
 {
-    let short = (standing.len() < sizes::STANDING) | (answer.len() < sizes::OBSERVED);
-    if short {
-        return Pads::Refused(refusal(TABLE_SHORT));
+    if standing.len() < sizes::STANDING || answer.len() < sizes::OBSERVED {
+        return Err(Cause::TableShort.at(0));
     }
     let mut library = [0u32; sizes::LIBRARY];
     let mut netlist = [0u32; sizes::NETLIST];
-    let checked = read_pad(lib, net, standing, line, false, &mut library, &mut netlist);
-    match checked {
-        Verdict::Refused(r) => Pads::Refused(r),
-        Verdict::Accepted => {
-            let mut numbers = [0u32; sizes::NUMBERS];
-            let _observed = observe(&library, &netlist, standing, &mut numbers);
-            hand_observed(&numbers, answer);
-            Pads::Count(wide(word(standing, 0)))
-        }
-    }
+    read_pad(lib, net, standing, line, false, &mut library, &mut netlist)?;
+    let mut numbers = [0u32; sizes::NUMBERS];
+    let _observed = observe(&library, &netlist, standing, &mut numbers);
+    hand_observed(&numbers, answer);
+    Ok(word(standing, 0) as usize)
 }
 
 // Commits a ticket, a line and the number of pads that its ask answered: the number of pads placed then. Nothing is
 // touched on refusal.
-pub fn commit(lib: &[u8], net: &[u8], standing: &mut [u32], line: usize, count: usize) -> Pads
+pub fn commit(
+    lib: &[u8],
+    net: &[u8],
+    standing: &mut [u32],
+    line: usize,
+    count: usize,
+) -> Result<usize, Refusal>
     ensures { CommitPromised (given_texts lib.now net.now) standing.old
-        line count standing.new (pads_read result) }
+        line count standing.new (answer_read result) }
 {
     if standing.len() < sizes::STANDING {
-        return Pads::Refused(refusal(TABLE_SHORT));
+        return Err(Cause::TableShort.at(0));
     }
-    let pads = wide(word(standing, 0));
+    let pads = word(standing, 0) as usize;
     let mut library = [0u32; sizes::LIBRARY];
     let mut netlist = [0u32; sizes::NETLIST];
-    let checked = read_pad(
+    read_pad(
         lib,
         net,
         standing,
@@ -124,12 +121,7 @@ pub fn commit(lib: &[u8], net: &[u8], standing: &mut [u32], line: usize, count: 
         count != pads,
         &mut library,
         &mut netlist,
-    );
-    match checked {
-        Verdict::Refused(r) => Pads::Refused(r),
-        Verdict::Accepted => {
-            put_pad(&library, &netlist, standing, pads, line);
-            Pads::Count(pads + 1)
-        }
-    }
+    )?;
+    put_pad(&library, &netlist, standing, pads, line);
+    Ok(pads + 1)
 }

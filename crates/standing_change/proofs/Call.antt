@@ -5,10 +5,9 @@ use Rattle.sizes.specs.Sizes as Size
 use Rattle.reading.specs.Choice.{pick}
 use Rattle.reading.specs.Numbers as No
 use Rattle.reading.specs.Refusal.{Read, refused, read, ◌>>=◌, ◌>>◌, weigh}
-use Rattle.reading.specs.Verdict.{verdict_read, done_read}
+use Rattle.reading.specs.Answer.{answer_read, done_read}
 use Rattle.reading.specs.declared.Refusal.{Refusal}
-use Rattle.reading.specs.declared.Verdict.{Verdict}
-use Rattle.reading.specs.declared.Verdict.TheVariants.{Accepted, Refused}
+use Rattle.std.specs.Prelude.{Result, Ok, Err}
 use Rattle.reading.proofs.Laws.{or_left, or_right, weigh-one, refused-read, bind_read, then-read, done_read_lem, done_refused}
 use Rattle.library_table.specs.Cells.{Cell}
 use Rattle.library_table.specs.Library.{library}
@@ -75,16 +74,16 @@ again_fits net library netlist table s =
 
 -- ---- the new library
 
-module _ (new net zeros more' : List ℕ) (v : Verdict) (answered : verdict_read v ≡ done_read (library new))
+module _ (new net zeros more' : List ℕ) (v : Result (Unit {0}) Refusal) (answered : answer_read v ≡ done_read (library new))
     (filled : (cells : List Cell) → library new ≡ read cells → more' ≡ library_words cells ++ drop Size.library zeros) where
-  pub new-refused : (s : State) (table : List ℕ) (r : Refusal) → v ≡ Refused r → Changes (changed_by (given_texts new net) s) table table (refused r.number r.line)
+  pub new-refused : (s : State) (table : List ℕ) (r : Refusal) → v ≡ Err r → Changes (changed_by (given_texts new net) s) table table (refused r.number r.line)
   new-refused s table r e =
-      let n = done_refused (library new) r.number r.line (unfold verdict_read in rw e at answered) in
+      let n = done_refused (library new) r.number r.line (unfold answer_read in rw e at answered) in
       changes-refused _ table r.number r.line (unfold changed_by given_by ◌>>=◌ in rw n)
 
-  pub new-read : {B : Type 0} → v ≡ Accepted → ((cells : List Cell) → library new ≡ read cells → HoldsCells more' cells → B) → B
+  pub new-read : {B : Type 0} → v ≡ (Ok tt) → ((cells : List Cell) → library new ≡ read cells → HoldsCells more' cells → B) → B
   new-read e on =
-      done_read_lem (library new) (unfold verdict_read in rw e at answered)
+      done_read_lem (library new) (unfold answer_read in rw e at answered)
       (λ cells n. on cells n (record { past = drop Size.library zeros; stand = filled cells n; sound = library-sound new cells n }))
 
   pub new-changed : (s : State) (table after : List ℕ) (said : Read Bool) (cells : List Cell) → library new ≡ read cells

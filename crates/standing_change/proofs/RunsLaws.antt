@@ -2,16 +2,13 @@
 use Rattle.common_laws.proofs.Base.{List, [], ◌++◌, append-nil, ◌≡◌, refl, sym, ap, ◌∙◌, ℕ, ◌≤◌, le_of_eq, arith, length, get_or, take, drop, replicate, length-take, length-drop}
 use Rattle.common_laws.proofs.Base.{length-replicate, drop_of_length-le}
 use Rattle.sizes.specs.Sizes as Size
-use Rattle.plans.proofs.Laws.{lowered_under}
 use Rattle.library_table.specs.Cells.{Cell}
-use Rattle.netlist_table.specs.Netlist.{Statement, gates_of}
+use Rattle.netlist_table.specs.Netlist.{Statement}
 use Rattle.calculation.specs.declared.Counts.{Counts}
 use Rattle.calculation.specs.Acceptance.{BothSound}
 use Rattle.calculation.specs.Prices.{prices_of}
-use Rattle.calculation.specs.Calculation.{stages, Analysed, analysed}
+use Rattle.calculation.specs.Calculation.{Analysed, analysed}
 use Rattle.calculation.specs.Stored.{whole, Calculated}
-use Rattle.calculation.specs.Settled.{in_order}
-use Rattle.calculation.proofs.Laws.{own-figures, numbers-length}
 use Rattle.calculation.proofs.AnyNumbers.{lesser_runs_lem}
 use Rattle.sweep_reruns.specs.Kept.{held, GoneOn}
 use Rattle.sweep_reruns.proofs.Kept.{held-length, held-bounded}
@@ -35,11 +32,6 @@ module _ (table : List ℕ) (long : Size.standing ≤ length table) where
   kept-stored n a after e left = left ∙ ap (λ (k : ℕ). standing_words (take k (drop Size.pads_at table)) a ++ drop Size.standing table) e
 
   module _ (cells : List Cell) (ss : List Statement) (numbers : List ℕ) (counts : Counts) (g : GoneOn cells ss (drop Size.standing_numbers table) numbers counts) where
-    pub gone-length : length numbers ≡ Size.numbers
-    gone-length =
-        (lowered_under (stages cells (gates_of ss)) (held (drop Size.standing_numbers table)) numbers (in_order counts) g.runs).long
-        ∙ held-length (drop Size.standing_numbers table) room
-
     pub gone_whole : BothSound cells ss → whole counts numbers ≡ lesser_held cells ss table
     unfolding analysis_held
     gone_whole sound =
@@ -58,6 +50,3 @@ module _ (cells : List Cell) (ss : List Statement) (numbers : List ℕ) (counts 
   begun_whole =
       let told = c.counts in
       λ i. record { numbers = same_numbers i; counts = told i }
-
-  pub begun-length : BothSound cells ss → length numbers ≡ Size.numbers
-  begun-length sound = ap length same_numbers ∙ numbers-length cells ss sound (prices_of ss) (own-figures sound)

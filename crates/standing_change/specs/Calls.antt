@@ -16,8 +16,10 @@ use Rattle.demands.specs.Outcome.{Given}
 use Rattle.standing_table.specs.StandingTable.{standing_words}
 use Rattle.standing_table.specs.Held.{held_by}
 use Rattle.standing_calls.specs.Calls.{table_short}
-use Rattle.standing_change.specs.declared.Changed.{Changed}
-use Rattle.standing_change.specs.declared.Changed.TheVariants.{WentOn, BegunAgain, Refused}
+use Rattle.std.specs.Prelude.{Result, Ok, Err}
+use Rattle.reading.specs.declared.Refusal.{Refusal}
+use Rattle.standing_change.specs.declared.Course.{Course}
+use Rattle.standing_change.specs.declared.Course.TheVariants.{WentOn, BegunAgain}
 
 -- ---- whatever stands in the table
 
@@ -68,10 +70,10 @@ table_after (refused number line) before = before
 table_after (read c) before = standing_words c.state.pads c.state.analysis ++ drop Size.standing before
 
 -- The answer of the call.
-unfoldable pub changed_read : Changed → Read Bool
-changed_read WentOn = read true
-changed_read BegunAgain = read false
-changed_read (Refused r) = refused r.number r.line
+unfoldable pub changed_read : Result Course Refusal → Read Bool
+changed_read (Ok WentOn) = read true
+changed_read (Ok BegunAgain) = read false
+changed_read (Err r) = refused r.number r.line
 
 -- ---- on a standing analysis
 

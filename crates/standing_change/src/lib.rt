@@ -1,6 +1,6 @@
 // Another library under a standing analysis: document 02, K14. The texts are lent again and read again, as in `standing_calls`.
 //
-// Open to others: `change`; the type `Changed`. It has no condition on its input; specs/Calls.antt says what it answers and
+// Open to others: `change`; the type `Course`. It has no condition on its input; specs/Calls.antt says what it answers and
 // leaves, specs/Promise.antt what that means of a standing analysis.
 //
 // Module `runs`: the runs of a change, over a standing table.
@@ -22,15 +22,14 @@ ghost use Rattle.standing_change.specs.Promise.{ChangePromised};
 use crate::runs::{begin_again, go_on_from, read_again};
 use library_growth::grown_at;
 use library_text::lines::read_lines;
-use reading::{Refusal, TABLE_SHORT, TEXT_LONG, Verdict};
+use reading::{Cause, Refusal};
 use standing_table::texts::read_held;
 
-// Which of the two happened, or a refusal. `changed_read` gives its cases.
-#[derive(Clone, Copy)]
-pub enum Changed {
+// Which of the two happened. `changed_read` gives the cases of an answer.
+#[derive(Clone, Copy, PartialEq, Eq)]
+pub enum Course {
     WentOn,
     BegunAgain,
-    Refused(Refusal),
 }
 
 // From the tables of the old library and the netlist with the pads that stand, and that of the new library: the sweeps go on
@@ -41,7 +40,7 @@ fn change_to(
     more: &[u32],
     netlist: &mut [u32],
     standing: &mut [u32],
-) -> Changed
+) -> Result<Course, Refusal>
     requires { SomeState net.now library.now netlist.old standing.old × SomeCells more.now }
     ensures { (s : State) (cells : List Cell)
         → StateHeld net.now library.now netlist.old standing.old s
@@ -51,16 +50,11 @@ fn change_to(
 {
     if grown_at(library, more) {
         go_on_from(more, netlist, standing);
-        return Changed::WentOn;
+        return Ok(Course::WentOn);
     }
-    let again = read_again(net, more, netlist, standing);
-    match again {
-        Verdict::Refused(r) => Changed::Refused(r),
-        Verdict::Accepted => {
-            begin_again(more, netlist, standing);
-            Changed::BegunAgain
-        }
-    }
+    read_again(net, more, netlist, standing)?;
+    begin_again(more, netlist, standing);
+    Ok(Course::BegunAgain)
 }
 
 // From the tables of the old library and the netlist with the pads that stand.
@@ -70,7 +64,7 @@ fn change_held(
     library: &[u32],
     netlist: &mut [u32],
     standing: &mut [u32],
-) -> Changed
+) -> Result<Course, Refusal>
     requires { SomeState net.now library.now netlist.old standing.old
         × (length new_lib.now ≤ Size.text_bytes) }
     ensures { (s : State)
@@ -79,37 +73,30 @@ fn change_held(
         standing.new (changed_read result) }
 {
     let mut more = [0u32; sizes::LIBRARY];
-    let cells = read_lines(new_lib, &mut more);
-    match cells {
-        Verdict::Refused(r) => Changed::Refused(r),
-        Verdict::Accepted => change_to(net, library, &more, netlist, standing),
-    }
+    read_lines(new_lib, &mut more)?;
+    change_to(net, library, &more, netlist, standing)
 }
 
 // Changes the library of a standing analysis, which was made with `lib`: the sweeps go on where the new one differs only by
 // rows added, any other is analysed from the beginning, pads kept. Nothing is touched on refusal.
-pub fn change(lib: &[u8], new_lib: &[u8], net: &[u8], standing: &mut [u32]) -> Changed
+pub fn change(
+    lib: &[u8],
+    new_lib: &[u8],
+    net: &[u8],
+    standing: &mut [u32],
+) -> Result<Course, Refusal>
     ensures { ChangePromised (given_texts lib.now net.now)
         (given_texts new_lib.now net.now)
         standing.old standing.new (changed_read result) }
 {
     if standing.len() < sizes::STANDING {
-        return Changed::Refused(Refusal {
-            number: TABLE_SHORT,
-            line: 0,
-        });
+        return Err(Cause::TableShort.at(0));
     }
     if sizes::TEXT_BYTES < new_lib.len() {
-        return Changed::Refused(Refusal {
-            number: TEXT_LONG,
-            line: 0,
-        });
+        return Err(Cause::TextLong.at(0));
     }
     let mut library = [0u32; sizes::LIBRARY];
     let mut netlist = [0u32; sizes::NETLIST];
-    let held = read_held(lib, net, standing, &mut library, &mut netlist);
-    match held {
-        Verdict::Refused(r) => Changed::Refused(r),
-        Verdict::Accepted => change_held(new_lib, net, &library, &mut netlist, standing),
-    }
+    read_held(lib, net, standing, &mut library, &mut netlist)?;
+    change_held(new_lib, net, &library, &mut netlist, standing)
 }

@@ -1,5 +1,4 @@
 pub mod Slices
-pub mod Lengths
 pub mod StandingTable
 mod Pads
 pub mod TextsLaws

@@ -4,10 +4,9 @@ use Rattle.sizes.specs.Sizes as Size
 use Rattle.reading.specs.Choice.{pick}
 use Rattle.reading.specs.Numbers as No
 use Rattle.reading.specs.Refusal.{Read, refused, read, ◌>>=◌, ◌>>◌, weigh}
-use Rattle.reading.specs.Verdict.{verdict_read, done_read}
+use Rattle.reading.specs.Answer.{answer_read, done_read}
 use Rattle.reading.specs.declared.Refusal.{Refusal}
-use Rattle.reading.specs.declared.Verdict.{Verdict}
-use Rattle.reading.specs.declared.Verdict.TheVariants.{Accepted, Refused}
+use Rattle.std.specs.Prelude.{Result, Ok, Err}
 use Rattle.reading.proofs.Laws.{refused-read, weigh-one}
 use Rattle.library_table.specs.Cells.{Cell}
 use Rattle.netlist_table.specs.Netlist.{Statement}
@@ -16,10 +15,10 @@ use Rattle.calculation.specs.Stored.{Holds}
 use Rattle.calculation.proofs.Pads.{padded-more}
 use Rattle.demands.specs.Outcome.{Given, Pair, read_pair, given_by, given_texts, text_long, entry_by}
 use Rattle.demands.proofs.Given.{Checked}
-use Rattle.analysis_texts.specs.declared.Progress.{Progress}
-use Rattle.analysis_texts.specs.declared.Progress.TheVariants.{Unrefused, AtEntry, Later}
+use Rattle.analysis_texts.specs.declared.Stop.{Stop}
+use Rattle.analysis_texts.specs.declared.Stop.TheVariants.{AtEntry, Later}
 use Rattle.analysis_texts.specs.Tables.{Zero}
-use Rattle.analysis_texts.specs.Progress.{Reached}
+use Rattle.analysis_texts.specs.Progress.{Progress, refusal_of, Reached}
 use Rattle.analysis_texts.proofs.Reached.{stands_hold}
 use Rattle.standing_table.specs.Held.{entered, foreign, held_by, pad_causes}
 use Rattle.standing_table.specs.Parts.{PadTried, PadsJudged, TextsRead, HeldRead, PadRead}
@@ -49,20 +48,24 @@ done_same (read u) = refl
 
 module _ (g : Given) (checks : Checked g) (library netlist library' netlist' : List ℕ) (said : Progress)
     (h : Reached g (entered false g) library netlist library' netlist' said) where
-  pub told-entry : (r : Refusal) → said ≡ AtEntry r → TextsRead g library' netlist' (verdict_read (Refused r))
-  unfolding Reached verdict_read done_read ◌>>◌
+  pub told-entry : (r : Refusal) → said ≡ Err (AtEntry r) → TextsRead g library' netlist' (answer_read (Err r))
+  unfolding Reached answer_read done_read ◌>>◌
   told-entry r e =
       let k = rw e at h in
       record { answers = rw k.0; holds = λ p s q. refused-read s }
 
-  pub told_later : (r : Refusal) → said ≡ Later r → TextsRead g library' netlist' (verdict_read (Refused r))
-  unfolding Reached verdict_read done_read ◌>>◌
+  pub told_later : (r : Refusal) → said ≡ Err (Later r) → TextsRead g library' netlist' (answer_read (Err r))
+  unfolding Reached answer_read done_read ◌>>◌
   told_later r e =
       let k = rw e at h in
       record { answers = rw (k.0, k.1); holds = λ p s q. refused-read s }
 
-  pub told-read : said ≡ Unrefused → TextsRead g library' netlist' (verdict_read Accepted)
-  unfolding Reached verdict_read done_read ◌>>◌
+  pub told-stopped : (stop : Stop) → said ≡ Err stop → TextsRead g library' netlist' (answer_read (Err (refusal_of stop)))
+  told-stopped (AtEntry r) e = told-entry r e
+  told-stopped (Later r) e = told_later r e
+
+  pub told-read : said ≡ (Ok tt) → TextsRead g library' netlist' (answer_read (Ok tt))
+  unfolding Reached answer_read done_read ◌>>◌
   told-read e =
       let k = rw e at h in
       record {
@@ -98,8 +101,8 @@ module _ (g : Given) (table library' netlist' : List ℕ) where
   held-refused number line t =
       record { answers = done_more (entered false g) (read_pair g) _ number line t.answers; holds = λ s r z. refused-read r }
 
-  pub held_kept : (v : Verdict) (r : Refusal) → v ≡ Refused r → TextsRead g library' netlist' (verdict_read v) → HeldRead g table library' netlist' (verdict_read v)
-  unfolding verdict_read
+  pub held_kept : (v : Result (Unit {0}) Refusal) (r : Refusal) → v ≡ Err r → TextsRead g library' netlist' (answer_read v) → HeldRead g table library' netlist' (answer_read v)
+  unfolding answer_read
   held_kept v r e t = rw e (held-refused r.number r.line (rw e at t))
 
   module _ (netlist'' : List ℕ) (t : TextsRead g library' netlist' (read tt)) (said : Read (Unit {0}))
@@ -149,8 +152,8 @@ module _ (g : Given) (table : List ℕ) (l : ℕ) (late : Bool) (library' netlis
   pad-refused number line t =
       record { answers = done_more (entered false g) (held_by g table) _ number line t.answers; holds = λ s r z. refused-read r }
 
-  pub pad-kept : (v : Verdict) (r : Refusal) → v ≡ Refused r → HeldRead g table library' netlist' (verdict_read v) → PadRead g table l late library' netlist' (verdict_read v)
-  unfolding verdict_read
+  pub pad-kept : (v : Result (Unit {0}) Refusal) (r : Refusal) → v ≡ Err r → HeldRead g table library' netlist' (answer_read v) → PadRead g table l late library' netlist' (answer_read v)
+  unfolding answer_read
   pad-kept v r e t = rw e (pad-refused r.number r.line (rw e at t))
 
   module _ (netlist'' : List ℕ) (t : HeldRead g table library' netlist' (read tt)) (marked : Bool)
@@ -189,10 +192,10 @@ module _ (g : Given) (table : List ℕ) (l : ℕ) (late : Bool) (library' netlis
                 rw (← same) (unfold placed in rw (padded-more s.statements s.pads l) (k.holds (marks r)))
 
 -- An accepted verdict.
-pub accepted_is : (v : Verdict) → v ≡ Accepted → verdict_read v ≡ read tt
-unfolding verdict_read
+pub accepted_is : (v : Result (Unit {0}) Refusal) → v ≡ (Ok tt) → answer_read v ≡ read tt
+unfolding answer_read
 accepted_is v e = rw e
 
-pub refused_is : (v : Verdict) (r : Refusal) → v ≡ Refused r → verdict_read v ≡ refused r.number r.line
-unfolding verdict_read
+pub refused_is : (v : Result (Unit {0}) Refusal) (r : Refusal) → v ≡ Err r → answer_read v ≡ refused r.number r.line
+unfolding answer_read
 refused_is v r e = rw e

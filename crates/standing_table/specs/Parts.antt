@@ -2,7 +2,7 @@
 use Rattle.std.specs.Prelude.{Bool, true, false, not, List, [], ◌∷◌, ◌++◌, ◌≡◌, ℕ}
 use Rattle.reading.specs.Numbers as No
 use Rattle.reading.specs.Refusal.{Read, read, ◌>>=◌, ◌>>◌, weigh}
-use Rattle.reading.specs.Verdict.{done_read}
+use Rattle.reading.specs.Answer.{done_read}
 use Rattle.library_table.specs.Cells.{Cell}
 use Rattle.netlist_table.specs.Netlist.{Statement, mark, output}
 use Rattle.calculation.specs.Pads.{padded, State, statements_of, takes_none, unpaddable, placeable, placed}

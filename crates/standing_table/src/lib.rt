@@ -1,6 +1,6 @@
 // The standing table: the numbers run again over those that stand in it, and its stores. Document 02, K11.
 //
-// For the crates above, each with what it asks and leaves: `observe`, CO and SO run again over the values that stand;
+// For the crates above, each with what it asks and leaves: `numbers_of`, the numbers that stand; `observe`, CO and SO run again over the values that stand;
 // `hand_observed`, which lays them into an answer; `put_standing`, which lays an analysis into a standing table; `put_pad`,
 // which makes one pad more stand.
 //
@@ -23,6 +23,15 @@ use sweep_reruns::observe_anew;
 use sweep_runs::{Sweeps, hand_over};
 use table::{put, word};
 
+// The numbers that stand, behind the counts and the pads. A standing table stays a slice whose length is asked for: it may be
+// longer, and its front as an array would be an optional reference (pads/narrow).
+pub fn numbers_of(standing: &[u32]) -> &[u32]
+    requires { Size.standing ≤ length standing.now }
+    ensures { result.now ≡ drop Size.standing_numbers standing.now }
+{
+    &standing[sizes::STANDING_NUMBERS..]
+}
+
 // CO and SO run again, over the values that stand in a standing table.
 pub fn observe(
     library: &[u32],
@@ -30,32 +39,24 @@ pub fn observe(
     standing: &[u32],
     numbers: &mut [u32; sizes::NUMBERS],
 ) -> Sweeps
-    requires { Ready library.now netlist.now (drop Size.standing_numbers standing.now)
-        × (length numbers.old ≡ Size.numbers) }
+    requires { Ready library.now netlist.now (drop Size.standing_numbers standing.now) }
     ensures { (cells : List Cell) (ss : List Statement)
         → Holds library.now netlist.now cells ss
         → ObservedAnew cells ss (drop Size.standing_numbers standing.now) numbers.new result }
 {
-    observe_anew(
-        library,
-        netlist,
-        &standing[sizes::STANDING_NUMBERS..],
-        numbers,
-    )
+    observe_anew(library, netlist, numbers_of(standing), numbers)
 }
 
 // Lays the CO and SO of each line into an answer.
 pub fn hand_observed(numbers: &[u32; sizes::NUMBERS], answer: &mut [u32])
-    requires { (length numbers.now ≡ Size.numbers) × (Size.observed ≤ length answer.old) }
+    requires { Size.observed ≤ length answer.old }
     ensures { answer.new
         ≡ observed_words numbers.now ++ drop Size.observed answer.old }
 {
-    let mut i = 0;
-    while i < sizes::OBSERVED {
+    for i in 0..sizes::OBSERVED {
         answer[i] = numbers[i / sizes::KINDS * sizes::COSTS
             + sizes::OBSERVED_AT
             + i % sizes::KINDS];
-        i += 1;
     }
 }
 
@@ -70,7 +71,7 @@ fn clear_pads(standing: &mut [u32], pads: usize)
 
 // Lays numbers behind the pads.
 fn put_numbers(standing: &mut [u32], numbers: &[u32; sizes::NUMBERS])
-    requires { (Size.standing ≤ length standing.old) × (length numbers.now ≡ Size.numbers) }
+    requires { Size.standing ≤ length standing.old }
     ensures { standing.new ≡ take Size.standing_numbers standing.old
         ++ (numbers.now ++ drop Size.numbers (drop Size.standing_numbers standing.old)) }
 {
@@ -84,8 +85,7 @@ pub fn put_standing(
     counts: Counts,
     numbers: &[u32; sizes::NUMBERS],
 )
-    requires { (pads ≤ Size.pads) × (Size.standing ≤ length standing.old)
-        × (length numbers.now ≡ Size.numbers) }
+    requires { (pads ≤ Size.pads) × (Size.standing ≤ length standing.old) }
     ensures { standing.new
         ≡ standing_words (take pads (drop Size.pads_at standing.old)) (whole counts numbers.now)
         ++ drop Size.standing standing.old }

@@ -1,5 +1,5 @@
 -- A row that another dominates: its sum is no lower, whatever the costs, so that the least row sum is the same without it.
-use Rattle.common_laws.proofs.Base.{true, List, [], ◌∷◌, inl, some, ◌≡◌, refl, sym, ◌∙◌, ℕ, zero, suc, ◌+◌, ◌*◌, ◌-◌, ◌/◌, ◌%◌, ◌≤◌, ◌<◌, le_refl, arith, eqb-true, leb-true}
+use Rattle.common_laws.proofs.Base.{true, List, [], ◌∷◌, inl, some, ◌≡◌, refl, ℕ, zero, suc, ◌+◌, ◌*◌, ◌-◌, ◌/◌, ◌%◌, ◌≤◌, ◌<◌, le_refl, arith, eqb-true, leb-true}
 use Rattle.common_laws.proofs.Base.{bit_and, and_step, eqb, leb, get_or}
 use Rattle.common_laws.proofs.Tests.{and_left, and_right}
 use Rattle.sizes.specs.Sizes as Size
@@ -65,11 +65,11 @@ module _ (library costs : List ℕ) (group : ℕ) where
       SummedFrom some library costs group kind row best × (sum_number best ≤ row_sum costs depth columns)
 
   -- Before the first, a row that costs never stands for the one summed last.
-  pub below_none : {kind row : ℕ} {best : Sum} → row ≡ get_or library group 0 → Summed kind never best → LeastBelow kind row best never 0
+  pub below_none : {kind : ℕ} {best : Sum} → Summed kind never best → LeastBelow kind (get_or library group 0) best never 0
   unfolding row_sum
-  below_none h s = (summed-none some library costs group h s, omega (arith, s.comes_to, sum-never never (sums costs (named_columns 0)) (inl (le_refl never))))
+  below_none s = (summed-none some library costs group s, omega (arith, s.comes_to, sum-never never (sums costs (named_columns 0)) (inl (le_refl never))))
 
-  module _ (kind row depth columns : ℕ) (best : Sum) (p : 0 < row) (f : GroupFits library group Size.columns) (b : LeastBelow kind row best depth columns) where
+  module _ (kind row depth columns : ℕ) (best : Sum) (p : 0 < row) (q : row ≤ get_or library group 0) (f : GroupFits library group Size.columns) (b : LeastBelow kind row best depth columns) where
     abbrev row_at : ℕ
     row_at = group + 1 + Size.row_words * (row - 1)
 
@@ -80,10 +80,10 @@ module _ (library costs : List ℕ) (group : ℕ) where
     below-same d =
         let l = dominated-sum costs (get_or library row_at 0) (get_or library (row_at + 1) 0) depth columns d in
         let m = row_bound costs depth columns in
-        (summed-more some library costs group p f b.0 (record { of_kind = refl; comes_to = omega (arith, b.1, l, m) }), b.1)
+        (summed-more some library costs group p q f b.0 (record { of_kind = refl; comes_to = omega (arith, b.1, l, m) }), b.1)
 
     -- Any other is summed.
     pub below_more : {next : Sum} → Summed (sum_kind best) (lesser (row_sum costs (get_or library row_at 0) (get_or library (row_at + 1) 0)) (sum_number best)) next
         → LeastBelow kind (row - 1) next (get_or library row_at 0) (get_or library (row_at + 1) 0)
     unfolding lesser_row lesser counted
-    below_more n = (summed-more some library costs group p f b.0 n, omega (arith, n.comes_to))
+    below_more n = (summed-more some library costs group p q f b.0 n, omega (arith, n.comes_to))

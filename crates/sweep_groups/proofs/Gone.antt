@@ -1,5 +1,5 @@
 -- "For every row the columns gone to are exactly the named ones, each once, lowest first."
-use Rattle.common_laws.proofs.Base.{map, ◌≡◌, refl, ◌∙◌, ℕ, ◌+◌, ◌*◌, ◌-◌, ◌^◌, ◌≤◌, ◌<◌}
+use Rattle.common_laws.proofs.Base.{map, ◌≡◌, refl, ◌∙◌, ℕ, ◌+◌, ◌*◌, ◌^◌, ◌≤◌, ◌<◌}
 use Rattle.sizes.specs.Sizes as Size
 use Rattle.library_table.specs.Cells.{bit_of, setting_columns, observing_columns, named}
 use Rattle.library_table.specs.Library.{column_count}

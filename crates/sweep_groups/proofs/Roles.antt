@@ -1,12 +1,19 @@
 -- What goes by the role, 0 setting and 1 observing.
-use Rattle.common_laws.proofs.Base.{List, ◌≡◌, ℕ, ◌+◌, ◌*◌, ◌≤◌, ◌<◌, ℕ_discrete, arith, get_or, eq-eqb, ne_eqb}
+use Rattle.common_laws.proofs.Base.{List, ◌≡◌, ℕ, ◌+◌, ◌*◌, ◌≤◌, ◌<◌, ℕ_discrete, refl, sym, ◌∙◌, arith, get_or, eq-eqb, ne_eqb}
 use Rattle.sizes.specs.Sizes as Size
 use Rattle.sizes.specs.Places.{setting_place, observing_place}
 use Rattle.reading.specs.Choice.{pick}
 use Rattle.sweep_sums.specs.Sums.{place_kind}
 use Rattle.sweep_sums.proofs.Sums.{setting-kind, observing-kind}
+use Rattle.sweep_groups.specs.declared.turns.Role.{Role}
+use Rattle.sweep_groups.specs.declared.turns.Role.TheVariants.{Setting, Observing}
+use Rattle.sweep_groups.specs.Roles.{role_index, RoleOf}
 use Rattle.sweep_groups.specs.Tables.{by_role, visit_count, visit_group, visit_place}
 use Rattle.sweep_groups.specs.Fits.{LinesFit}
+
+pub role_most : (role : Role) → role_index role ≤ 1
+role_most Setting = omega arith
+role_most Observing = omega arith
 
 module _ {A : Type 0} (role : ℕ) (setting observing : A) where
   pub role_set : role ≡ 0 → by_role role setting observing ≡ setting
@@ -51,3 +58,19 @@ module _ (role kind : ℕ) (lines : List ℕ) (pins i : ℕ) (kinds : kind ≤ 1
       by_role_lem
       (λ h l. rw (role_set role own read h) (setting-kind kind (get_or lines 0 0) i kinds (omega arith)))
       (λ h l. rw (role-observed role own read h) (observing-kind kind (get_or lines (i + 1) 0) kinds))
+
+-- ---- the role that a number stands for
+
+pub role_of_above : (number : ℕ) → (number ≡ 0 → ⊥) → RoleOf number Observing
+role_of_above number n =
+    record {
+      setting = λ e. absurd (n e);
+      observing = λ z. refl;
+      columns = λ pins. same (2 * pins) (2 * pins + 3);
+      count = λ pins. same Size.values pins;
+      group = λ kind i. same (Size.cc_group + kind * Size.values + i) (Size.co_group + kind * Size.pins + i);
+      place = λ kind lines i. same (setting_place kind (get_or lines 0 0) i) (observing_place kind (get_or lines (i + 1) 0));
+    }
+  where
+    same : {A : Type 0} (setting observing : A) → by_role 1 setting observing ≡ by_role number setting observing
+    same setting observing = role-observed 1 setting observing (λ e. omega (arith, e)) ∙ sym (role-observed number setting observing n)

@@ -5,7 +5,7 @@ use Rattle.sizes.specs.Places.{setting_place, observing_place}
 use Rattle.cost.specs.Cost.{over, never, capped}
 use Rattle.reading.specs.Choice.{pick}
 use Rattle.plans.specs.System.{Way}
-use Rattle.plans.specs.Sweep.{at, way, least}
+use Rattle.plans.specs.Sweep.{way, least}
 use Rattle.sweep_sums.specs.Columns.{named_columns}
 use Rattle.sweep_sums.specs.declared.Sum.{Sum}
 use Rattle.sweep_sums.specs.Sums.{sum_number, sum_kind, Summed, row_sum}
@@ -79,28 +79,26 @@ module _ (read : ℕ → Option ℕ) (library costs : List ℕ) (group : ℕ) wh
 
   -- The same of a sum in its kind.
   abbrev pub SummedFrom : ℕ → ℕ → Sum → Type 0
-  SummedFrom kind row best = (row ≤ get_or library group 0) × Summed kind (least_from row) best
+  SummedFrom kind row best = Summed kind (least_from row) best
 
-  pub summed-none : {kind row : ℕ} {best : Sum} → row ≡ get_or library group 0 → Summed kind never best → SummedFrom kind row best
-  summed-none {row = row} h s = (omega arith, record { of_kind = s.of_kind; comes_to = s.comes_to ∙ rows_none row h })
+  pub summed-none : {kind : ℕ} {best : Sum} → Summed kind never best → SummedFrom kind (get_or library group 0) best
+  summed-none s = record { of_kind = s.of_kind; comes_to = s.comes_to ∙ rows_none (get_or library group 0) refl }
 
-  pub summed-more : {kind row : ℕ} {best next : Sum} → 0 < row → GroupFits library group Size.columns
+  pub summed-more : {kind row : ℕ} {best next : Sum} → 0 < row → row ≤ get_or library group 0 → GroupFits library group Size.columns
       → SummedFrom kind row best
       → let at = group + 1 + Size.row_words * (row - 1) in
       Summed (sum_kind best) (lesser_row costs (get_or library at 0) (read (get_or library (at + 1) 0)) (sum_number best)) next
       → SummedFrom kind (row - 1) next
-  summed-more {row = row} p f b n =
-      let at = group + 1 + Size.row_words * (row - 1) in (
-        omega (arith, b.0),
-        record {
-          of_kind = n.of_kind ∙ b.1.of_kind;
-          comes_to =
-              n.comes_to
-              ∙ ap (lesser_row costs (get_or library at 0) (read (get_or library (at + 1) 0))) b.1.comes_to
-              ∙ rows_more row Size.columns p b.0 f;
-        },
-      )
+  summed-more {row = row} p q f b n =
+      let at = group + 1 + Size.row_words * (row - 1) in
+      record {
+        of_kind = n.of_kind ∙ b.of_kind;
+        comes_to =
+            n.comes_to
+            ∙ ap (lesser_row costs (get_or library at 0) (read (get_or library (at + 1) 0))) b.comes_to
+            ∙ rows_more row Size.columns p q f;
+      }
 
   pub summed-all : {kind row : ℕ} {best : Sum} → row ≤ 0 → SummedFrom kind row best
       → Summed kind (least costs (group_columns read library group)) best
-  summed-all {row = row} h s = record { of_kind = s.1.of_kind; comes_to = s.1.comes_to ∙ rows_all row h }
+  summed-all {row = row} h s = record { of_kind = s.of_kind; comes_to = s.comes_to ∙ rows_all row h }

@@ -2,3 +2,4 @@ pub mod Tables
 pub mod Fits
 pub mod Sums
 pub mod Gone
+pub mod Roles

@@ -1,31 +1,32 @@
 // What the columns of a gate's rows ask for, read out of the numbers table: each column's cost by its
 // bit, so that every row of the gate is summed over them.
 ghost use Rattle.std.specs.Prelude.{◌+◌, ◌*◌};
+ghost use Rattle.cost.specs.Kind.{kind_index};
+ghost use Rattle.sweep_groups.specs.Roles.{role_index};
 ghost use Rattle.sweep_groups.specs.Tables.{role_columns};
 ghost use Rattle.sweep_groups.specs.Fits.{Gathered, GatherFits, LineCostsFit};
 
 use super::places::{observing_place, setting_place};
-use super::turns::SETTING;
+use super::turns::Role;
+use cost::Kind;
 
 // The costs of so many lines at 1 and at 0, from that of the last pin back.
 fn line_costs(
-    kind: usize,
+    kind: Kind,
     lines: &[u32; sizes::GATE_LINES],
     pins: usize,
     numbers: &[u32],
     count: usize,
     costs: &mut [u32; sizes::COLUMNS],
 )
-    requires { LineCostsFit kind lines.now pins numbers.now count costs.old }
-    ensures { Gathered (2 * count) kind lines.now pins numbers.now
+    requires { LineCostsFit (kind_index kind) lines.now pins numbers.now count costs.old }
+    ensures { Gathered (2 * count) (kind_index kind) lines.now pins numbers.now
         costs.new }
 {
-    let mut back = 0;
-    while back < count {
+    for back in 0..count {
         let place = setting_place(kind, lines[pins - back], 0);
         costs[2 * back] = numbers[place + 1];
         costs[2 * back + 1] = numbers[place];
-        back += 1;
     }
 }
 
@@ -33,24 +34,25 @@ fn line_costs(
 // pins' where lines are set, where they are observed the output's too.
 pub fn column_costs(
     stale: bool,
-    role: usize,
-    kind: usize,
+    role: Role,
+    kind: Kind,
     lines: &[u32; sizes::GATE_LINES],
     pins: usize,
     numbers: &[u32],
     costs: &mut [u32; sizes::COLUMNS],
 )
-    requires { GatherFits stale role kind lines.now pins numbers.now costs.old }
-    ensures { Gathered (role_columns role pins) kind lines.now pins numbers.now
+    requires { GatherFits stale (role_index role) (kind_index kind) lines.now pins numbers.now costs.old }
+    ensures { Gathered (role_columns (role_index role) pins) (kind_index kind) lines.now pins numbers.now
         costs.new }
 {
     if !stale {
         return;
     }
-    if role == SETTING {
-        line_costs(kind, lines, pins, numbers, pins, costs);
-        return;
+    match role {
+        Role::Setting => line_costs(kind, lines, pins, numbers, pins, costs),
+        Role::Observing => {
+            line_costs(kind, lines, pins, numbers, pins + 1, costs);
+            costs[2 * pins + 2] = numbers[observing_place(kind, lines[0])];
+        }
     }
-    line_costs(kind, lines, pins, numbers, pins + 1, costs);
-    costs[2 * pins + 2] = numbers[observing_place(kind, lines[0])];
 }

@@ -3,10 +3,12 @@
 //
 // For the crates above, each with what it asks of the tables (specs/Fits.antt), since the loop of the
 // sweeps tests no bounds: `least_sum`, `least_wired`, `least_of`, `is_way`, `read_sum`, `cell_place`, and
-// modules `gather` and `turns`.
+// modules `gather` and `turns`; and `observing_place`, of the numbers table.
 //
-// Rows are added up in crate `sweep_sums`. Here all goes by the kind's number, 0 combinational and 1
-// sequential.
+// Rows are added up in crate `sweep_sums`.
+//
+// What a function takes of a gate, a group and a row it takes one by one, in registers: nearly each takes other parts of them,
+// and a struct would be laid into memory for each call, in the sweeps' innermost loop.
 #![tactic(auto)]
 
 pub mod gather;
@@ -15,9 +17,9 @@ pub mod turns;
 
 ghost use Rattle.std.specs.Prelude.{true, ◌≡◌, ◌≤◌, ◌<◌, length};
 ghost use Rattle.std.proofs.Math.Option.{some};
-ghost use Rattle.sizes.specs.Sizes as Size;
 ghost use Rattle.sizes.specs.Places.{cell_place, gate_place};
 ghost use Rattle.cost.specs.Cost.{never};
+ghost use Rattle.cost.specs.Kind.{kind_index};
 ghost use Rattle.plans.specs.Sweep.{least};
 ghost use Rattle.sweep_sums.specs.Columns.{ColumnsFit};
 ghost use Rattle.sweep_sums.specs.Sums.{sum_number, sum_kind, Summed};
@@ -27,10 +29,10 @@ ghost use Rattle.sweep_groups.specs.Tables.{read_row, has_way, group_columns};
 ghost use Rattle.sweep_groups.specs.Sums.{lesser_row, dominated};
 ghost use Rattle.sweep_groups.specs.Fits.{ReadFits, SumFits, LeastFits};
 
-use cost::NEVER;
+use cost::{Kind, NEVER};
 use library_table::cells;
 use netlist_table::gates::unchecked::{cell_of, lines_of};
-use sweep_sums::kinds::wide;
+pub use places::observing_place;
 use sweep_sums::{Sum, lesser_row, no_sum};
 use sweep_wires::{needs_both, once};
 
@@ -43,7 +45,7 @@ fn lesser_wired(
     columns: u32,
     best: Sum,
 ) -> Sum
-    requires { SettingRow pins columns × (length costs.now ≡ Size.columns) }
+    requires { SettingRow pins columns }
     ensures { Summed (sum_kind best) (lesser_row costs.now depth
         (read_row true lines.now pins columns) (sum_number best)) result }
 {
@@ -58,24 +60,21 @@ pub fn is_way(wired: bool, lines: &[u32; sizes::GATE_LINES], pins: usize, column
     requires { ReadFits wired pins columns }
     ensures { result ≡ has_way (read_row wired lines.now pins columns) }
 {
-    if wired {
-        return !needs_both(lines, pins, columns);
-    }
-    true
+    !(wired && needs_both(lines, pins, columns))
 }
 
 // A row's sum, of a kind, the row read as its gate's rows are; never where it is no way.
 pub fn read_sum(
     wired: bool,
-    kind: usize,
+    kind: Kind,
     lines: &[u32; sizes::GATE_LINES],
     pins: usize,
     costs: &[u32; sizes::COLUMNS],
     depth: u32,
     columns: u32,
 ) -> Sum
-    requires { (kind ≤ 1) × ReadFits wired pins columns × ColumnsFit columns costs.now }
-    ensures { Summed kind (lesser_row costs.now depth
+    requires { ReadFits wired pins columns × ColumnsFit columns costs.now }
+    ensures { Summed (kind_index kind) (lesser_row costs.now depth
         (read_row wired lines.now pins columns) never) result }
 {
     let none = no_sum(kind);
@@ -89,24 +88,19 @@ pub fn read_sum(
 fn is_dominated(depth: u32, columns: u32, other: u32, others: u32) -> bool
     ensures { result ≡ dominated depth columns other others }
 {
-    if columns & others == others {
-        return other <= depth;
-    }
-    false
+    columns & others == others && other <= depth
 }
 
 // "the least row sum of its group", over the costs of the columns, of a kind. A row that the one summed last
 // dominates is not summed.
-pub fn least_sum(kind: usize, library: &[u32], group: usize, costs: &[u32; sizes::COLUMNS]) -> Sum
-    requires { SumFits kind library.now group costs.now }
-    ensures { Summed kind (least costs.now (group_columns some library.now group)) result }
+pub fn least_sum(kind: Kind, library: &[u32], group: usize, costs: &[u32; sizes::COLUMNS]) -> Sum
+    requires { SumFits (kind_index kind) library.now group costs.now }
+    ensures { Summed (kind_index kind) (least costs.now (group_columns some library.now group)) result }
 {
     let mut best = no_sum(kind);
     let mut depth = NEVER;
     let mut columns = 0;
-    let mut row = wide(library[group]);
-    while 0 < row {
-        row -= 1;
+    for row in (0..library[group] as usize).rev() {
         let at = group + 1 + sizes::ROW_WORDS * row;
         let next_depth = library[at];
         let next_columns = library[at + 1];
@@ -121,21 +115,19 @@ pub fn least_sum(kind: usize, library: &[u32], group: usize, costs: &[u32; sizes
 
 // The same of a group whose rows are read as those of one wire.
 pub fn least_wired(
-    kind: usize,
+    kind: Kind,
     library: &[u32],
     group: usize,
     lines: &[u32; sizes::GATE_LINES],
     pins: usize,
     costs: &[u32; sizes::COLUMNS],
 ) -> Sum
-    requires { LeastFits true kind library.now group pins costs.now }
-    ensures { Summed kind (least costs.now (group_columns
+    requires { LeastFits true (kind_index kind) library.now group pins costs.now }
+    ensures { Summed (kind_index kind) (least costs.now (group_columns
         (read_row true lines.now pins) library.now group)) result }
 {
     let mut lowest = no_sum(kind);
-    let mut row = wide(library[group]);
-    while 0 < row {
-        row -= 1;
+    for row in (0..library[group] as usize).rev() {
         let at = group + 1 + sizes::ROW_WORDS * row;
         let columns = library[at + 1];
         if !needs_both(lines, pins, columns) {
@@ -149,15 +141,15 @@ pub fn least_wired(
 // call it, so that the compiler puts it into their loop.
 pub fn least_of(
     wired: bool,
-    kind: usize,
+    kind: Kind,
     library: &[u32],
     group: usize,
     lines: &[u32; sizes::GATE_LINES],
     pins: usize,
     costs: &[u32; sizes::COLUMNS],
 ) -> Sum
-    requires { LeastFits wired kind library.now group pins costs.now }
-    ensures { Summed kind (least costs.now (group_columns
+    requires { LeastFits wired (kind_index kind) library.now group pins costs.now }
+    ensures { Summed (kind_index kind) (least costs.now (group_columns
         (read_row wired lines.now pins) library.now group)) result }
 {
     if wired {

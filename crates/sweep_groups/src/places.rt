@@ -1,21 +1,22 @@
 // Places of the numbers table, by kind, line and value.
 ghost use Rattle.std.specs.Prelude.{◌≡◌, ◌≤◌};
 ghost use Rattle.sizes.specs.Places.{setting_place, observing_place};
+ghost use Rattle.cost.specs.Kind.{kind_index};
 
-use sweep_sums::kinds::wide;
+use cost::Kind;
 
 // The place of a line at a value, in the numbers table.
-pub fn setting_place(kind: usize, line: u32, value: usize) -> usize
-    requires { (1 ≤ line) × (kind ≤ 1) × (value ≤ 1) }
-    ensures { result ≡ setting_place kind line value }
+pub fn setting_place(kind: Kind, line: u32, value: usize) -> usize
+    requires { (1 ≤ line) × (value ≤ 1) }
+    ensures { result ≡ setting_place (kind_index kind) line value }
 {
-    (wide(line) - 1) * sizes::COSTS + kind * sizes::VALUES + value
+    (line as usize - 1) * sizes::COSTS + kind.index() * sizes::VALUES + value
 }
 
 // The place of a line observed.
-pub fn observing_place(kind: usize, line: u32) -> usize
-    requires { (1 ≤ line) × (kind ≤ 1) }
-    ensures { result ≡ observing_place kind line }
+pub fn observing_place(kind: Kind, line: u32) -> usize
+    requires { 1 ≤ line }
+    ensures { result ≡ observing_place (kind_index kind) line }
 {
-    (wide(line) - 1) * sizes::COSTS + sizes::OBSERVED_AT + kind
+    (line as usize - 1) * sizes::COSTS + sizes::OBSERVED_AT + kind.index()
 }

@@ -1,42 +1,60 @@
 // The visits of a gate: where lines are set, its output's 0 and 1, where they are observed, its pins.
 ghost use Rattle.std.specs.Prelude.{◌≡◌, ◌≤◌, ◌<◌};
 ghost use Rattle.sizes.specs.Sizes as Size;
+ghost use Rattle.cost.specs.Kind.{kind_index};
+ghost use Rattle.sweep_groups.specs.Roles.{role_index};
 ghost use Rattle.sweep_groups.specs.Tables.{visit_count, visit_group, visit_place};
 ghost use Rattle.sweep_groups.specs.Fits.{LinesFit};
 
 use super::places::{observing_place, setting_place};
+use cost::Kind;
 
 // What a sweep is for.
-pub const SETTING: usize = 0;
+#[derive(Clone, Copy, PartialEq, Eq)]
+pub enum Role {
+    Setting,
+    Observing,
+}
 
-pub const OBSERVING: usize = 1;
+// The role that a number stands for: 0 setting, any above it observing. The crates here name a role; a caller that has
+// a number asks by this, for a visit's group, its place and its columns.
+impl From<usize> for Role {
+    ghost use Rattle.sweep_groups.specs.Roles.{RoleOf};
+
+    ghost from_gives = { RoleOf };
+
+    fn from(number: usize) -> Role {
+        match number {
+            0 => Role::Setting,
+            _ => Role::Observing,
+        }
+    }
+}
 
 // The group of a visit, among the groups of the gate's cell.
-pub fn visit_group(role: usize, kind: usize, i: usize) -> usize
-    requires { (kind ≤ 1) × (i ≤ Size.pins) }
-    ensures { result ≡ visit_group role kind i }
+pub fn visit_group(role: Role, kind: Kind, i: usize) -> usize
+    requires { i ≤ Size.pins }
+    ensures { result ≡ visit_group (role_index role) (kind_index kind) i }
 {
-    if role == SETTING {
-        sizes::CC_GROUP + kind * sizes::VALUES + i
-    } else {
-        sizes::CO_GROUP + kind * sizes::PINS + i
+    match role {
+        Role::Setting => sizes::CC_GROUP + kind.index() * sizes::VALUES + i,
+        Role::Observing => sizes::CO_GROUP + kind.index() * sizes::PINS + i,
     }
 }
 
 // The place of the number that a visit renews.
 pub fn visit_place(
-    role: usize,
-    kind: usize,
+    role: Role,
+    kind: Kind,
     lines: &[u32; sizes::GATE_LINES],
     pins: usize,
     i: usize,
 ) -> usize
-    requires { (kind ≤ 1) × LinesFit lines.now pins × (i < visit_count role pins) }
-    ensures { result ≡ visit_place role kind lines.now i }
+    requires { LinesFit lines.now pins × (i < visit_count (role_index role) pins) }
+    ensures { result ≡ visit_place (role_index role) (kind_index kind) lines.now i }
 {
-    if role == SETTING {
-        setting_place(kind, lines[0], i)
-    } else {
-        observing_place(kind, lines[i + 1])
+    match role {
+        Role::Setting => setting_place(kind, lines[0], i),
+        Role::Observing => observing_place(kind, lines[i + 1]),
     }
 }

@@ -5,13 +5,12 @@ use Rattle.netlist_table.specs.Gates.{gate_line}
 use Rattle.sweep_links.specs.Lines.{Chained, Driven}
 use Rattle.sweep_links.specs.Turns.{bit_at}
 
--- The links have the chains of some netlist, the line is one of its lines, and the set is whole.
-pub record ReadersFit (links : List ℕ) (line : ℕ) (awake : List ℕ) : Type 0 where
+-- The links have the chains of some netlist, and the line is one of its lines.
+pub record ReadersFit (links : List ℕ) (line : ℕ) : Type 0 where
   pub netlist : List ℕ
   pub gates : ℕ
   pub chained : Chained netlist gates links
   pub inside : line ≤ Size.lines
-  pub size : length awake ≡ Size.awake_words
 
 -- Every gate that has the line among its pins is awake, where turn t is that of gate t; and no turn was put to rest.
 pub record ReadersWoken (netlist : List ℕ) (gates line : ℕ) (before after : List ℕ) : Type 0 where
@@ -19,12 +18,11 @@ pub record ReadersWoken (netlist : List ℕ) (gates line : ℕ) (before after : 
   pub readers : (g i : ℕ) → g < gates → 1 ≤ i → i ≤ Size.pins → gate_line netlist g i ≡ line → bit_at after g ≡ 1
   pub size : length after ≡ length before
 
--- The links have the drivers of some netlist, the line is one of its lines, and the set is whole.
-pub record DriverFits (gates : ℕ) (links : List ℕ) (line : ℕ) (awake : List ℕ) : Type 0 where
+-- The links have the drivers of some netlist, and the line is one of its lines.
+pub record DriverFits (gates : ℕ) (links : List ℕ) (line : ℕ) : Type 0 where
   pub netlist : List ℕ
   pub driven : Driven netlist gates links
   pub inside : line ≤ Size.lines
-  pub size : length awake ≡ Size.awake_words
 
 -- The last gate that drives the line is awake, where turn t is that of gate `gates - 1 - t`; and no turn was put to rest.
 pub record DriverWoken (netlist : List ℕ) (gates line : ℕ) (before after : List ℕ) : Type 0 where

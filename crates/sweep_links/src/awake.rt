@@ -8,7 +8,7 @@
 // Where lines are set, gates go in netlist order: turn t is that of gate t, and `wake_readers` wakes
 // the gates themselves. Where lines are observed, they go in reverse order: turn t is that of gate
 // gates - 1 - t, and `wake_driver` wakes that turn of the gate.
-ghost use Rattle.std.specs.Prelude.{List, ◌≡◌, ℕ, ◌+◌, ◌≤◌, ◌<◌, length, get_or};
+ghost use Rattle.std.specs.Prelude.{List, ℕ, ◌+◌, ◌≤◌, ◌<◌, get_or};
 ghost use Rattle.sizes.specs.Sizes as Size;
 ghost use Rattle.sweep_links.specs.Turns.{AllAwake, Woken, Rested, NextAwake};
 ghost use Rattle.sweep_links.specs.Lines.{Chained, Driven};
@@ -23,41 +23,34 @@ pub fn all_awake() -> [u64; sizes::AWAKE_WORDS]
     [0xffff_ffff_ffff_ffff; sizes::AWAKE_WORDS]
 }
 
-fn word(awake: &[u64; sizes::AWAKE_WORDS], at: usize) -> u64
-    requires { (at < Size.awake_words) × (length awake.now ≡ Size.awake_words) }
-    ensures { result ≡ get_or awake.now at 0 }
-{
-    awake[at]
-}
-
 fn wake(awake: &mut [u64; sizes::AWAKE_WORDS], turn: usize)
-    requires { (turn < Size.gates) × (length awake.old ≡ Size.awake_words) }
+    requires { turn < Size.gates }
     ensures { Woken turn awake.old awake.new }
 {
     let at = turn / sizes::WORD_BITS;
     let bit = 1u64 << (turn % sizes::WORD_BITS);
-    awake[at] = word(awake, at) | bit;
+    awake[at] |= bit;
 }
 
 pub fn rest(awake: &mut [u64; sizes::AWAKE_WORDS], turn: usize)
-    requires { (turn < Size.gates) × (length awake.old ≡ Size.awake_words) }
+    requires { turn < Size.gates }
     ensures { Rested turn awake.old awake.new }
 {
     let at = turn / sizes::WORD_BITS;
     let bit = 1u64 << (turn % sizes::WORD_BITS);
-    awake[at] = (word(awake, at) | bit) ^ bit;
+    awake[at] = (awake[at] | bit) ^ bit;
 }
 
 // The lowest awake turn not below `from`; where none is below `end`, one that is not. Where `from` itself is
 // awake, as mostly in a first sweep, a test tells it: the processor goes on with that turn before it has
 // the word, which a count of zeros would make it wait for.
 pub fn next_awake(awake: &[u64; sizes::AWAKE_WORDS], from: usize, end: usize) -> usize
-    requires { (end ≤ Size.gates) × (length awake.now ≡ Size.awake_words) }
+    requires { end ≤ Size.gates }
     ensures { NextAwake awake.now from end result }
 {
     let mut at = from;
     while at < end {
-        let rest = word(awake, at / sizes::WORD_BITS) >> (at % sizes::WORD_BITS);
+        let rest = awake[at / sizes::WORD_BITS] >> (at % sizes::WORD_BITS);
         if rest % 2 == 1 {
             return at;
         }
@@ -71,26 +64,20 @@ pub fn next_awake(awake: &[u64; sizes::AWAKE_WORDS], from: usize, end: usize) ->
 
 // ---- the gates that read a line
 
-fn place_of(x: sizes::Link) -> usize
-    ensures { result ≡ x }
-{
-    x as usize
-}
-
 // Wakes every gate that has a line among its pins.
 pub fn wake_readers(
     awake: &mut [u64; sizes::AWAKE_WORDS],
     links: &[sizes::Link; sizes::LINKS],
     line: usize,
 )
-    requires { ReadersFit links.now line awake.old }
+    requires { ReadersFit links.now line }
     ensures { (netlist : List ℕ) (gates : ℕ) → Chained netlist gates links.now
         → ReadersWoken netlist gates line awake.old awake.new }
 {
-    let mut pin = place_of(links[sizes::READERS_AT + line]);
+    let mut pin = links[sizes::READERS_AT + line] as usize;
     while pin != 0 {
         wake(awake, (pin - 1) / sizes::PINS);
-        pin = place_of(links[sizes::NEXT_AT + pin]);
+        pin = links[sizes::NEXT_AT + pin] as usize;
     }
 }
 
@@ -103,11 +90,11 @@ pub fn wake_driver(
     gates: usize,
     line: usize,
 )
-    requires { DriverFits gates links.now line awake.old }
+    requires { DriverFits gates links.now line }
     ensures { (netlist : List ℕ) → Driven netlist gates links.now
         → DriverWoken netlist gates line awake.old awake.new }
 {
-    let gate = place_of(links[sizes::DRIVERS_AT + line]);
+    let gate = links[sizes::DRIVERS_AT + line] as usize;
     if gate != 0 {
         wake(awake, gates - gate);
     }

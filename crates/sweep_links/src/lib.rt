@@ -6,10 +6,10 @@
 #![tactic(auto)]
 
 pub mod awake;
+pub mod circuit;
 
 ghost use Rattle.std.specs.Prelude.{true, false, List, ◌≡◌, ℕ, ◌+◌, ◌≤◌, ◌<◌, length, get_or};
 ghost use Rattle.sizes.specs.Sizes as Size;
-ghost use Rattle.reading.specs.Choice.{pick};
 ghost use Rattle.netlist_table.specs.Gates.{gate_line, LinesStand};
 ghost use Rattle.sweep_groups.specs.Tables.{gate_tied};
 ghost use Rattle.sweep_links.specs.Lines.{Chained, Driven, Tied};
@@ -17,7 +17,6 @@ ghost use Rattle.sweep_links.specs.Lines.{LinkFits, Links, PartFits, GateFits, N
 
 use netlist_table::gates::unchecked;
 use sweep_groups::cell_place;
-use sweep_sums::kinds::wide;
 use sweep_wires::tied;
 
 // Line i of a gate, which has a place in the links.
@@ -35,11 +34,9 @@ fn chain_gate(netlist: &[u32], gate: usize, links: &mut [sizes::Link; sizes::LIN
     ensures chained { Chained netlist.now (gate + 1) links.new }
     ensures kept { Kept Size.readers_at Size.drivers_at links.old links.new }
 {
-    let before = gate * sizes::PINS;
-    let mut pin = before;
-    while pin < before + sizes::PINS {
-        let line = line_of(netlist, gate, pin - before + 1);
-        pin += 1;
+    for i in 1..=sizes::PINS {
+        let line = line_of(netlist, gate, i);
+        let pin = gate * sizes::PINS + i;
         links[sizes::NEXT_AT + pin] = links[sizes::READERS_AT + line];
         links[sizes::READERS_AT + line] = pin as sizes::Link;
     }
@@ -51,10 +48,8 @@ fn chain(netlist: &[u32], gates: usize, links: &mut [sizes::Link; sizes::LINKS])
     ensures chained { Chained netlist.now gates links.new }
     ensures kept { Kept Size.readers_at Size.drivers_at links.old links.new }
 {
-    let mut gate = 0;
-    while gate < gates {
+    for gate in 0..gates {
         chain_gate(netlist, gate, links);
-        gate += 1;
     }
 }
 
@@ -64,18 +59,10 @@ fn note_drivers(netlist: &[u32], gates: usize, links: &mut [sizes::Link; sizes::
     ensures driven { Driven netlist.now gates links.new }
     ensures kept { Kept Size.drivers_at Size.tied_at links.old links.new }
 {
-    let mut gate = 0;
-    while gate < gates {
+    for gate in 0..gates {
         let line = line_of(netlist, gate, 0);
-        gate += 1;
-        links[sizes::DRIVERS_AT + line] = gate as sizes::Link;
+        links[sizes::DRIVERS_AT + line] = (gate + 1) as sizes::Link;
     }
-}
-
-fn told(b: bool) -> sizes::Link
-    ensures { result ≡ pick b 1 0 }
-{
-    if b { 1 } else { 0 }
 }
 
 // Notes for each gate whether its CC and SC rows are read as those of one wire.
@@ -89,13 +76,11 @@ fn note_tied(
     ensures tied { Tied library.now netlist.now gates links.new }
     ensures kept { Kept Size.tied_at Size.links links.old links.new }
 {
-    let mut gate = 0;
-    while gate < gates {
+    for gate in 0..gates {
         let cell = cell_place(netlist, gate);
-        let pins = wide(library[cell + sizes::PINS_AT]);
+        let pins = library[cell + sizes::PINS_AT] as usize;
         let lines = unchecked::lines_of(netlist, gate);
-        links[sizes::TIED_AT + gate] = told(tied(library, cell, &lines, pins));
-        gate += 1;
+        links[sizes::TIED_AT + gate] = sizes::Link::from(tied(library, cell, &lines, pins));
     }
 }
 
@@ -106,10 +91,7 @@ pub fn is_tied(links: &[sizes::Link; sizes::LINKS], gate: usize) -> bool
         → Tied library netlist gates links.now → gate < gates
         → result ≡ gate_tied library netlist gate }
 {
-    if links[sizes::TIED_AT + gate] == 1 {
-        return true;
-    }
-    false
+    links[sizes::TIED_AT + gate] == 1
 }
 
 // Makes the links of a netlist in an array that is all 0.

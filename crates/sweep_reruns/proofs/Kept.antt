@@ -1,5 +1,5 @@
 -- Numbers that stand, kept as costs: the values alone, or all.
-use Rattle.common_laws.proofs.Base.{Bool, true, false, List, [], ◌∷◌, map, ◌≡◌, refl, sym, ◌∙◌, ap, ℕ, zero, suc, ◌+◌, ◌%◌, ◌≤◌, ◌<◌, ℕ_discrete, dec_lt, le_refl, arith, lt-ltb}
+use Rattle.common_laws.proofs.Base.{true, false, List, [], ◌∷◌, map, ◌≡◌, refl, sym, ◌∙◌, ap, ℕ, zero, suc, ◌+◌, ◌%◌, ◌≤◌, ◌<◌, ℕ_discrete, dec_lt, le_refl, arith, lt-ltb}
 use Rattle.common_laws.proofs.Base.{le-ltb, length, get_or, set, take, length-set, length-map, List-get_or-eq-default, ext_get_or, get_or-set_same, get_or-set_other, get_or-take}
 use Rattle.common_laws.proofs.Base.{length-take-le}
 use Rattle.sizes.specs.Sizes as Size
@@ -11,7 +11,7 @@ use Rattle.plans.proofs.Laws.{at_getD}
 use Rattle.netlist_table.specs.Netlist.{Statement}
 use Rattle.calculation.specs.Prices.{Figures, prices_of}
 use Rattle.calculation.specs.Calculation.{start}
-use Rattle.calculation.specs.Runs.{mixed, of_setting, relaid}
+use Rattle.calculation.specs.Runs.{of_setting, relaid}
 use Rattle.calculation.proofs.Laws.{start-length, start-bounded}
 use Rattle.calculation.proofs.Outputs.{mixed-length, mixed-at}
 use Rattle.sweep_reruns.specs.Kept.{as_cost, held, is_below, kept_at, Kept}

@@ -1,5 +1,5 @@
 -- The runs from numbers that were kept, at the tables of accepted cells and statements.
-use Rattle.common_laws.proofs.Base.{false, List, [], ◌∷◌, ◌≡◌, sym, ◌∙◌, ap, ℕ, ◌≤◌, length}
+use Rattle.common_laws.proofs.Base.{false, List, ◌≡◌, ◌∙◌, ap, ℕ, ◌≤◌, length}
 use Rattle.sizes.specs.Sizes as Size
 use Rattle.plans.specs.Sweep.{Bounded}
 use Rattle.plans.specs.Stages.{Stages, Stages.ended, Stages.stage}

@@ -1,6 +1,7 @@
 -- A pad on trial: the turns that a run from the numbers that stand begins with. Document 02, K13.
-use Rattle.common_laws.proofs.Base.{List, List-as-Memᴰ, ◌≡◌, refl, sym, ◌∙◌, subst, ℕ, ◌+◌, ◌*◌, ◌-◌, ◌≤◌, ◌<◌, ℕ_discrete, arith, length, get_or, set, length-set}
+use Rattle.common_laws.proofs.Base.{List, List-as-Memᴰ, ◌≡◌, sym, ◌∙◌, subst, ℕ, ◌+◌, ◌*◌, ◌-◌, ◌≤◌, ◌<◌, ℕ_discrete, arith, length, get_or, set, length-set}
 use Rattle.sizes.specs.Sizes as Size
+use Rattle.sizes.specs.Places.{observing_place}
 use Rattle.reading.specs.Choice.{pick}
 use Rattle.plans.specs.System.{Visit}
 use Rattle.cost.specs.Cost.{never}
@@ -15,7 +16,7 @@ use Rattle.calculation.specs.Nodes.{Kind, combinational, kind_number, observe, n
 use Rattle.calculation.specs.Ways.{observing_visits}
 use Rattle.calculation.specs.Stored.{Holds}
 use Rattle.calculation.proofs.Laws.{node-inside}
-use Rattle.sweep_links.specs.Lines.{Driven}
+use Rattle.sweep_links.specs.Lines.{Driven, Links}
 use Rattle.sweep_links.specs.Turns.{bit_at}
 use Rattle.sweep_links.specs.AwakeLines.{DriverWoken}
 use Rattle.sweep_groups.specs.Tables.{by_role}
@@ -36,7 +37,7 @@ module _ {library netlist : List ℕ} {cells : List Cell} {ss : List Statement} 
   needs_driver k =
       rw (h.cells_stand, h.statements_stand) (drives-line cells ss h.sound h.behind h.past k)
 
-  module _ {links xs : List ℕ} (fits : FreshFits 1 0 library netlist links xs) (rests : Rests lower (observing_visits combinational cells (gates_of ss)) xs)
+  module _ {xs : List ℕ} (fits : FreshFits 1 0 library netlist xs) (rests : Rests lower (observing_visits combinational cells (gates_of ss)) xs)
       (l : ℕ) (range : InRange l) {none woken : List ℕ} (size : length none ≡ Size.awake_words) (wakes : DriverWoken netlist gates l none woken) where
     -- With none awake but the gate that drives the line, those asleep are idle once the line is a pad.
     idle : (t : ℕ) → t < gates → bit_at woken t ≡ 0 → (v : Visit) → List-as-Memᴰ v (turn_visits 1 0 library netlist t)
@@ -59,7 +60,7 @@ module _ {library netlist : List ℕ} {cells : List Cell} {ss : List Statement} 
 
 -- ---- what `try_pad` asks of the run
 
-module _ {library netlist links numbers : List ℕ} {line : ℕ} (f : TryFits library netlist links numbers line) where
+module _ {library netlist numbers : List ℕ} {line : ℕ} (f : TryFits library netlist numbers line) where
   abbrev tried : List ℕ
   tried = set numbers (node combinational (observe line)) 0
 
@@ -74,11 +75,11 @@ module _ {library netlist links numbers : List ℕ} {line : ℕ} (f : TryFits li
       place (no e) = rw (at_set_other numbers (node combinational (observe line)) 0 n e) (f.half.costs n)
 
   fits : {none woken : List ℕ} → length none ≡ Size.awake_words → DriverWoken netlist (get_or netlist 0 0) line none woken
-      → RunFits 1 0 library netlist links tried woken
+      → RunFits 1 0 library netlist tried woken
   fits size wakes =
-      let here = observe-fits f.half.holds f.half.linked combinational {xs = numbers} f.half.size f.half.costs in
-      let lowered : FreshFits 1 0 library netlist links tried =
-      observe-fits f.half.holds f.half.linked combinational (length-set numbers (node combinational (observe line)) 0 ∙ f.half.size) costs in
+      let here = observe-fits f.half.holds combinational {xs = numbers} f.half.size f.half.costs in
+      let lowered : FreshFits 1 0 library netlist tried =
+      observe-fits f.half.holds combinational (length-set numbers (node combinational (observe line)) 0 ∙ f.half.size) costs in
       record {
         sweep_fits =
             record {
@@ -89,26 +90,24 @@ module _ {library netlist links numbers : List ℕ} {line : ℕ} (f : TryFits li
         runs = lowered.runs;
       }
 
--- The pad's number, where the code lays it.
-abbrev pub laid : List ℕ → ℕ → List ℕ
-laid numbers l = set numbers ((l - 1) * Size.costs + Size.observed_at) 0
-
-laid-node : (numbers : List ℕ) (l : ℕ) → laid numbers l ≡ set numbers (node combinational (observe l)) 0
+-- The pad's number, by its place in the numbers table.
+laid-node : (numbers : List ℕ) (line : ℕ) {place : ℕ} → place ≡ observing_place 0 line → set numbers place 0 ≡ set numbers (node combinational (observe line)) 0
 unfolding node
-laid-node numbers l = let e : (l - 1) * Size.costs + Size.observed_at ≡ (l - 1) * Size.costs + (4 + 0) = omega arith in rw e
+laid-node numbers line {place} placed = let e : place ≡ (line - 1) * Size.costs + (4 + 0) = omega (arith, placed) in rw e
 
 -- The same by the line and the count of gates as they were read.
-module _ {library netlist links numbers : List ℕ} {line : ℕ} (f : TryFits library netlist links numbers line) {l : ℕ} (is : l ≡ line) where
+module _ {library netlist numbers : List ℕ} {line : ℕ} (f : TryFits library netlist numbers line) {l : ℕ} (is : l ≡ line) where
   pub line-range : (1 ≤ l) × (l ≤ Size.lines)
   line-range = rw is (unfold InRange in f.range)
 
   module _ {gates : ℕ} (count : gates ≡ get_or netlist 0 0) where
-    pub line-driven : Driven netlist gates links
-    line-driven = rw count f.half.linked.driven
+    pub line-driven : {links : List ℕ} → Links library netlist links → Driven netlist gates links
+    line-driven linked = rw count linked.driven
 
-    pub trial-fits : {none woken : List ℕ} → length none ≡ Size.awake_words → DriverWoken netlist gates l none woken → RunFits 1 0 library netlist links (laid numbers l) woken
-    trial-fits size wakes = rw (is, laid-node numbers line) (fits f size (rw (is, count) at wakes))
+    pub trial-fits : {place : ℕ} → place ≡ observing_place 0 line → {none woken : List ℕ} → length none ≡ Size.awake_words → DriverWoken netlist gates l none woken
+        → RunFits 1 0 library netlist (set numbers place 0) woken
+    trial-fits placed size wakes = rw (laid-node numbers line placed) (fits f size (rw (is, count) at wakes))
 
-pub trial-ran : {library netlist : List ℕ} {cells : List Cell} {ss : List Statement} → Holds library netlist cells ss → (numbers : List ℕ) {after : List ℕ} {line l count : ℕ}
-    → l ≡ line → Settles lower (sweep_visits 1 0 library netlist) (laid numbers l) count after → PadTried cells ss line numbers count after
-trial-ran h numbers {line = line} is s = rw (is, laid-node numbers line, observes h combinational) at s
+pub trial-ran : {library netlist : List ℕ} {cells : List Cell} {ss : List Statement} → Holds library netlist cells ss → (numbers : List ℕ) (line : ℕ) {after : List ℕ} {place count : ℕ}
+    → place ≡ observing_place 0 line → Settles lower (sweep_visits 1 0 library netlist) (set numbers place 0) count after → PadTried cells ss line numbers count after
+trial-ran h numbers line placed s = rw (laid-node numbers line placed, observes h combinational) at s

@@ -8,9 +8,9 @@ use Rattle.calculation.specs.Nodes.{combinational, observe, node}
 use Rattle.calculation.specs.Ways.{observing_visits}
 use Rattle.sweep_runs.specs.Halves.{HalfFits}
 
--- Costs at which CO rests, beside the tables and links of an accepted library and netlist, and one of the 1,000 lines.
-pub record TryFits (library netlist links numbers : List ℕ) (line : ℕ) : Type 0 where
-  pub half : HalfFits library netlist links numbers
+-- Costs at which CO rests, beside the tables of an accepted library and netlist, and one of the 1,000 lines.
+pub record TryFits (library netlist numbers : List ℕ) (line : ℕ) : Type 0 where
+  pub half : HalfFits library netlist numbers
   pub rests : Rests lower (observing_visits combinational half.cells (gates_of half.statements)) numbers
   pub range : InRange line
 

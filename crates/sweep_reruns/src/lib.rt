@@ -15,45 +15,36 @@ ghost use Rattle.sweep_reruns.specs.Kept.{as_cost, is_below, Kept, ObservedAnew,
 ghost use Rattle.sweep_reruns.specs.Trial.{TryFits, PadTried};
 
 use calculation::Counts;
-use cost::NEVER;
+use cost::{Kind, NEVER};
 use netlist_table::gates::unchecked;
-use sweep_groups::turns::OBSERVING;
+use sweep_groups::observing_place;
+use sweep_groups::turns::Role;
 use sweep_links::awake::wake_driver;
+use sweep_links::circuit::Circuit;
 use sweep_links::link;
-use sweep_runs::{Sweeps, observe_lines, run, set_lines};
+use sweep_runs::{Sweeps, observe_lines, run, run_halves};
 use sweep_start::{LOW, start};
-use sweep_sums::kinds::{COMBINATIONAL, wide};
 
-// A number as a cost: none is above never.
-fn cost_of(x: u32) -> u32
-    ensures { result ≡ as_cost x }
-{
-    if x < NEVER { x } else { NEVER }
-}
-
-// Keeps the number at a place, if it is one of the first `end` of its line.
+// Keeps the number at a place, as a cost, if it is one of the first `end` of its line.
 fn keep(standing: &[u32], numbers: &mut [u32; sizes::NUMBERS], end: usize, i: usize)
-    requires { (i < Size.numbers) × (Size.numbers ≤ length standing.now)
-        × (length numbers.old ≡ Size.numbers) }
+    requires { (i < Size.numbers) × (Size.numbers ≤ length standing.now) }
     ensures { numbers.new ≡ pick (is_below end i)
         (set numbers.old i (as_cost (get_or standing.now i 0)))
         numbers.old }
 {
     if i % sizes::COSTS < end {
-        numbers[i] = cost_of(standing[i]);
+        numbers[i] = standing[i].min(NEVER);
     }
 }
 
 // Keeps the first `end` of each line's numbers that stand.
 fn keep_numbers(standing: &[u32], numbers: &mut [u32; sizes::NUMBERS], end: usize)
-    requires { (Size.numbers ≤ length standing.now) × (length numbers.old ≡ Size.numbers) }
+    requires { Size.numbers ≤ length standing.now }
     ensures { Kept end standing.now numbers.old Size.numbers
         numbers.new }
 {
-    let mut i = 0;
-    while i < sizes::NUMBERS {
+    for i in 0..sizes::NUMBERS {
         keep(standing, numbers, end, i);
-        i += 1;
     }
 }
 
@@ -64,8 +55,7 @@ pub fn observe_anew(
     standing: &[u32],
     numbers: &mut [u32; sizes::NUMBERS],
 ) -> Sweeps
-    requires { Ready library.now netlist.now standing.now
-        × (length numbers.old ≡ Size.numbers) }
+    requires { Ready library.now netlist.now standing.now }
     ensures { (cells : List Cell) (ss : List Statement) → Holds library.now
         netlist.now cells ss → ObservedAnew cells ss standing.now
         numbers.new result }
@@ -74,7 +64,12 @@ pub fn observe_anew(
     link(library, netlist, &mut links);
     start(netlist, numbers, LOW);
     keep_numbers(standing, numbers, sizes::OBSERVED_AT);
-    observe_lines(library, netlist, &links, numbers)
+    let circuit = Circuit {
+        library,
+        netlist,
+        links: &links,
+    };
+    observe_lines(&circuit, numbers)
 }
 
 // The four runs from numbers that stand.
@@ -84,8 +79,7 @@ pub fn go_on(
     standing: &[u32],
     numbers: &mut [u32; sizes::NUMBERS],
 ) -> Counts
-    requires { Ready library.now netlist.now standing.now
-        × (length numbers.old ≡ Size.numbers) }
+    requires { Ready library.now netlist.now standing.now }
     ensures { (cells : List Cell) (ss : List Statement) → Holds library.now
         netlist.now cells ss → GoneOn cells ss standing.now
         numbers.new result }
@@ -93,41 +87,32 @@ pub fn go_on(
     let mut links: [sizes::Link; sizes::LINKS] = [0; sizes::LINKS];
     link(library, netlist, &mut links);
     keep_numbers(standing, numbers, sizes::COSTS);
-    let set = set_lines(library, netlist, &links, numbers);
-    let observed = observe_lines(library, netlist, &links, numbers);
-    Counts {
-        cc: set.combinational,
-        sc: set.sequential,
-        co: observed.combinational,
-        so: observed.sequential,
-    }
+    let circuit = Circuit {
+        library,
+        netlist,
+        links: &links,
+    };
+    run_halves(&circuit, numbers)
 }
 
 // CO with one pad more, from numbers at which it rests: the pad's CO becomes 0, and just the gate that
 // drives its line is awake.
-pub fn try_pad(
-    library: &[u32],
-    netlist: &[u32],
-    links: &[sizes::Link; sizes::LINKS],
-    numbers: &mut [u32; sizes::NUMBERS],
-    line: u32,
-) -> u32
-    requires { TryFits library.now netlist.now links.now numbers.old line }
-    ensures { (cells : List Cell) (ss : List Statement) → Holds library.now
-        netlist.now cells ss → PadTried cells ss line numbers.old result
+pub fn try_pad(circuit: &Circuit, numbers: &mut [u32; sizes::NUMBERS], line: u32) -> u32
+    requires { TryFits circuit.now.library.now circuit.now.netlist.now numbers.old line }
+    ensures { (cells : List Cell) (ss : List Statement) → Holds circuit.now.library.now
+        circuit.now.netlist.now cells ss → PadTried cells ss line numbers.old result
         numbers.new }
 {
-    let gates = unchecked::count(netlist);
-    let l = wide(line);
-    numbers[(l - 1) * sizes::COSTS + sizes::OBSERVED_AT] = 0;
+    let gates = unchecked::count(circuit.netlist);
+    let l = line as usize;
+    let place = observing_place(Kind::Combinational, line);
+    numbers[place] = 0;
     let mut awake = [0u64; sizes::AWAKE_WORDS];
-    wake_driver(&mut awake, links, gates, l);
+    wake_driver(&mut awake, circuit.links, gates, l);
     run(
-        OBSERVING,
-        COMBINATIONAL,
-        library,
-        netlist,
-        links,
+        Role::Observing,
+        Kind::Combinational,
+        circuit,
         numbers,
         &mut awake,
     )

@@ -1,5 +1,5 @@
 -- The four runs at the tables of accepted cells and statements.
-use Rattle.common_laws.proofs.Base.{Bool, List, [], ◌∷◌, ◌++◌, ◌≡◌, refl, sym, ap, ◌∙◌, ℕ, ◌+◌, ◌*◌, ◌≤◌, le_trans, arith, length, get_or, replicate}
+use Rattle.common_laws.proofs.Base.{Bool, List, [], ◌∷◌, ◌≡◌, refl, ap, ◌∙◌, ℕ, ◌+◌, ◌*◌, ◌≤◌, le_trans, arith, length, get_or, replicate}
 use Rattle.sizes.specs.Sizes as Size
 use Rattle.plans.specs.System.{Visit}
 use Rattle.plans.specs.Sweep.{lower, Settles, Bounded}
@@ -21,8 +21,11 @@ use Rattle.calculation.specs.Settled.{in_order}
 use Rattle.calculation.specs.declared.Counts.{Counts}
 use Rattle.calculation.proofs.Laws.{end-figures, kind-small, start-bounded, within, settled-once, setting-within, observing-within}
 use Rattle.sweep_groups.specs.Fits.{TablesFit}
+use Rattle.sweep_groups.specs.Roles.{role_index}
+use Rattle.sweep_groups.specs.declared.turns.Role.{Role}
+use Rattle.sweep_groups.specs.declared.turns.Role.TheVariants.{Setting, Observing}
 use Rattle.sweep_groups.proofs.Bridge.{tables_fit_lem}
-use Rattle.sweep_links.specs.Lines.{LinkFits, Links}
+use Rattle.sweep_links.specs.Lines.{LinkFits}
 use Rattle.sweep_start.specs.Start.{lines_start}
 use Rattle.sweep_start.proofs.StartLines.{laid-length}
 use Rattle.sweep_turns.specs.Wakes.{NeedsByLine}
@@ -31,7 +34,7 @@ use Rattle.sweep_runs.specs.Order.{sweep_visits}
 use Rattle.calculation.specs.Stored.{Holds, whole}
 use Rattle.sweep_runs.specs.Runs.{Runs}
 use Rattle.sweep_runs.specs.declared.Sweeps.{Sweeps}
-use Rattle.sweep_runs.specs.Halves.{HalfFits, Ran}
+use Rattle.sweep_runs.specs.Halves.{half_stages, HalfFits, Ran}
 use Rattle.sweep_runs.proofs.Bridge.{setting-sweep, observing-sweep, start_is}
 use Rattle.sweep_runs.proofs.Lines.{reads_needs, drives_needs}
 
@@ -70,33 +73,32 @@ module _ {library netlist : List ℕ} {cells : List Cell} {ss : List Statement} 
 
   -- ---- each run ends, from whatever costs stand there
 
-  module _ {links : List ℕ} (linked : Links library netlist links) where
-    fresh-fits : (role : ℕ) (k : Kind) {xs : List ℕ} → role ≤ 1 → NeedsByLine role (kind_number k) library netlist → length xs ≡ Size.numbers
-        → Runs (sweep_visits role (kind_number k) library netlist) xs → FreshFits role (kind_number k) library netlist links xs
-    fresh-fits role k r needs n runs =
-        record { links_fit = record { role_fits = r; kind_fits = kind-small k; tables_fit = fit; linked = linked; needs = needs }; size = n; runs = runs }
+  fresh-fits : (role : ℕ) (k : Kind) {xs : List ℕ} → role ≤ 1 → NeedsByLine role (kind_number k) library netlist → length xs ≡ Size.numbers
+      → Runs (sweep_visits role (kind_number k) library netlist) xs → FreshFits role (kind_number k) library netlist xs
+  fresh-fits role k r needs n runs =
+      record { links_fit = record { role_fits = r; kind_fits = kind-small k; tables_fit = fit; needs = needs }; size = n; runs = runs }
 
-    -- The bound of a run is small, since there are few gates.
-    runs_within : {vs : List Visit} {xs : List ℕ} (bound : ℕ) → bound ≤ 2 * gates + 1 → SettlesWithin lower vs xs bound bound → Runs vs xs
-    runs_within bound b w = record { fuel = bound; bound = bound; within = w; small = omega (arith, h.sound.netlist.few) }
+  -- The bound of a run is small, since there are few gates.
+  runs_within : {vs : List Visit} {xs : List ℕ} (bound : ℕ) → bound ≤ 2 * gates + 1 → SettlesWithin lower vs xs bound bound → Runs vs xs
+  runs_within bound b w = record { fuel = bound; bound = bound; within = w; small = omega (arith, h.sound.netlist.few) }
 
-    pub set-fits : (k : Kind) {xs : List ℕ} → length xs ≡ Size.numbers → Bounded xs → FreshFits 0 (kind_number k) library netlist links xs
-    set-fits k {xs} n b =
-        fresh-fits 0 k (omega arith) (rw (h.cells_stand, h.statements_stand) (reads_needs cells ss h.sound h.behind h.past k)) n
-        (rw (sets k) (runs_within (2 * gates + 1) (omega arith) (setting-within cells ss h.sound k xs n b)))
+  pub set-fits : (k : Kind) {xs : List ℕ} → length xs ≡ Size.numbers → Bounded xs → FreshFits 0 (kind_number k) library netlist xs
+  set-fits k {xs} n b =
+      fresh-fits 0 k (omega arith) (rw (h.cells_stand, h.statements_stand) (reads_needs cells ss h.sound h.behind h.past k)) n
+      (rw (sets k) (runs_within (2 * gates + 1) (omega arith) (setting-within cells ss h.sound k xs n b)))
 
-    pub observe-fits : (k : Kind) {xs : List ℕ} → length xs ≡ Size.numbers → Bounded xs → FreshFits 1 (kind_number k) library netlist links xs
-    observe-fits k {xs} n b =
-        fresh-fits 1 k (omega arith) (rw (h.cells_stand, h.statements_stand) (drives_needs cells ss h.sound h.behind h.past k)) n
-        (rw (observes k) (runs_within (gates + 1) (omega arith) (observing-within cells ss h.sound k xs n b)))
+  pub observe-fits : (k : Kind) {xs : List ℕ} → length xs ≡ Size.numbers → Bounded xs → FreshFits 1 (kind_number k) library netlist xs
+  observe-fits k {xs} n b =
+      fresh-fits 1 k (omega arith) (rw (h.cells_stand, h.statements_stand) (drives_needs cells ss h.sound h.behind h.past k)) n
+      (rw (observes k) (runs_within (gates + 1) (omega arith) (observing-within cells ss h.sound k xs n b)))
 
-    -- .. and so does the one after it
-    module _ {xs ys : List ℕ} {count : ℕ} (n : length xs ≡ Size.numbers) (b : Bounded xs) where
-      pub set_next : Left 0 0 xs count ys → FreshFits 0 1 library netlist links ys
-      set_next s = set-fits sequential ((settles_under s).long ∙ n) (costs_stay (settles_under s) b)
+  -- .. and so does the one after it
+  module _ {xs ys : List ℕ} {count : ℕ} (n : length xs ≡ Size.numbers) (b : Bounded xs) where
+    pub set_next : Left 0 0 xs count ys → FreshFits 0 1 library netlist ys
+    set_next s = set-fits sequential ((settles_under s).long ∙ n) (costs_stay (settles_under s) b)
 
-      pub observe-next : Left 1 0 xs count ys → FreshFits 1 1 library netlist links ys
-      observe-next s = observe-fits sequential ((settles_under s).long ∙ n) (costs_stay (settles_under s) b)
+    pub observe-next : Left 1 0 xs count ys → FreshFits 1 1 library netlist ys
+    observe-next s = observe-fits sequential ((settles_under s).long ∙ n) (costs_stay (settles_under s) b)
 
   -- ---- what the halves leave
 
@@ -108,19 +110,35 @@ module _ {library netlist : List ℕ} {cells : List Cell} {ss : List Statement} 
       → Ran (observing_stages cells (gates_of ss)) xs (record { combinational = co; sequential = so }) zs
   observe-ran s t = stage (rw (observes combinational) at s) (stage (rw (observes sequential) at t) (ended refl))
 
+  -- ---- the same by the role
+
+  module _ {xs : List ℕ} (n : length xs ≡ Size.numbers) (b : Bounded xs) where
+    pub half-first : (role : Role) → FreshFits (role_index role) 0 library netlist xs
+    half-first Setting = set-fits combinational n b
+    half-first Observing = observe-fits combinational n b
+
+    pub half_next : (role : Role) {ys : List ℕ} {count : ℕ} → Left (role_index role) 0 xs count ys → FreshFits (role_index role) 1 library netlist ys
+    half_next Setting s = set_next n b s
+    half_next Observing s = observe-next n b s
+
+  pub half-ran : (role : Role) {xs ys zs : List ℕ} {first second : ℕ} → Left (role_index role) 0 xs first ys → Left (role_index role) 1 ys second zs
+      → Ran (half_stages role cells (gates_of ss)) xs (record { combinational = first; sequential = second }) zs
+  half-ran Setting s t = set-ran s t
+  half-ran Observing s t = observe-ran s t
+
   -- ---- .. and the one after the other
 
-  module _ {links : List ℕ} (linked : Links library netlist links) {x0 : List ℕ} (size : length x0 ≡ Size.numbers) (costs : Bounded x0) where
-    pub half-fits : HalfFits library netlist links x0
-    half-fits = record { cells = cells; statements = ss; holds = h; linked = linked; size = size; costs = costs }
+  module _ {x0 : List ℕ} (size : length x0 ≡ Size.numbers) (costs : Bounded x0) where
+    pub half-fits : HalfFits library netlist x0
+    half-fits = record { cells = cells; statements = ss; holds = h; size = size; costs = costs }
 
     module _ {x2 : List ℕ} {set : Sweeps} (first : Ran (setting_stages cells (gates_of ss)) x0 set x2) where
       under : Under x2 x0
       under = lowered_under (setting_stages cells (gates_of ss)) x0 x2 _ first
 
-      pub next_fits : HalfFits library netlist links x2
+      pub next_fits : HalfFits library netlist x2
       next_fits =
-          record { cells = cells; statements = ss; holds = h; linked = linked; size = under.long ∙ size; costs = costs_stay under costs }
+          record { cells = cells; statements = ss; holds = h; size = under.long ∙ size; costs = costs_stay under costs }
 
       pub both-ran : {x4 : List ℕ} {observed : Sweeps} → Ran (observing_stages cells (gates_of ss)) x2 observed x4
           → Stages (all_by_lower (stages cells (gates_of ss))) x0 (set.combinational ∷ set.sequential ∷ observed.combinational ∷ observed.sequential ∷ []) x4

@@ -7,18 +7,18 @@ use Rattle.sweep_runs.specs.Runs.{Runs}
 use Rattle.sweep_runs.specs.Asleep.{Resting}
 
 -- A sweep.
-pub record SweepFits (role kind : ℕ) (library netlist links numbers awake : List ℕ) : Type 0 where
-  pub links_fit : LinksFit role kind library netlist links
+pub record SweepFits (role kind : ℕ) (library netlist numbers awake : List ℕ) : Type 0 where
+  pub links_fit : LinksFit role kind library netlist
   pub size : length numbers ≡ Size.numbers
   pub resting : Resting role kind library netlist awake numbers
 
 -- Sweeps until nothing changes.
-pub record RunFits (role kind : ℕ) (library netlist links numbers awake : List ℕ) : Type 0 where
-  pub sweep_fits : SweepFits role kind library netlist links numbers awake
+pub record RunFits (role kind : ℕ) (library netlist numbers awake : List ℕ) : Type 0 where
+  pub sweep_fits : SweepFits role kind library netlist numbers awake
   pub runs : Runs (sweep_visits role kind library netlist) numbers
 
 -- The same with all gates awake.
-pub record FreshFits (role kind : ℕ) (library netlist links numbers : List ℕ) : Type 0 where
-  pub links_fit : LinksFit role kind library netlist links
+pub record FreshFits (role kind : ℕ) (library netlist numbers : List ℕ) : Type 0 where
+  pub links_fit : LinksFit role kind library netlist
   pub size : length numbers ≡ Size.numbers
   pub runs : Runs (sweep_visits role kind library netlist) numbers

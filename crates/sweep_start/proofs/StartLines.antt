@@ -7,10 +7,10 @@ use Rattle.sizes.specs.Places.{driver_place, output_place}
 use Rattle.table.proofs.UsedPart.{used-most, used-behind}
 use Rattle.reading.specs.Choice.{pick}
 use Rattle.cost.specs.Cost.{never}
-use Rattle.sweep_start.specs.Start.{start_number, line_price, line_start, lines_start, last_marked}
+use Rattle.sweep_start.specs.Start.{start_number, line_start, lines_start, last_marked}
 
 -- Six stores, one behind the other.
-six_stores : (xs : List ℕ) (place a b c d e f : ℕ)
+pub six_stores : (xs : List ℕ) (place a b c d e f : ℕ)
     → set (set (set (set (set (set xs place a) (place + 1) b) (place + 2) c) (place + 3) d) (place + 4) e) (place + 5) f ≡ sets xs place (a ∷ b ∷ c ∷ d ∷ e ∷ f ∷ [])
 six_stores xs place a b c d e f = simp native.Mathlib.Numerals.towards_suc
 
@@ -21,17 +21,6 @@ nevers-left a b n e =
     ∙ drop_at (replicate a never) (replicate b never) a (length-replicate a never)
 
 module _ (high : Bool) (netlist : List ℕ) where
-  -- The six numbers of a line, as they are stored.
-  pub line-laid : (xs : List ℕ) (line a b c d e f : ℕ) {driver output price : ℕ}
-      → let at = line * Size.costs in
-      driver ≡ get_or netlist (driver_place (1 + line)) 0 → output ≡ get_or netlist (output_place (1 + line)) 0 → price ≡ line_price high netlist (1 + line)
-      → a ≡ start_number driver price → b ≡ start_number driver price → c ≡ start_number driver 0 → d ≡ start_number driver 0
-      → e ≡ start_number output 0 → f ≡ start_number output 0
-      → set (set (set (set (set (set xs at a) (at + 1) b) (at + 2) c) (at + 3) d) (at + 4) e) (at + 5) f ≡ sets xs at (line_start high netlist (1 + line))
-  unfolding line_start
-  line-laid xs line a b c d e f hdriver houtput hprice ha hb hc hd he hf =
-      rw (six_stores xs (line * Size.costs) a b c d e f, ha, hb, hc, hd, he, hf, hdriver, houtput, hprice)
-
   lines_next : (count first : ℕ) → lines_start high netlist (suc count) first ≡ lines_start high netlist count first ++ line_start high netlist (first + count)
   unfolding lines_start
   lines_next zero first = let e : first + 0 ≡ first = omega arith in rw e (append-nil (line_start high netlist first))
@@ -69,11 +58,6 @@ module _ (high : Bool) (netlist : List ℕ) where
       s ∙ ap (λ (y : List ℕ). sets y (i * Size.costs) (line_start high netlist (1 + i))) l
       ∙ sets-eq (line_start high netlist (1 + i)) (p ++ q) (i * Size.costs) b
       ∙ rw (take_at p q (i * Size.costs) n, d, m, lines_next i 1)
-
-  pub laid-size : (xs ys : List ℕ) (i : ℕ) → i * Size.costs ≤ length xs → Laid xs i ys → length ys ≡ length xs
-  laid-size xs ys i h l =
-      ap length l ∙ length-append (lines_start high netlist i 1) (drop (i * Size.costs) xs)
-      ∙ omega (arith, laid-length i 1, length-drop (i * Size.costs) xs)
 
   -- ---- past the last line that is marked
 

@@ -4,11 +4,10 @@
 // For the crates above: `start`, which asks for a whole table and for just as many entries as there are numbers.
 #![tactic(auto)]
 
-ghost use Rattle.std.specs.Prelude.{not, ◌≡◌, ◌+◌, ◌*◌, ◌≤◌, ◌<◌, eqb, length, get_or, replicate};
+ghost use Rattle.std.specs.Prelude.{not, ◌≡◌, ◌+◌, ◌*◌, ◌≤◌, ◌<◌, eqb, length, get_or};
 ghost use Rattle.std.proofs.lemmas.List.Edits.{sets};
 ghost use Rattle.sizes.specs.Sizes as Size;
 ghost use Rattle.sizes.specs.Places.{ranged_place};
-ghost use Rattle.cost.specs.Cost.{never};
 ghost use Rattle.sweep_start.specs.Start.{start_number, price_word, line_price, line_start, lines_start, last_marked};
 
 use cost::NEVER;
@@ -16,12 +15,13 @@ use netlist_table::lines::unchecked;
 use netlist_table::some_range;
 use table::used;
 
-// Which end of the ranges the inputs are priced at.
+// Which end of the ranges the inputs are priced at: a bool, as `high` in specs/Start.antt; an enum's variants would say no more.
 pub const LOW: bool = false;
 
 pub const HIGH: bool = true;
 
 // What a number starts at: its price where the line is marked so.
+#[tactic(auto, unfolding(crate::specs::Start::start_number, reading::specs::Choice::pick))]
 fn first(mark: u32, price: u32) -> u32
     ensures { result ≡ start_number mark price }
 {
@@ -29,6 +29,7 @@ fn first(mark: u32, price: u32) -> u32
 }
 
 // What a range says, at its high end or its low one: 1 where there is none.
+#[tactic(auto, unfolding(crate::specs::Start::price_word, reading::specs::Choice::pick))]
 fn price(range: u32, high: bool) -> u32
     ensures { result ≡ price_word high range }
 {
@@ -43,6 +44,7 @@ fn price(range: u32, high: bool) -> u32
 }
 
 // What setting a line costs where it is an input, lines from 0 here. A netlist without ranges is not asked for them.
+#[tactic(auto, unfolding(crate::specs::Start::line_price, reading::specs::Choice::pick))]
 fn line_price(netlist: &[u32], line: usize, high: bool, ranged: bool) -> u32
     requires { (line < Size.lines) × (Size.netlist ≤ length netlist.now)
         × (ranged ≡ not (eqb (get_or netlist.now ranged_place 0) 0)) }
@@ -65,26 +67,17 @@ fn start_line(netlist: &[u32], numbers: &mut [u32], line: usize, high: bool, ran
 {
     let driver = unchecked::driver_of(netlist, 1 + line);
     let output = unchecked::output_of(netlist, 1 + line);
-    let cc = line_price(netlist, line, high, ranged);
+    let cc = first(driver, line_price(netlist, line, high, ranged));
+    let sc = first(driver, 0);
+    let o = first(output, 0);
     let at = line * sizes::COSTS;
-    numbers[at] = first(driver, cc);
-    numbers[at + 1] = first(driver, cc);
-    numbers[at + 2] = first(driver, 0);
-    numbers[at + 3] = first(driver, 0);
-    numbers[at + 4] = first(output, 0);
-    numbers[at + 5] = first(output, 0);
-}
-
-// Sets all numbers to never.
-fn lay_never(numbers: &mut [u32])
-    requires { length numbers.old ≡ Size.numbers }
-    ensures { numbers.new ≡ replicate Size.numbers never }
-{
-    let mut i = 0;
-    while i < sizes::NUMBERS {
-        numbers[i] = NEVER;
-        i += 1;
-    }
+    // No `copy_from_slice`: it compares addresses, which the archive as WebAssembly may not (pads/narrow).
+    numbers[at] = cc;
+    numbers[at + 1] = cc;
+    numbers[at + 2] = sc;
+    numbers[at + 3] = sc;
+    numbers[at + 4] = o;
+    numbers[at + 5] = o;
 }
 
 // The highest line that is driven, open or an output: no line past it starts at anything but never.
@@ -93,7 +86,7 @@ fn last_marked(netlist: &[u32]) -> usize
 {
     let driven = used(netlist, 1, sizes::LINES);
     let output = used(netlist, sizes::OUTPUTS_AT + 1, sizes::LINES);
-    if driven < output { output } else { driven }
+    driven.max(output)
 }
 
 // Lays the start of all numbers, inputs at the high end of their ranges or at the low one.
@@ -101,12 +94,10 @@ pub fn start(netlist: &[u32], numbers: &mut [u32], high: bool)
     requires { (Size.netlist ≤ length netlist.now) × (length numbers.old ≡ Size.numbers) }
     ensures { numbers.new ≡ lines_start high netlist.now Size.lines 1 }
 {
-    lay_never(numbers);
+    numbers.fill(NEVER);
     let ranged = some_range(netlist);
     let end = last_marked(netlist);
-    let mut line = 0;
-    while line < end {
+    for line in 0..end {
         start_line(netlist, numbers, line, high, ranged);
-        line += 1;
     }
 }

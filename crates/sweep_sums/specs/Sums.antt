@@ -8,11 +8,11 @@ use Rattle.sweep_sums.specs.Columns.{named_columns}
 use Rattle.sweep_sums.specs.declared.Sum.{Sum}
 use Rattle.sweep_sums.specs.declared.Sum.TheVariants.{Combinational, Sequential}
 
-unfoldable pub sum_number : Sum → ℕ
+abbrev pub sum_number : Sum → ℕ
 sum_number (Combinational s) = s.0
 sum_number (Sequential s) = s.0
 
-unfoldable pub sum_kind : Sum → ℕ
+abbrev pub sum_kind : Sum → ℕ
 sum_kind (Combinational s) = 0
 sum_kind (Sequential s) = 1
 

@@ -2,27 +2,25 @@
 // own kind. Of tables, cells and gates it knows nothing.
 //
 // For the crates above: `Sum`, `sum_of`, `no_sum`, `lesser_of`, `is_lower` and `spatial_of`, which ask for a
-// kind, `number_of`, `lesser_row`, which asks that the columns have costs, and modules `bits` and `kinds`.
+// kind, `number_of`, `lesser_row`, which asks that the columns have costs, and module `bits`.
 //
-// Modules `spatial` and `temporal` add up rows and compare costs, each in costs of its own kind. What does
-// neither goes by the kind's number, 0 combinational and 1 sequential. Every sum that is answered has its
-// kind in the contract (`Summed`).
+// Module `rows` adds up rows and compares costs, in costs of one kind. Every sum that is answered has its kind in
+// the contract (`Summed`).
 #![tactic(auto)]
 
 pub mod bits;
-pub mod kinds;
-mod spatial;
-mod temporal;
+mod rows;
 
 ghost use Rattle.std.specs.Prelude.{◌≡◌, ◌≤◌, ltb};
 ghost use Rattle.cost.specs.Cost.{never, counted, lesser};
+ghost use Rattle.cost.specs.Kind.{kind_index};
 ghost use Rattle.sweep_sums.specs.Columns.{ColumnsFit};
 ghost use Rattle.sweep_sums.specs.Sums.{sum_number, sum_kind, Summed, row_sum};
 
-use cost::{NEVER, Spatial, Temporal};
-use kinds::COMBINATIONAL;
+use cost::{Cost, Kind, NEVER, Spatial, Temporal};
 
-// A row sum, or the least of some, in the costs of its kind.
+// A row sum, or the least of some, in the costs of its kind. (No type parameter: which kind it is shows at
+// run time.)
 #[derive(Clone, Copy)]
 pub enum Sum {
     Combinational(Spatial),
@@ -30,21 +28,18 @@ pub enum Sum {
 }
 
 // A number as a sum of its kind.
-pub fn sum_of(kind: usize, number: u32) -> Sum
-    requires { kind ≤ 1 }
-    ensures { Summed kind number result }
+pub fn sum_of(kind: Kind, number: u32) -> Sum
+    ensures { Summed (kind_index kind) number result }
 {
-    if kind == COMBINATIONAL {
-        Sum::Combinational(Spatial(number))
-    } else {
-        Sum::Sequential(Temporal(number))
+    match kind {
+        Kind::Combinational => Sum::Combinational(Cost(number)),
+        Kind::Sequential => Sum::Sequential(Cost(number)),
     }
 }
 
 // What the least of no sums is.
-pub fn no_sum(kind: usize) -> Sum
-    requires { kind ≤ 1 }
-    ensures { Summed kind never result }
+pub fn no_sum(kind: Kind) -> Sum
+    ensures { Summed (kind_index kind) never result }
 {
     sum_of(kind, NEVER)
 }
@@ -54,8 +49,8 @@ pub fn lesser_of(number: u32, sum: Sum) -> Sum
     ensures { Summed (sum_kind sum) (lesser number (sum_number sum)) result }
 {
     match sum {
-        Sum::Combinational(s) => Sum::Combinational(Spatial(number).lesser(s)),
-        Sum::Sequential(s) => Sum::Sequential(Temporal(number).lesser(s)),
+        Sum::Combinational(s) => Sum::Combinational(Cost(number).lesser(s)),
+        Sum::Sequential(s) => Sum::Sequential(Cost(number).lesser(s)),
     }
 }
 
@@ -64,19 +59,10 @@ pub fn is_lower(sum: Sum, other: Sum) -> bool
     requires { sum_kind sum ≡ sum_kind other }
     ensures { result ≡ ltb (counted (sum_number sum)) (counted (sum_number other)) }
 {
-    match sum {
-        Sum::Combinational(s) => {
-            match other {
-                Sum::Combinational(o) => spatial::is_lower(s, o),
-                Sum::Sequential(_) => false,
-            }
-        }
-        Sum::Sequential(s) => {
-            match other {
-                Sum::Combinational(_) => false,
-                Sum::Sequential(o) => temporal::is_lower(s, o),
-            }
-        }
+    match (sum, other) {
+        (Sum::Combinational(s), Sum::Combinational(o)) => rows::is_lower(s, o),
+        (Sum::Sequential(s), Sum::Sequential(o)) => rows::is_lower(s, o),
+        _ => false,
     }
 }
 
@@ -87,7 +73,7 @@ pub fn spatial_of(sum: Sum) -> Spatial
 {
     match sum {
         Sum::Combinational(s) => s,
-        Sum::Sequential(_) => Spatial(NEVER),
+        Sum::Sequential(_) => Cost(NEVER),
     }
 }
 
@@ -108,13 +94,7 @@ pub fn lesser_row(costs: &[u32; sizes::COLUMNS], depth: u32, columns: u32, best:
     ensures { Summed (sum_kind best) (lesser (row_sum costs.now depth columns) (sum_number best)) result }
 {
     match best {
-        Sum::Combinational(b) => {
-            let sum = spatial::columns_sum(costs, columns);
-            Sum::Combinational(Spatial(depth).plus(sum).lesser(b))
-        }
-        Sum::Sequential(b) => {
-            let sum = temporal::columns_sum(costs, columns);
-            Sum::Sequential(Temporal(depth).plus(sum).lesser(b))
-        }
+        Sum::Combinational(b) => Sum::Combinational(rows::lesser_row(costs, depth, columns, b)),
+        Sum::Sequential(b) => Sum::Sequential(rows::lesser_row(costs, depth, columns, b)),
     }
 }

@@ -2,23 +2,23 @@
 use Rattle.common_laws.proofs.Base.{Bool, true, false, true≢false, List, List-as-Memᴰ, ◌≡◌, refl, sym, ap, subst, ◌∙◌, ℕ, ◌+◌, ◌*◌, ◌-◌, ◌/◌, ◌≤◌, ◌<◌, ℕ_discrete, dec_le, arith}
 use Rattle.common_laws.proofs.Base.{length, get_or}
 use Rattle.sizes.specs.Sizes as Size
-use Rattle.sizes.specs.Places.{cell_place, group_place, observing_place}
+use Rattle.sizes.specs.Places.{group_place, observing_place}
 use Rattle.plans.specs.System.{Way, Visit}
 use Rattle.plans.specs.Sweep.{at}
 use Rattle.plans.proofs.Laws.{at_getD}
 use Rattle.netlist_table.specs.Gates.{gate_cell, gate_lines}
 use Rattle.sweep_sums.specs.Sums.{place_kind}
 use Rattle.reading.specs.Choice.{pick}
-use Rattle.sweep_groups.specs.Tables.{column_place, gate_pins, by_role, role_columns, visit_count, visit_group, visit_place, gate_tied, visit_wired, group_visit, gate_visit}
+use Rattle.sweep_groups.specs.Tables.{column_place, by_role, role_columns, visit_count, visit_group, visit_place, gate_tied, visit_wired, group_visit, gate_visit}
 use Rattle.sweep_groups.specs.Fits.{LinesFit, Gathered, GatherFits, GroupFits, GateFits}
 use Rattle.sweep_groups.proofs.Gathered.{group_wider}
 use Rattle.sweep_groups.proofs.Rows.{line-column, observe-column}
 use Rattle.sweep_groups.proofs.Roles.{role_set, role-observed}
 use Rattle.sweep_turns.specs.VisitFits.{VisitFits, CostsOf}
-use Rattle.sweep_turns.specs.Fits.{TurnFits, GateVisitsFit, GateReadFits}
-use Rattle.sweep_turns.specs.Order.{turn_group, read_visit, gate_visits}
-use Rattle.sweep_turns.specs.Renewed.{Led, Renewed, Swept}
-use Rattle.sweep_turns.specs.Wakes.{OwnUnread, ChangesWoken}
+use Rattle.sweep_turns.specs.Fits.{TurnFits, GateReadFits}
+use Rattle.sweep_turns.specs.Order.{turn_group, read_visit}
+use Rattle.sweep_turns.specs.Renewed.{Led, Renewed}
+use Rattle.sweep_turns.specs.Wakes.{OwnUnread}
 use Rattle.sweep_turns.proofs.VisitsLaws.{visit-keeps, visit_is}
 
 columns-few : (role : ℕ) {lines : List ℕ} {pins : ℕ} → LinesFit lines pins → role_columns role pins ≤ Size.columns
@@ -118,19 +118,7 @@ module _ {kind : ℕ} {lines : List ℕ} {pins : ℕ} (kinds : kind ≤ 1) (fit 
 
 -- ---- a gate of which the cell and the pins were read
 
-module _ {role r : ℕ} (e : role ≡ r) (kind : ℕ) (library netlist : List ℕ) (gate : ℕ) where
-  -- A role that is known,
-  pub read_fits : {links numbers awake : List ℕ} {cell pins : ℕ} → GateVisitsFit role kind library netlist links numbers awake gate
-      → cell ≡ cell_place (gate_cell netlist gate) → pins ≡ gate_pins library netlist gate → GateReadFits r kind library netlist links numbers awake gate cell pins
-  read_fits f c p = rw (← e) (record { visits_fit = f; cell_is = c; pins_are = p })
-
-  -- and what was done by it.
-  pub role-visits : {xs ys before after : List ℕ} {changed : Bool}
-      → Swept (gate_visits r kind library netlist gate) xs ys changed × ChangesWoken r kind library netlist before xs after ys
-      → Swept (gate_visits role kind library netlist gate) xs ys changed × ChangesWoken role kind library netlist before xs after ys
-  role-visits done = rw e done
-
-module _ {role kind : ℕ} {library netlist links numbers awake : List ℕ} {gate cell pins : ℕ} (f : GateReadFits role kind library netlist links numbers awake gate cell pins) where
+module _ {role kind : ℕ} {library netlist numbers : List ℕ} {gate cell pins : ℕ} (f : GateReadFits role kind library netlist numbers gate cell pins) where
   abbrev kinds : kind ≤ 1
   kinds = f.visits_fit.links_fit.kind_fits
 

@@ -10,7 +10,7 @@ use Rattle.plans.proofs.Laws.{at_getD, sweep-append, sweep-length, lower-stores,
 use Rattle.calculation.specs.Changes.{alters, changes}
 use Rattle.calculation.proofs.Sweeps.{alters-lower, same-alters, changes-append, unaltered}
 use Rattle.netlist_table.specs.Gates.{gate_cell, gate_lines}
-use Rattle.sweep_groups.specs.Tables.{group_visit, gate_pins, by_role, visit_group, visit_place, visit_wired, gate_visit}
+use Rattle.sweep_groups.specs.Tables.{group_visit, gate_pins, visit_group, visit_place, visit_wired, gate_visit}
 use Rattle.sweep_groups.proofs.Roles.{role_set, role-observed}
 use Rattle.sweep_turns.specs.Order.{gate_of_turn}
 use Rattle.plans.specs.Idle.{in_turn}

@@ -1,44 +1,21 @@
 -- What wakes a turn: the gates that need a line, and what a visit leaves of those that are asleep.
-use Rattle.common_laws.proofs.Base.{Bool, true, not, ◌||◌, or-true, List, List-as-Memᴰ, ◌≡◌, refl, sym, ap, subst, ◌∙◌, ℕ, ◌+◌, ◌-◌, ◌≤◌, ◌<◌, ℕ_discrete, le_of_eq, arith, length}
+use Rattle.common_laws.proofs.Base.{Bool, true, ◌||◌, or-true, List, List-as-Memᴰ, ◌≡◌, refl, sym, ap, subst, ◌∙◌, ℕ, ◌-◌, ◌≤◌, ◌<◌, le_of_eq, arith}
 use Rattle.common_laws.proofs.Base.{get_or}
-use Rattle.sizes.specs.Sizes as Size
 use Rattle.plans.specs.System.{Visit}
-use Rattle.plans.specs.Sweep.{at}
 use Rattle.plans.specs.Idle.{Needs}
 use Rattle.reading.specs.Choice.{pick}
 use Rattle.sweep_links.specs.Turns.{bit_at}
 use Rattle.netlist_table.specs.Gates.{gate_line, gate_lines}
 use Rattle.sweep_links.specs.AwakeLines.{ReadersWoken, DriverWoken}
 use Rattle.sweep_groups.specs.Tables.{by_role, group_visit, gate_pins, visit_count, visit_place, gate_visit}
-use Rattle.sweep_links.specs.Lines.{Chained, Driven}
-use Rattle.sweep_turns.specs.Fits.{WakeFits, GateReadFits}
+use Rattle.sweep_links.specs.Lines.{Chained, Driven, Links}
+use Rattle.sweep_turns.specs.Fits.{GateReadFits}
 use Rattle.sweep_turns.specs.Order.{gate_of_turn, turn_visits}
 use Rattle.sweep_turns.specs.Renewed.{Renewed}
-use Rattle.sweep_turns.specs.Wakes.{Asleep, visit_line, OwnUnread, DrivenOnce, NeedsByLine, LineWoken, ChangesWoken}
+use Rattle.sweep_turns.specs.Wakes.{Asleep, visit_line, DrivenOnce, NeedsByLine, LineWoken, ChangesWoken}
 use Rattle.sweep_turns.proofs.VisitsLaws.{visit-keeps, turn_inside}
 
--- ---- whether a pin reads the gate's own line
-
-pub unread-none : (lines : List ℕ) → OwnUnread lines 0
-unread-none lines i least most = absurd (omega arith)
-
-pub unread-more : (lines : List ℕ) (pins : ℕ) → OwnUnread lines pins → (get_or lines (pins + 1) 0 ≡ get_or lines 0 0 → ⊥) → OwnUnread lines (pins + 1)
-unread-more lines pins u other i least most = go (ℕ_discrete i (pins + 1))
-  where
-    go : Dec (i ≡ pins + 1) → get_or lines i 0 ≡ get_or lines 0 0 → ⊥
-    go (yes e) = rw e other
-    go (no e) = u i least (omega arith)
-
 -- ---- the gates that need a line
-
-pub none-woken : {role : ℕ} {netlist : List ℕ} {gates line : ℕ} {changed : Bool} {awake : List ℕ} → not changed ≡ true → LineWoken role netlist gates line changed awake awake
-unfolding pick
-none-woken e =
-    record {
-      slept = λ t a. a;
-      woken = λ q. let z : ◌≡◌ {A = ℕ} 1 0 = ap (λ (b : Bool). pick b 1 0) (sym e ∙ ap not q) in absurd (omega arith);
-      size = refl;
-    }
 
 pub readers-woken : {role : ℕ} {netlist : List ℕ} {gates line : ℕ} {changed : Bool} {before after : List ℕ} → role ≡ 0
     → ReadersWoken netlist gates line before after → LineWoken role netlist gates line changed before after
@@ -59,17 +36,13 @@ driver-woken {role} {netlist} {gates} {line} {changed} {before} {after} a h once
         rw e at (r.driver (gates - 1 - t) (omega arith) n (λ g c m. le_of_eq (once g (gates - 1 - t) c (omega arith) (m ∙ sym n))))
 
 -- At a gate of the netlist, where its gates were counted.
-module _ {role kind : ℕ} {library netlist links numbers before : List ℕ} {gate cell pins : ℕ} (f : GateReadFits role kind library netlist links numbers before gate cell pins)
-    {gates : ℕ} (counted : gates ≡ get_or netlist 0 0) where
+module _ {role kind : ℕ} {library netlist numbers : List ℕ} {gate cell pins : ℕ} (f : GateReadFits role kind library netlist numbers gate cell pins)
+    {links : List ℕ} (linked : Links library netlist links) {gates : ℕ} (counted : gates ≡ get_or netlist 0 0) where
   chained : Chained netlist gates links
-  chained = subst (λ (n : ℕ). Chained netlist n links) (sym counted) f.visits_fit.links_fit.linked.chained
+  chained = subst (λ (n : ℕ). Chained netlist n links) (sym counted) linked.chained
 
   driven : Driven netlist gates links
-  driven = subst (λ (n : ℕ). Driven netlist n links) (sym counted) f.visits_fit.links_fit.linked.driven
-
-  pub wake_fits : {line : ℕ} {awake : List ℕ} → line ≤ Size.lines → length awake ≡ Size.awake_words → WakeFits role line gates links awake
-  wake_fits inside size =
-      record { role_fits = f.visits_fit.links_fit.role_fits; inside = inside; netlist = netlist; chained = chained; driven = driven; size = size }
+  driven = subst (λ (n : ℕ). Driven netlist n links) (sym counted) linked.driven
 
   pub line-woken : {line l : ℕ} {changed : Bool} {awake after : List ℕ} → line ≡ l
       → ((net : List ℕ) → Chained net gates links → Driven net gates links → DrivenOnce net gates → LineWoken role net gates line changed awake after)

@@ -1,28 +1,24 @@
 // One visit of a sweep, document 01, "Sweeps": it renews one number, by the row sums of a group.
 //
 // For the crates above: `visit` and `store`, with what they ask of the tables (specs/VisitFits.antt), since the
-// loop of the sweeps tests no bounds; and `either`, of two answers whether a number changed. specs/Order.antt has
-// the visits of a gate in their order, specs/Renewed.antt what visits leave.
+// loop of the sweeps tests no bounds. specs/Order.antt has the visits of a gate in their order, specs/Renewed.antt what
+// visits leave.
 //
-// All goes by a role's number, 0 setting (CC, SC) and 1 observing (CO, SO), and by a kind's number,
-// 0 combinational (CC, CO) and 1 sequential (SC, SO).
-ghost use Rattle.std.specs.Prelude.{◌≡◌, true, ◌||◌, ◌+◌, ◌*◌, ◌≤◌, get_or};
+// All goes by a role, setting (CC, SC) or observing (CO, SO), and by a kind, combinational (CC, CO) or sequential
+// (SC, SO).
+ghost use Rattle.std.specs.Prelude.{◌≡◌, true, ◌+◌, ◌*◌, ◌≤◌, get_or};
 ghost use Rattle.cost.specs.Cost.{never};
+ghost use Rattle.cost.specs.Kind.{kind_index};
 ghost use Rattle.sweep_sums.specs.Sums.{sum_number};
+ghost use Rattle.sweep_groups.specs.Roles.{role_index};
 ghost use Rattle.sweep_groups.specs.Tables.{group_visit};
 ghost use Rattle.sweep_turns.specs.VisitFits.{StoreFits, VisitFits, CostsOf};
 ghost use Rattle.sweep_turns.specs.Renewed.{Stored, Led, Renewed};
 
-use cost::NEVER;
+use cost::{Kind, NEVER};
 use sweep_groups::least_of;
-use sweep_groups::turns::SETTING;
+use sweep_groups::turns::Role;
 use sweep_sums::{Sum, is_lower, lesser_of, number_of, sum_of};
-
-pub fn either(a: bool, b: bool) -> bool
-    ensures { result ≡ (a || b) }
-{
-    if a { true } else { b }
-}
 
 // Stores a sum at a place of its kind, and says whether another number stood there.
 pub fn store(numbers: &mut [u32], place: usize, sum: Sum) -> bool
@@ -39,24 +35,22 @@ pub fn store(numbers: &mut [u32], place: usize, sum: Sum) -> bool
 
 // Whether no row sum is below a number: where lines are observed, the cost of the gate's output observed
 // is a term of each. A raw number above never is no cost yet: its visit makes one of it.
-fn lowest_already(role: usize, kind: usize, number: u32, observed: u32) -> bool
-    requires { kind ≤ 1 }
-    ensures { result ≡ true → (role ≡ 0 → ⊥) × (number ≤ observed) × (number ≤ never) }
+fn lowest_already(role: Role, kind: Kind, number: u32, observed: u32) -> bool
+    ensures { result ≡ true → (role_index role ≡ 0 → ⊥) × (number ≤ observed) × (number ≤ never) }
 {
-    if role == SETTING {
-        return false;
+    match role {
+        Role::Setting => false,
+        Role::Observing => {
+            number <= NEVER && !is_lower(sum_of(kind, observed), sum_of(kind, number))
+        }
     }
-    if NEVER < number {
-        return false;
-    }
-    !is_lower(sum_of(kind, observed), sum_of(kind, number))
 }
 
 // Renews the number at a place by the row sums of a group, over the costs of its columns; whether it
 // changed. Sums that cannot be below the number are not taken.
 pub fn visit(
-    role: usize,
-    kind: usize,
+    role: Role,
+    kind: Kind,
     library: &[u32],
     group: usize,
     wired: bool,
@@ -66,13 +60,13 @@ pub fn visit(
     place: usize,
     pins: usize,
 ) -> bool
-    requires { VisitFits wired kind library.now group costs.now numbers.old place pins }
-    ensures { CostsOf kind library.now group lines.now pins
+    requires { VisitFits wired (kind_index kind) library.now group costs.now numbers.old place pins }
+    ensures { CostsOf (kind_index kind) library.now group lines.now pins
         numbers.old costs.now
-        → Led role (get_or costs.now (2 * pins + 2) 0) numbers.old
-        (group_visit wired kind lines.now pins library.now group place)
+        → Led (role_index role) (get_or costs.now (2 * pins + 2) 0) numbers.old
+        (group_visit wired (kind_index kind) lines.now pins library.now group place)
         → Renewed
-        (group_visit wired kind lines.now pins library.now group place)
+        (group_visit wired (kind_index kind) lines.now pins library.now group place)
         numbers.old numbers.new result }
 {
     if lowest_already(role, kind, numbers[place], costs[2 * pins + 2]) {

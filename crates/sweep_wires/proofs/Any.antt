@@ -1,6 +1,7 @@
 -- Whether one of the numbers below a count passes.
 use Rattle.common_laws.proofs.Base.{Bool, true, false, ◌&&◌, ◌||◌, List, [], ◌∷◌, ◌≡◌, refl, sym, ap, ap₂, ◌∙◌, ℕ, zero, suc, ◌+◌, ◌*◌, ◌-◌, ◌≤◌, ◌<◌, ℕ_discrete, arith, length}
-use Rattle.common_laws.proofs.Base.{get_or}
+use Rattle.common_laws.proofs.Base.{get_or, add-zero, zero-add}
+use Rattle.std.specs.List.{list_any, range_with_len}
 use Rattle.table.specs.Blocks.{fitted}
 use Rattle.library_table.specs.Cells.{bit, bit_of}
 use Rattle.library_table.specs.Library.{any_of}
@@ -12,10 +13,6 @@ module _ (p : ℕ → Bool) where
   unfolding any_below
   any_none zero f = refl
   any_none (suc count) f = rw (f count (omega arith)) (any_none count (λ i h. f i (omega arith)))
-
-  pub any_next : (i : ℕ) → any_below p i ≡ false → p i ≡ false → any_below p (i + 1) ≡ false
-  unfolding any_below
-  any_next i a b = let e : i + 1 ≡ suc i = omega arith in rw (e, b) a
 
   pub any_found : (count i : ℕ) → i < count → p i ≡ true → any_below p count ≡ true
   unfolding any_below
@@ -29,13 +26,6 @@ module _ (p : ℕ → Bool) where
       go : Dec (i ≡ count) → (i < count → any_below p count ≡ true) → any_below p (suc count) ≡ true
       go (yes q) ih = rw (rw q at e)
       go (no q) ih = second (p count) (any_below p count) (ih (omega arith))
-
-  pub any_first : any_below p 0 ≡ false
-  unfolding any_below
-  any_first = refl
-
-  pub any-end : (count i : ℕ) → i ≡ count → any_below p i ≡ false → false ≡ any_below p count
-  any-end count i e h = sym (rw e at h)
 
 -- ---- a row that names both values of one pin
 
@@ -69,6 +59,19 @@ pub any_same : (p q : ℕ → Bool) (count : ℕ) → ((i : ℕ) → i < count �
 unfolding any_below
 any_same p q zero f = refl
 any_same p q (suc count) f = ap₂ (λ (a b : Bool). a || b) (f count (omega arith)) (any_same p q count (λ i h. f i (omega arith)))
+
+-- The numbers of a range, asked one after the other.
+any_from : (p : ℕ → Bool) (first count : ℕ) → list_any p (range_with_len first count) ≡ any_below (λ i. p (first + i)) count
+unfolding any_below
+any_from p first zero = refl
+any_from p first (suc count) =
+    let next : any_below (λ i. p (first + 1 + i)) count ≡ any_below (λ i. p (first + suc i)) count =
+    any_same (λ i. p (first + 1 + i)) (λ i. p (first + suc i)) count (λ i h. ap p (omega arith)) in
+    ap₂ (λ (a b : Bool). a || b) (ap p (sym (add-zero first))) (any_from p (first + 1) count ∙ next)
+    ∙ sym (any_shift (λ i. p (first + i)) count)
+
+pub any_range : (p : ℕ → Bool) (count : ℕ) → list_any p (range_with_len 0 count) ≡ any_below p count
+any_range p count = any_from p 0 count ∙ any_same (λ i. p (0 + i)) p count (λ i h. ap p (zero-add i))
 
 module _ {A : Type 0} (p : A → Bool) where
   pub any_list : (xs : List A) (d : A) → any_below (λ i. p (get_or xs i d)) (length xs) ≡ any_of p xs

@@ -1,6 +1,6 @@
 -- Over the columns that a row is gone through: one after the other, and the same by the bits below a count.
-use Rattle.common_laws.proofs.Base.{Bool, true, false, ◌&&◌, ◌||◌, or-false, List, [], ◌∷◌, ◌≡◌, refl, sym, ap, ap₂, ◌∙◌, ℕ, zero, suc, ◌+◌, ◌*◌, ◌-◌, ◌/◌, ◌%◌, ◌^◌, ◌≤◌, ◌<◌}
-use Rattle.common_laws.proofs.Base.{pow-suc, mod-lt, zero-add, mul_assoc, div-one, add-one, arith, bit_and, and_le_l, count_trailing_zeros, eqb, pow_mono, shr-shr}
+use Rattle.common_laws.proofs.Base.{Bool, true, false, ◌&&◌, ◌||◌, or-false, List, ◌∷◌, ◌≡◌, refl, sym, ap, ◌∙◌, ℕ, zero, suc, ◌+◌, ◌*◌, ◌-◌, ◌/◌, ◌%◌, ◌^◌, ◌≤◌, ◌<◌}
+use Rattle.common_laws.proofs.Base.{pow-suc, mod-lt, zero-add, mul_assoc, div-one, add-one, arith, bit_and, and_le_l, count_trailing_zeros, pow_mono, shr-shr}
 use native.Mathlib.Nat.{mul-add}
 use Rattle.reading.specs.Choice.{pick}
 use Rattle.sweep_sums.specs.Columns.{with_named, column_places}

@@ -1,5 +1,5 @@
 -- A number by its bits.
-use Rattle.common_laws.proofs.Base.{Bool, true, false, ◌≡◌, sym, ap, ◌∙◌, ℕ, zero, suc, ◌+◌, ◌*◌, ◌-◌, ◌/◌, ◌%◌, ◌^◌, ◌≤◌, ◌<◌, pow-suc, div-one, arith, eqb, shr-shr}
+use Rattle.common_laws.proofs.Base.{Bool, true, false, ◌≡◌, sym, ap, ◌∙◌, ℕ, zero, suc, ◌+◌, ◌*◌, ◌-◌, ◌/◌, ◌%◌, ◌^◌, ◌<◌, pow-suc, div-one, arith, eqb, shr-shr}
 use lib.Pow.{field, mod-mod-pow}
 use Rattle.reading.specs.Choice.{pick}
 use Rattle.reading.proofs.Laws.{one-most}

@@ -1,12 +1,12 @@
 -- Rows read by their bits are those of specs/Ways.antt of crate `calculation`.
-use Rattle.common_laws.proofs.Base.{Bool, true, false, not, ◌&&◌, ◌||◌, List, [], ◌∷◌, ◌≡◌, refl, sym, ap, ap₂, ◌∙◌, ℕ, zero, suc, ◌+◌, ◌*◌, ◌-◌, ◌/◌, ◌%◌, ◌^◌, ◌≤◌, ◌<◌}
+use Rattle.common_laws.proofs.Base.{Bool, true, false, not, ◌&&◌, ◌||◌, List, [], ◌∷◌, ◌≡◌, refl, sym, ap, ◌∙◌, ℕ, zero, suc, ◌+◌, ◌*◌, ◌-◌, ◌/◌, ◌%◌, ◌^◌, ◌≤◌, ◌<◌}
 use Rattle.common_laws.proofs.Base.{ℕ_discrete, mod-lt, arith, eqb, length, get_or, pow_pos, eq-eqb, ne_eqb}
 use Rattle.reading.specs.Choice.{pick}
-use Rattle.reading.proofs.Laws.{by_test, clash}
-use Rattle.library_table.specs.Cells.{Column, pin, bit_of, bit, pin_columns, setting_columns, named}
+use Rattle.reading.proofs.Laws.{clash}
+use Rattle.library_table.specs.Cells.{Column, bit_of, bit, pin_columns, setting_columns, named}
 use Rattle.library_table.specs.Library.{any_of}
 use Rattle.netlist_table.specs.Netlist.{Gate}
-use Rattle.calculation.specs.Nodes.{Purpose, set}
+use Rattle.calculation.specs.Nodes.{set}
 use Rattle.calculation.specs.Ways.{pin_line, asked, both_values, same_value, other_value, any_asks, once, needs_both}
 use Rattle.sweep_wires.specs.Wires.{any_below, column_line, column_value, asks_for, asked_below, once_columns, both_columns, read_before, shares_line}
 use Rattle.sweep_wires.proofs.Any.{any_none, any_found, any_same, pin_both, pins-both}

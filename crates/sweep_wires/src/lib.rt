@@ -17,11 +17,11 @@ ghost use Rattle.calculation.specs.Ways.{both_values};
 ghost use Rattle.sweep_wires.specs.Wires.{SettingRow, column_value, asks_for, asked_below, once_columns, both_columns};
 ghost use Rattle.sweep_wires.specs.Wires.{read_before, shares_line, group_both, cell_both, tied_at};
 
-use sweep_sums::bits::lowest;
-use sweep_sums::kinds::wide;
+use sweep_sums::bits::{lowest, others};
 use table::word;
 
 // Whether a column asks for a line at a value.
+#[tactic(auto, unfolding(crate::specs::Wires::asks_for))]
 fn asks(
     lines: &[u32; sizes::GATE_LINES],
     pins: usize,
@@ -32,10 +32,7 @@ fn asks(
     requires { (pins ≤ Size.pins) × (column < 2 * pins) }
     ensures { result ≡ asks_for lines.now pins line value column }
 {
-    if lines[pins - column / 2] != line {
-        return false;
-    }
-    1 - column % 2 == value
+    lines[pins - column / 2] == line && 1 - column % 2 == value
 }
 
 // Whether one of the columns that a row names asks for a line at a value.
@@ -51,11 +48,11 @@ fn any_asks(
 {
     let mut rest = columns;
     while rest != 0 {
-        let column = wide(lowest(rest));
+        let column = lowest(rest) as usize;
         if asks(lines, pins, line, value, column) {
             return true;
         }
-        rest = rest & (rest - 1);
+        rest = others(rest);
     }
     false
 }
@@ -84,15 +81,17 @@ fn asked_below(
 }
 
 // The bit of a column that is left, "once, at its lowest column".
+#[tactic(auto, unfolding(reading::specs::Choice::pick))]
 fn kept(lines: &[u32; sizes::GATE_LINES], pins: usize, columns: u32, column: usize) -> u32
     requires { (pins ≤ Size.pins) × (column < 2 * pins) }
     ensures { result ≡ pick (not (asked_below lines.now pins columns (column_value column) column))
         (2 ^ column) 0 }
 {
     if asked_below(lines, pins, columns, 1 - column % 2, column) {
-        return 0;
+        0
+    } else {
+        bit_of(column)
     }
-    bit_of(column)
 }
 
 // The columns of a row that are left: "the same value of the same line through several pins is paid
@@ -104,9 +103,9 @@ pub fn once(lines: &[u32; sizes::GATE_LINES], pins: usize, columns: u32) -> u32
     let mut left = 0;
     let mut rest = columns;
     while rest != 0 {
-        let column = wide(lowest(rest));
-        left = left + kept(lines, pins, columns, column);
-        rest = rest & (rest - 1);
+        let column = lowest(rest) as usize;
+        left += kept(lines, pins, columns, column);
+        rest = others(rest);
     }
     left
 }
@@ -118,46 +117,35 @@ pub fn needs_both(lines: &[u32; sizes::GATE_LINES], pins: usize, columns: u32) -
 {
     let mut rest = columns;
     while rest != 0 {
-        let column = wide(lowest(rest));
+        let column = lowest(rest) as usize;
         if asked_below(lines, pins, columns, column % 2, column) {
             return true;
         }
-        rest = rest & (rest - 1);
+        rest = others(rest);
     }
     false
 }
 
 // Whether a pin before pin p reads its line, pins from 0 here.
+#[tactic(auto, unfolding(crate::specs::Wires::read_before))]
 fn read_before(lines: &[u32; sizes::GATE_LINES], p: usize) -> bool
     requires { p < Size.pins }
     ensures { result ≡ read_before lines.now p }
 {
-    let mut q = 0;
-    while q < p {
-        if lines[q + 1] == lines[p + 1] {
-            return true;
-        }
-        q += 1;
-    }
-    false
+    (0..p).any(|q| lines[q + 1] == lines[p + 1])
 }
 
 // Whether two pins share a line.
+#[tactic(auto, unfolding(crate::specs::Wires::shares_line))]
 fn shares_line(lines: &[u32; sizes::GATE_LINES], pins: usize) -> bool
     requires { pins ≤ Size.pins }
     ensures { result ≡ shares_line lines.now pins }
 {
-    let mut p = 0;
-    while p < pins {
-        if read_before(lines, p) {
-            return true;
-        }
-        p += 1;
-    }
-    false
+    (0..pins).any(|p| read_before(lines, p))
 }
 
 // Whether a row names a column.
+#[tactic(auto, unfolding(library_table::specs::Cells::bit))]
 fn names(columns: u32, column: usize) -> bool
     requires { column < 32 }
     ensures { result ≡ bit columns column }
@@ -170,10 +158,7 @@ fn names_two(columns: u32, column: usize) -> bool
     requires { column + 1 < 32 }
     ensures { result ≡ (bit columns (column + 1) && bit columns column) }
 {
-    if names(columns, column + 1) {
-        return names(columns, column);
-    }
-    false
+    names(columns, column + 1) && names(columns, column)
 }
 
 // Whether a row names both values of one pin.
@@ -181,14 +166,7 @@ fn both_values(pins: usize, columns: u32) -> bool
     requires { pins ≤ Size.pins }
     ensures { result ≡ both_values pins pins columns }
 {
-    let mut i = 0;
-    while i < pins {
-        if names_two(columns, 2 * (pins - (i + 1))) {
-            return true;
-        }
-        i += 1;
-    }
-    false
+    (0..pins).any(|i| names_two(columns, 2 * (pins - (i + 1))))
 }
 
 // The columns of a row of a group, in the library table.
@@ -200,47 +178,30 @@ fn row_columns(library: &[u32], group: usize, row: usize) -> u32
 }
 
 // Whether a row of a group names both values of one pin.
+#[tactic(auto, unfolding(crate::specs::Wires::group_both))]
 fn group_both(library: &[u32], pins: usize, group: usize) -> bool
     requires { (pins ≤ Size.pins) × (group ≤ length library.now) }
     ensures { result ≡ group_both library.now pins group }
 {
     let rows = word(library, group) as usize;
-    let mut row = 0;
-    while row < rows {
-        if both_values(pins, row_columns(library, group, row)) {
-            return true;
-        }
-        row += 1;
-    }
-    false
+    (0..rows).any(|row| both_values(pins, row_columns(library, group, row)))
 }
 
 // Whether a row of a cell does, the cell at a place of the library table.
+#[tactic(auto, unfolding(crate::specs::Wires::cell_both))]
 pub fn cell_both(library: &[u32], pins: usize, cell: usize) -> bool
     requires { (pins ≤ Size.pins) × (cell + Size.cell_words ≤ length library.now) }
     ensures { result ≡ cell_both library.now pins cell }
 {
-    let mut group = 0;
-    while group < sizes::GROUPS {
-        if group_both(
-            library,
-            pins,
-            cell + sizes::GROUPS_AT + group * sizes::GROUP_WORDS,
-        ) {
-            return true;
-        }
-        group += 1;
-    }
-    false
+    let first = cell + sizes::GROUPS_AT;
+    (0..sizes::GROUPS).any(|group| group_both(library, pins, first + group * sizes::GROUP_WORDS))
 }
 
 // Whether the rows of a gate are read as those of one wire.
+#[tactic(auto, unfolding(crate::specs::Wires::tied_at))]
 pub fn tied(library: &[u32], cell: usize, lines: &[u32; sizes::GATE_LINES], pins: usize) -> bool
     requires { (pins ≤ Size.pins) × (cell + Size.cell_words ≤ length library.now) }
     ensures { result ≡ tied_at library.now cell lines.now pins }
 {
-    if shares_line(lines, pins) {
-        return !cell_both(library, pins, cell);
-    }
-    false
+    shares_line(lines, pins) && !cell_both(library, pins, cell)
 }

@@ -59,11 +59,8 @@ module _ (xs : List ℕ) where
         go (yes p) below = let e : i ≡ k = omega arith in rw e (eqb-true (get_or xs (at + k) 0) 0 (and_right (zeros xs at k) (eqb (get_or xs (at + k) 0) 0) t))
         go (no p) below = below (omega arith)
 
-    pub used-eight : (n : ℕ) → 8 ≤ n → zeros xs (from + (n - 8)) 8 ≡ true → used xs from n ≡ used xs from (n - 8)
-    used-eight n h t =
-        let e : n ≡ n - 8 + 8 = omega arith in
-        ap (used xs from) e
-        ∙ used-zeros (n - 8) 8 (λ i l. let p : from + (n - 8 + i) ≡ from + (n - 8) + i = omega arith in rw p (each-zero (from + (n - 8)) 8 t i l))
+    pub used-eight : (at : ℕ) → zeros xs (from + at) 8 ≡ true → used xs from (at + 8) ≡ used xs from at
+    used-eight at t = used-zeros at 8 (λ i l. let p : from + (at + i) ≡ from + at + i = omega arith in rw p (each-zero (from + at) 8 t i l))
 
     -- Nor is what does not stand in the table.
     pub used-within : (n : ℕ) → used xs from n ≡ used xs from (min n (length xs - from))

@@ -21,11 +21,11 @@ class_digit b = go (between 48 57 b) (between 65 90 b) (eqb b 44) (eqb b 10)
     go false false false true = refl
     go false false false false = refl
 
-pub class_name : (b : ℕ) → is_letter_or_digit (class_of b) ≡ name_byte b
+pub class_name : (b : ℕ) → name_byte b ≡ is_letter_or_digit (class_of b)
 unfolding class_of pick is_letter_or_digit name_byte
 class_name b = go (between 48 57 b) (between 65 90 b) (eqb b 44) (eqb b 10)
   where
-    go : (d u c e : Bool) → is_letter_or_digit (pick d Digit (pick u Letter (pick c Comma (pick e LineEnd Other)))) ≡ (u || d)
+    go : (d u c e : Bool) → (u || d) ≡ is_letter_or_digit (pick d Digit (pick u Letter (pick c Comma (pick e LineEnd Other))))
     go true true c e = refl
     go true false c e = refl
     go false true c e = refl

@@ -1,6 +1,7 @@
 -- One turn of each of this crate's loops, as an equation over what remains of the list.
-use Rattle.common_laws.proofs.Base.{true, false, not, List, [], ◌∷◌, ◌≡◌, refl, ℕ, ◌+◌, ◌*◌, ◌-◌, ◌^◌, ◌≤◌, ◌<◌, pow-le-pow_right, add-one, arith, eqb, length, get_or, drop}
+use Rattle.common_laws.proofs.Base.{Bool, true, false, not, ◌&&◌, ap, List, [], ◌∷◌, ◌≡◌, refl, ℕ, ◌+◌, ◌*◌, ◌-◌, ◌^◌, ◌≤◌, ◌<◌, pow-le-pow_right, add-one, arith, eqb, length, get_or, drop}
 use Rattle.common_laws.proofs.Base.{drop_of_length-le, drop-cons, le-leb, lt-leb, eq-eqb}
+use Rattle.std.specs.List.{list_all}
 use Rattle.sizes.specs.Sizes as Size
 use Rattle.text.specs.Numeral.{digit_below, all_digits, value, no_leading_zero, well_formed, name_byte, all_name, name_form}
 use Rattle.text.proofs.FieldLaws.{digit-step}
@@ -26,18 +27,11 @@ module _ (base : ℕ) (f : List ℕ) (i : ℕ) where
   unfolding value
   value-end acc h = rw (drop_of_length-le f h)
 
-module _ (f : List ℕ) (i : ℕ) where
-  pub all_name-good : i < length f → name_byte (get_or f i 0) ≡ true → all_name (drop i f) ≡ all_name (drop (i + 1) f)
-  unfolding all_name
-  all_name-good h e = rw (add-one, drop-cons f i 0 h, e)
-
-  pub all_name-bad : i < length f → name_byte (get_or f i 0) ≡ false → all_name (drop i f) ≡ false
-  unfolding all_name
-  all_name-bad h e = rw (drop-cons f i 0 h, e)
-
-  pub all_name-end : length f ≤ i → all_name (drop i f) ≡ true
-  unfolding all_name
-  all_name-end h = rw (drop_of_length-le f h)
+-- What `all` over the bytes of a name says.
+pub all_name-list : (f : List ℕ) → list_all name_byte f ≡ all_name f
+unfolding all_name
+all_name-list [] = refl
+all_name-list (b ∷ f) = ap (λ (t : Bool). name_byte b && t) (all_name-list f)
 
 -- Below the last digit the sum of one digit more still fits, where the whole value does.
 pub sum_fits_lem : (base sum i n b : ℕ) → 0 < base → sum < base ^ i → digit_below base b ≡ true → i < n → base ^ n ≤ 2 ^ 32 → sum * base + (b - 48) < 2 ^ 32

@@ -1,36 +1,16 @@
 -- The laws of texts, fields and classes that other crates cite, and what this crate's own proofs share.
-use Rattle.common_laws.proofs.Base.{Bool, true, false, not, ◌&&◌, List, [], ◌∷◌, ◌++◌, List-as-Memᴰ, List-Memᴰ-head, List-Memᴰ-tail, none, some, ◌≡◌, refl, sym, ap, ◌∙◌, ℕ, suc, ◌+◌}
+use Rattle.common_laws.proofs.Base.{Bool, true, false, List, [], ◌∷◌, ◌++◌, List-as-Memᴰ, List-Memᴰ-head, List-Memᴰ-tail, none, some, ◌≡◌, refl, sym, ap, ◌∙◌, ℕ, suc, ◌+◌}
 use Rattle.common_laws.proofs.Base.{◌-◌, ◌≤◌, ◌<◌, arith, leb, eqb, length, take, drop, length-take, length-drop, drop_of_length-le, drop-drop, le-leb, lt-leb, eq-eqb, ne_eqb}
 use Rattle.common_laws.proofs.Base.{leb-true, leb-false, eqb-true}
 use lib.Dec.{leb-suc-suc}
 use Rattle.reading.proofs.Laws.{by_test, and_left, and_right}
-use Rattle.text.specs.declared.Class.TheVariants.{Other}
 use Rattle.reading.specs.Choice.{pick}
+use Rattle.text.specs.declared.Piece.{Piece}
+use Rattle.text.specs.declared.Piece.TheVariants.{Line, Field}
 use Rattle.text.specs.Class.{between, class_of, end_of, ends}
 use Rattle.text.specs.Lines.{cut, split, fields, unended, ended, lines, stop, span, part, parts_from, next_after, fields_from, lines_from, same_bytes}
 
 -- ---- classes
-
-pub between_in : (low high b : ℕ) → low ≤ b → b ≤ high → between low high b ≡ true
-unfolding between
-between_in low high b p q = rw (le-leb low b p, le-leb b high q)
-
-pub between-below : (low high b : ℕ) → b < low → between low high b ≡ false
-unfolding between
-between-below low high b p = rw (lt-leb low b p)
-
-pub between-above : (low high b : ℕ) → high < b → between low high b ≡ false
-unfolding between
-between-above low high b p = go (leb low b)
-  where
-    go : (t : Bool) → (t && leb b high) ≡ false
-    go true = lt-leb b high p
-    go false = refl
-
--- What is in no range, no comma and no line end is of no other class.
-pub class_other : (b : ℕ) → between 48 57 b ≡ false → between 65 90 b ≡ false → (b ≡ 44 → ⊥) → (b ≡ 10 → ⊥) → class_of b ≡ Other
-unfolding class_of pick
-class_other b d u c e = rw (d, u, ne_eqb b 44 c, ne_eqb b 10 e)
 
 between-other : (low high b m : ℕ) → between low high b ≡ true → m < low → eqb b m ≡ false
 unfolding between
@@ -38,24 +18,16 @@ between-other low high b m h below =
     let least : low ≤ b = leb-true low b (and_left (leb low b) (leb b high) h) in ne_eqb b m (λ e. omega arith)
 
 -- A line ends with byte 10, a field with a comma, byte 44.
-pub class_ends : (line : Bool) (b : ℕ) → ends line (class_of b) ≡ eqb b (end_of line)
+pub class_ends : (piece : Piece) (b : ℕ) → ends piece (class_of b) ≡ eqb b (end_of piece)
 unfolding class_of pick ends end_of
-class_ends line b =
-    by_test (between 48 57 b) (λ d. rw d (sym (outside line (between-other 48 57 b 10 d (omega arith)) (between-other 48 57 b 44 d (omega arith)))))
-    (λ d. by_test (between 65 90 b) (λ u. rw (d, u) (sym (outside line (between-other 65 90 b 10 u (omega arith)) (between-other 65 90 b 44 u (omega arith)))))
-    (λ u. rw (d, u) (by_test (eqb b 44) (λ c. rw c (comma line (ne_eqb b 10 (λ e. omega (arith, eqb-true b 44 c))) c)) (λ c. rw c (by_test (eqb b 10) (λ e. rw e (ended line c e)) (λ e. rw e (sym (outside line e c))))))))
-  where
-    outside : (l : Bool) → eqb b 10 ≡ false → eqb b 44 ≡ false → eqb b (end_of l) ≡ false
-    outside true p q = p
-    outside false p q = q
-
-    comma : (l : Bool) → eqb b 10 ≡ false → eqb b 44 ≡ true → not l ≡ eqb b (end_of l)
-    comma true p q = sym p
-    comma false p q = sym q
-
-    ended : (l : Bool) → eqb b 44 ≡ false → eqb b 10 ≡ true → l ≡ eqb b (end_of l)
-    ended true p q = sym q
-    ended false p q = sym p
+class_ends Line b =
+    by_test (between 48 57 b) (λ d. rw d (sym (between-other 48 57 b 10 d (omega arith))))
+    (λ d. by_test (between 65 90 b) (λ u. rw (d, u) (sym (between-other 65 90 b 10 u (omega arith))))
+    (λ u. rw (d, u) (by_test (eqb b 44) (λ c. rw c (sym (ne_eqb b 10 (λ e. omega (arith, eqb-true b 44 c))))) (λ c. rw c (by_test (eqb b 10) (λ e. rw e refl) (λ e. rw e refl))))))
+class_ends Field b =
+    by_test (between 48 57 b) (λ d. rw d (sym (between-other 48 57 b 44 d (omega arith))))
+    (λ d. by_test (between 65 90 b) (λ u. rw (d, u) (sym (between-other 65 90 b 44 u (omega arith))))
+    (λ u. rw (d, u) (by_test (eqb b 44) (λ c. rw c refl) (λ c. rw c (by_test (eqb b 10) (λ e. rw e refl) (λ e. rw e refl))))))
 
 -- ---- spans and parts
 

@@ -1,6 +1,7 @@
 -- One turn of each of this crate's loops, as an equation over what remains of the list.
-use Rattle.common_laws.proofs.Base.{Bool, true, false, ◌||◌, List, [], ◌≡◌, ℕ, zero, suc, ◌+◌, ◌-◌, ◌≤◌, ◌<◌, dec_le, add-one, arith, eqb, length, get_or, take, drop, length-drop}
-use Rattle.common_laws.proofs.Base.{drop_of_length-le, drop-cons, take-nil, take_all, eq-eqb, ne_eqb, eqb-false}
+use Rattle.common_laws.proofs.Base.{Bool, false, ◌||◌, ◌&&◌, List, [], ◌∷◌, ◌≡◌, refl, ap, ℕ, zero, suc, ◌+◌, ◌≤◌, ◌<◌, dec_le, add-one, arith, eqb, length, get_or, take, drop}
+use Rattle.common_laws.proofs.Base.{drop_of_length-le, drop-cons, take-nil, eq-eqb, ne_eqb, eqb-false}
+use Rattle.std.specs.Cmp.Lexicographic.{pointwise}
 use Rattle.reading.proofs.Laws.{or_left, or_right}
 use Rattle.text.specs.Lines.{stop, span, some_ends, part, same_bytes}
 
@@ -49,25 +50,14 @@ pub part-found : (mark : ℕ) (s : List ℕ) (i : ℕ) → i ≡ span mark s →
 unfolding part
 part-found mark s i e = rw e
 
--- A part from a cursor on is the first part of the rest.
-pub part-rest : (mark : ℕ) (s : List ℕ) (from : ℕ) → part mark (take (length s - from) (drop from s)) 0 ≡ part mark s from
-unfolding part
-part-rest mark s from =
-    let all : length (drop from s) ≤ length s - from = omega (arith, length-drop from s) in
-    rw (take_all (length s - from) (drop from s) all)
-
 pub part-past : (mark : ℕ) (s : List ℕ) (from : ℕ) → length s ≤ from → part mark s from ≡ []
 unfolding part
 part-past mark s from h = rw (drop_of_length-le s h) (take-nil (span mark []))
 
-pub same_bytes-good : (a b : List ℕ) (i : ℕ) → i < length a → i < length b → get_or a i 0 ≡ get_or b i 0 → same_bytes (drop i a) (drop i b) ≡ same_bytes (drop (i + 1) a) (drop (i + 1) b)
+-- What `==` of slices says.
+pub same_bytes_eq : (a b : List ℕ) → same_bytes a b ≡ pointwise eqb a b
 unfolding same_bytes
-same_bytes-good a b i p q e = rw (add-one, drop-cons a i 0 p, drop-cons b i 0 q, eq-eqb (get_or a i 0) (get_or b i 0) e)
-
-pub same_bytes-bad : (a b : List ℕ) (i : ℕ) → i < length a → i < length b → (get_or a i 0 ≡ get_or b i 0 → ⊥) → same_bytes (drop i a) (drop i b) ≡ false
-unfolding same_bytes
-same_bytes-bad a b i p q n = rw (drop-cons a i 0 p, drop-cons b i 0 q, ne_eqb (get_or a i 0) (get_or b i 0) n)
-
-pub same_bytes-end : (a b : List ℕ) (i : ℕ) → length a ≤ i → length b ≤ i → same_bytes (drop i a) (drop i b) ≡ true
-unfolding same_bytes
-same_bytes-end a b i p q = rw (drop_of_length-le a p, drop_of_length-le b q)
+same_bytes_eq [] [] = refl
+same_bytes_eq [] (y ∷ b) = refl
+same_bytes_eq (x ∷ a) [] = refl
+same_bytes_eq (x ∷ a) (y ∷ b) = ap (λ (t : Bool). eqb x y && t) (same_bytes_eq a b)

@@ -1,9 +1,11 @@
 -- The class of a byte. Document 01, "Forms for each place": the "classifier matches a byte local over ranges of digits,
 -- letters, comma and line end". The laws that relate the classes to the tests of other pages stand in `proofs/Laws.antt`.
-use Rattle.std.specs.Prelude.{Bool, true, false, not, ◌&&◌, ℕ, leb, eqb}
+use Rattle.std.specs.Prelude.{Bool, true, false, ◌&&◌, ℕ, leb, eqb}
 use Rattle.reading.specs.Choice.{pick, choice_open}
 use Rattle.text.specs.declared.Class.{Class}
 use Rattle.text.specs.declared.Class.TheVariants.{Digit, Letter, Comma, LineEnd, Other}
+use Rattle.text.specs.declared.Piece.{Piece}
+use Rattle.text.specs.declared.Piece.TheVariants.{Line, Field}
 
 -- A byte of a range, both ends included.
 unfoldable pub between : ℕ → ℕ → ℕ → Bool
@@ -34,17 +36,22 @@ is_letter_or_digit LineEnd = false
 is_letter_or_digit Other = false
 
 -- The byte that ends a line, and the one that ends a field of it.
-unfoldable pub end_of : Bool → ℕ
-end_of true = 10
-end_of false = 44
+unfoldable pub end_of : Piece → ℕ
+end_of Line = 10
+end_of Field = 44
 
 -- Whether a byte of a class ends a line, or a field (`class_ends` of proofs/Laws.antt: just `end_of` does).
-unfoldable pub ends : Bool → Class → Bool
-ends line Digit = false
-ends line Letter = false
-ends line Comma = not line
-ends line LineEnd = line
-ends line Other = false
+unfoldable pub ends : Piece → Class → Bool
+ends Line LineEnd = true
+ends Line Digit = false
+ends Line Letter = false
+ends Line Comma = false
+ends Line Other = false
+ends Field Comma = true
+ends Field Digit = false
+ends Field Letter = false
+ends Field LineEnd = false
+ends Field Other = false
 
 -- Opens the page's definitions, where a figure computes with them.
 unfoldable pub class_open : ℕ

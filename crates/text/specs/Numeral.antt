@@ -1,11 +1,10 @@
 -- Numbers and names as they are written in fields. Document 01, "Cells" and "Netlist".
 use Rattle.std.specs.Prelude.{Bool, true, not, ◌&&◌, ◌||◌, List, [], ◌∷◌, ℕ, ◌+◌, ◌*◌, ◌-◌, leb, ltb, eqb, length}
+use Rattle.std.specs.Prelude as Code
 use Rattle.std.proofs.Math.Option.{Option, none, some}
 use Rattle.sizes.specs.Sizes as Size
 use Rattle.reading.specs.Choice.{pick}
 use Rattle.text.specs.Class.{between, class_open}
-use Rattle.text.specs.declared.fields.Numeral.{Numeral}
-use Rattle.text.specs.declared.fields.Numeral.TheVariants.{Value, Bad}
 
 -- The digits of a base up to ten, from byte 48 on.
 unfoldable pub digit_below : ℕ → ℕ → Bool
@@ -50,9 +49,9 @@ unfoldable pub name_form : List ℕ → Bool
 name_form f = leb 1 (length f) && (leb (length f) Size.name_bytes && all_name f)
 
 -- What the answer of the two readers of numbers says: the value, or bad form.
-unfoldable pub numeral_read : Numeral → Option ℕ
-numeral_read (Value n) = some n
-numeral_read Bad = none
+unfoldable pub numeral_read : Code.Option ℕ → Option ℕ
+numeral_read (Code.Some n) = some n
+numeral_read Code.None = none
 
 -- Opens the page's definitions, where a figure computes with them.
 unfoldable pub numeral_open : ℕ

@@ -21,6 +21,7 @@ pub enum Class {
     Other,
 }
 
+#[tactic(auto, unfolding(crate::specs::Class::class_of, crate::specs::Class::between, reading::specs::Choice::pick))]
 pub fn class_of(b: u8) -> Class
     ensures { result ≡ class_of b }
 {
@@ -33,98 +34,105 @@ pub fn class_of(b: u8) -> Class
     }
 }
 
-// Whether a byte ends a line, or a field.
-fn ends(b: u8, line: bool) -> bool
-    ensures { result ≡ ends line (class_of b) }
-{
-    let class = class_of(b);
-    match class {
-        Class::Digit => false,
-        Class::Letter => false,
-        Class::Comma => !line,
-        Class::LineEnd => line,
-        Class::Other => false,
-    }
+// What a cursor walks over: the lines of a text, or the fields of a line.
+#[derive(Clone, Copy)]
+enum Piece {
+    Line,
+    Field,
 }
 
-// Whether one of the eight bytes from a place on ends a line.
+// Whether a byte ends a line, or a field.
+#[tactic(auto, unfolding(crate::specs::Class::ends))]
+fn ends(b: u8, piece: Piece) -> bool
+    ensures { result ≡ ends piece (class_of b) }
+{
+    matches!(
+        (piece, class_of(b)),
+        (Piece::Line, Class::LineEnd) | (Piece::Field, Class::Comma)
+    )
+}
+
+// Whether one of the eight bytes from a place on ends a line. Not `any`, which looks at one at a time: that takes longer.
 fn line_ends(text: &[u8], at: usize) -> bool
     requires { at + 8 ≤ length text.now }
     ensures { result ≡ some_ends text.now at 8 }
 {
     let mut found = false;
-    let mut i = 0;
-    while i < 8 {
-        found = found | ends(text[at + i], true);
-        i += 1;
+    for b in &text[at..at + 8] {
+        found |= ends(*b, Piece::Line);
     }
     found
 }
 
-// Of the first line so many bytes, by eights, that it does not end in them: eight are looked at at once.
+// Of the first line so many bytes, by eights, that it does not end in them: eight are looked at at once. (This loop and that of
+// `first` go over every byte that is read, so that they stand as they were measured (D151), without `find` and `position`.)
 fn eights(text: &[u8]) -> usize
     ensures { (result ≤ length text.now)
         × (result + span 10 (drop result text.now) ≡ span 10 text.now) }
 {
-    let n = text.len();
-    let mut i = 0;
-    while 8 <= n - i {
-        if line_ends(text, i) {
-            return i;
+    let whole = text.len() / 8;
+    for k in 0..whole {
+        if line_ends(text, 8 * k) {
+            return 8 * k;
         }
-        i += 8;
     }
-    i
+    8 * whole
 }
 
 // Where to look for the end of the first line, or of the first field: fields are short.
-fn look_from(text: &[u8], line: bool) -> usize
+#[tactic(auto, unfolding(crate::specs::Class::end_of))]
+fn look_from(text: &[u8], piece: Piece) -> usize
     ensures { (result ≤ length text.now)
-        × (result + span (end_of line) (drop result text.now) ≡ span (end_of line) text.now) }
+        × (result + span (end_of piece) (drop result text.now) ≡ span (end_of piece) text.now) }
 {
-    if line { eights(text) } else { 0 }
+    match piece {
+        Piece::Line => eights(text),
+        Piece::Field => 0,
+    }
 }
 
 // The first line, or the first field, up to its end or to the text's.
-fn first(text: &[u8], line: bool) -> &[u8]
-    ensures { result.now ≡ part (end_of line) text.now 0 }
+fn first(text: &[u8], piece: Piece) -> &[u8]
+    ensures { result.now ≡ part (end_of piece) text.now 0 }
 {
-    let n = text.len();
-    let mut i = look_from(text, line);
-    while i < n {
-        if ends(text[i], line) {
+    for i in look_from(text, piece)..text.len() {
+        if ends(text[i], piece) {
             return &text[..i];
         }
-        i += 1;
     }
     text
 }
 
 // The line, or the field, from a cursor on; empty from a cursor past the end.
-fn part(text: &[u8], from: usize, line: bool) -> &[u8]
-    ensures { result.now ≡ part (end_of line) text.now from }
+#[tactic(auto, unfolding(crate::specs::Lines::part))]
+fn part(text: &[u8], from: usize, piece: Piece) -> &[u8]
+    ensures { result.now ≡ part (end_of piece) text.now from }
 {
-    let n = text.len();
-    if n < from {
-        return &text[n..];
+    // No `get`: the archive as WebAssembly takes no optional reference (pads/narrow).
+    if from <= text.len() {
+        first(&text[from..], piece)
+    } else {
+        &[]
     }
-    first(&text[from..], line)
 }
 
+#[tactic(auto, unfolding(crate::specs::Class::end_of))]
 pub fn line(text: &[u8], from: usize) -> &[u8]
     ensures { result.now ≡ part 10 text.now from }
 {
-    part(text, from, true)
+    part(text, from, Piece::Line)
 }
 
+#[tactic(auto, unfolding(crate::specs::Class::end_of))]
 pub fn field(line: &[u8], from: usize) -> &[u8]
     ensures { result.now ≡ part 44 line.now from }
 {
-    part(line, from, false)
+    part(line, from, Piece::Field)
 }
 
 // The cursor after a part that starts at `from`: that of the next field of a line, or of the next line of a text. It is
 // past the text's end after the last part, and stays there.
+#[tactic(auto, unfolding(crate::specs::Lines::next_after, reading::specs::Choice::pick))]
 pub fn after(text: &[u8], from: usize, part: &[u8]) -> usize
     ensures { result ≡ next_after text.now from part.now }
 {
@@ -139,24 +147,13 @@ pub fn after(text: &[u8], from: usize, part: &[u8]) -> usize
 pub fn is_last(line: &[u8], at: usize, next: usize) -> bool
     ensures { result ≡ (leb at (length line.now) && ltb (length line.now) next) }
 {
-    let n = line.len();
-    (at <= n) & (n < next)
+    at <= line.len() && line.len() < next
 }
 
 // Whether two strings of bytes are the same, byte for byte.
+#[tactic(auto, using(crate::proofs::Steps::same_bytes_eq))]
 pub fn same(a: &[u8], b: &[u8]) -> bool
     ensures { result ≡ same_bytes a.now b.now }
 {
-    let n = a.len();
-    if n != b.len() {
-        return false;
-    }
-    let mut i = 0;
-    while i < n {
-        if a[i] != b[i] {
-            return false;
-        }
-        i += 1;
-    }
-    true
+    a == b
 }

@@ -4,11 +4,14 @@
 // changed nothing but what can be reached so, the table is the one that stands (specs/Back.antt).
 #![tactic(auto)]
 
-ghost use Rattle.std.specs.Prelude.{◌≡◌, true, ◌&&◌, ◌≤◌, ◌<◌, ◌+◌, eqb, length, get_or, set};
-ghost use Rattle.sizes.specs.Sizes as Size;
-ghost use Rattle.netlist_table.specs.Gates.{LinesStand};
-ghost use Rattle.trial_back.specs.Back.{co_place, Put, PinPut, PinsBack, DriverBack, driver_of, BackFits, WalkFits, Walked, PutBack};
+mod stack;
 
+ghost use Rattle.std.specs.Prelude.{◌≡◌, true, ◌&&◌, ◌≤◌, ◌<◌, ◌+◌, ◌-◌, eqb, length, get_or, set, SomeIff};
+ghost use Rattle.sizes.specs.Sizes as Size;
+ghost use Rattle.netlist_table.specs.Gates.{gate_line, LinesStand};
+ghost use Rattle.trial_back.specs.Back.{co_place, Put, PinsBack, driver_of, BackFits, WalkFits, Walked, PutBack};
+
+use crate::stack::Stack;
 use netlist_table::gates::line_of;
 
 // The place of a line's CO.
@@ -19,20 +22,18 @@ fn place_of(line: usize) -> usize
     (line - 1) * sizes::COSTS + sizes::OBSERVED_AT
 }
 
-// Whether the CO and SO at a place are those that stand.
+// Whether the CO and SO at a place are those that stand. (As two slices that are compared: measured slower.)
 fn is_same(standing: &[u32; sizes::NUMBERS], tried: &[u32; sizes::NUMBERS], at: usize) -> bool
-    requires { (at + 1 < Size.numbers) × (length standing.now ≡ Size.numbers)
-        × (length tried.now ≡ Size.numbers) }
+    requires { at + 1 < Size.numbers }
     ensures { result ≡ (eqb (get_or tried.now at 0) (get_or standing.now at 0)
         && eqb (get_or tried.now (at + 1) 0) (get_or standing.now (at + 1) 0)) }
 {
-    (tried[at] == standing[at]) & (tried[at + 1] == standing[at + 1])
+    tried[at] == standing[at] && tried[at + 1] == standing[at + 1]
 }
 
 // Stores those that stand.
 fn store(standing: &[u32; sizes::NUMBERS], tried: &mut [u32; sizes::NUMBERS], at: usize)
-    requires { (at + 1 < Size.numbers) × (length standing.now ≡ Size.numbers)
-        × (length tried.old ≡ Size.numbers) }
+    requires { at + 1 < Size.numbers }
     ensures { tried.new ≡ set (set tried.old at (get_or standing.now at 0))
         (at + 1) (get_or standing.now (at + 1) 0) }
 {
@@ -40,45 +41,31 @@ fn store(standing: &[u32; sizes::NUMBERS], tried: &mut [u32; sizes::NUMBERS], at
     tried[at + 1] = standing[at + 1];
 }
 
-// Puts back the CO and SO of a line; where they had changed, the line goes on the stack. How high that is.
+// Puts back the CO and SO of a line; where they had changed, the line goes on the stack. (No struct has `standing`, `tried` and
+// the stack: each function would have to promise that it still holds the caller's `tried`.)
 fn put_line(
     standing: &[u32; sizes::NUMBERS],
     tried: &mut [u32; sizes::NUMBERS],
-    stack: &mut [usize; sizes::BACK_LINES],
-    high: usize,
+    stack: &mut Stack,
     line: usize,
-) -> usize
-    requires { (1 ≤ line) × (line ≤ Size.lines) × (high < Size.back_lines) × (length standing.now ≡ Size.numbers)
-        × (length tried.old ≡ Size.numbers) × (length stack.old ≡ Size.back_lines) }
-    ensures { Put standing.now line high tried.old stack.old
-        tried.new stack.new result }
+)
+    requires { (1 ≤ line) × (line ≤ Size.lines) × (length stack.old < Size.back_lines) }
+    ensures { Put standing.now line tried.old stack.old tried.new stack.new }
 {
     let at = place_of(line);
-    if is_same(standing, tried, at) {
-        return high;
+    if !is_same(standing, tried, at) {
+        store(standing, tried, at);
+        stack.push(line);
     }
-    store(standing, tried, at);
-    stack[high] = line;
-    high + 1
 }
 
-// The same of the line of a pin, 0 where there is none.
-fn put_pin(
-    standing: &[u32; sizes::NUMBERS],
-    tried: &mut [u32; sizes::NUMBERS],
-    stack: &mut [usize; sizes::BACK_LINES],
-    high: usize,
-    line: usize,
-) -> usize
-    requires { (line ≤ Size.lines) × (high < Size.back_lines) × (length standing.now ≡ Size.numbers)
-        × (length tried.old ≡ Size.numbers) × (length stack.old ≡ Size.back_lines) }
-    ensures { PinPut standing.now line high tried.old stack.old
-        tried.new stack.new result }
+// The line that a pin reads, if any.
+fn pin_line(netlist: &[u32], gate: usize, i: usize) -> Option<usize>
+    requires { (gate < Size.gates) × (i < Size.gate_lines) }
+    ensures { SomeIff result (1 ≤ gate_line netlist.now gate i) (gate_line netlist.now gate i) }
 {
-    if line == 0 {
-        return high;
-    }
-    put_line(standing, tried, stack, high, line)
+    let line = line_of(netlist, gate, i);
+    (line != 0).then_some(line)
 }
 
 // The lines of all pins of a gate.
@@ -86,97 +73,53 @@ fn put_pins(
     netlist: &[u32],
     standing: &[u32; sizes::NUMBERS],
     tried: &mut [u32; sizes::NUMBERS],
-    stack: &mut [usize; sizes::BACK_LINES],
-    high: usize,
+    stack: &mut Stack,
     gate: usize,
-) -> usize
-    requires { (high + Size.pins ≤ Size.back_lines) × LinesStand netlist.now (gate + 1) × (length standing.now ≡ Size.numbers)
-        × (length tried.old ≡ Size.numbers) × (length stack.old ≡ Size.back_lines) }
-    ensures { PinsBack standing.now netlist.now gate Size.gate_lines high tried.old
-        stack.old tried.new stack.new result }
+)
+    requires { (length stack.old + Size.pins ≤ Size.back_lines) × LinesStand netlist.now (gate + 1) }
+    ensures { PinsBack standing.now netlist.now gate Size.gate_lines tried.old
+        stack.old tried.new stack.new }
 {
-    let mut top = high;
-    let mut i = 1;
-    while i < sizes::GATE_LINES {
-        top = put_pin(standing, tried, stack, top, line_of(netlist, gate, i));
-        i += 1;
+    for i in 1..=sizes::PINS {
+        if let Some(line) = pin_line(netlist, gate, i) {
+            put_line(standing, tried, stack, line);
+        }
     }
-    top
 }
 
-// The same of the gate that drives a line, gates from 1, 0 where none does.
-fn put_driver(
-    netlist: &[u32],
-    standing: &[u32; sizes::NUMBERS],
-    tried: &mut [u32; sizes::NUMBERS],
-    stack: &mut [usize; sizes::BACK_LINES],
-    high: usize,
-    driver: usize,
-) -> usize
-    requires { (high + Size.pins ≤ Size.back_lines) × LinesStand netlist.now driver × (length standing.now ≡ Size.numbers)
-        × (length tried.old ≡ Size.numbers) × (length stack.old ≡ Size.back_lines) }
-    ensures { DriverBack standing.now netlist.now driver high tried.old
-        stack.old tried.new stack.new result }
-{
-    if driver == 0 {
-        return high;
-    }
-    put_pins(netlist, standing, tried, stack, high, driver - 1)
-}
-
-// A link as a place.
-fn wide(x: sizes::Link) -> usize
-    ensures { result ≡ x }
-{
-    x as usize
-}
-
-// The gate that drives a line.
-fn driver_of(links: &[sizes::Link; sizes::LINKS], line: usize) -> usize
+// The gate that drives a line, if any: the links count gates from 1.
+fn driver_of(links: &[sizes::Link; sizes::LINKS], line: usize) -> Option<usize>
     requires { line ≤ Size.lines }
-    ensures { result ≡ driver_of links.now line }
+    ensures { SomeIff result (1 ≤ driver_of links.now line) (driver_of links.now line - 1) }
 {
-    wide(links[sizes::DRIVERS_AT + line])
+    (links[sizes::DRIVERS_AT + line] as usize).checked_sub(1)
 }
 
-// Whether the walk goes on: there is a line on the stack, and room for those behind it, and turns are left.
-fn goes_on(high: usize, left: usize) -> bool
-    ensures { result ≡ true → (1 ≤ high) × (high + Size.pins ≤ Size.back_lines) × (1 ≤ left) }
-{
-    if high == 0 {
-        return false;
-    }
-    if sizes::BACK_LINES - sizes::PINS < high {
-        return false;
-    }
-    if left == 0 {
-        return false;
-    }
-    true
-}
-
-// The walk from the lines on the stack; whether it came to the end.
+// The walk from the lines on the stack; whether it came to the end. It ends early where a gate's lines may have no room, or
+// where its turns are over.
 fn walk_back(
     netlist: &[u32],
     links: &[sizes::Link; sizes::LINKS],
     standing: &[u32; sizes::NUMBERS],
     tried: &mut [u32; sizes::NUMBERS],
-    stack: &mut [usize; sizes::BACK_LINES],
-    high: usize,
+    stack: &mut Stack,
 ) -> bool
-    requires { WalkFits netlist.now links.now standing.now tried.old stack.old high }
+    requires { WalkFits netlist.now links.now }
     ensures { Walked netlist.now links.now standing.now tried.old
-        stack.old high tried.new result }
+        stack.old tried.new result }
 {
-    let mut top = high;
-    let mut left = sizes::BACK_TURNS;
-    while goes_on(top, left) {
-        top -= 1;
-        left -= 1;
-        let driver = driver_of(links, stack[top]);
-        top = put_driver(netlist, standing, tried, stack, top, driver);
+    for _ in 0..sizes::BACK_TURNS {
+        if !stack.has_room() {
+            return false;
+        }
+        let Some(line) = stack.pop() else {
+            return true;
+        };
+        if let Some(gate) = driver_of(links, line) {
+            put_pins(netlist, standing, tried, stack, gate);
+        }
     }
-    top == 0
+    stack.is_empty()
 }
 
 // Puts back what a trial on a line changed; whether it came to the end.
@@ -187,11 +130,11 @@ pub fn put_back(
     tried: &mut [u32; sizes::NUMBERS],
     line: usize,
 ) -> bool
-    requires { BackFits netlist.now links.now standing.now tried.old line }
+    requires { BackFits netlist.now links.now line }
     ensures { PutBack netlist.now links.now standing.now tried.old
         line tried.new result }
 {
-    let mut stack = [0usize; sizes::BACK_LINES];
-    let high = put_line(standing, tried, &mut stack, 0, line);
-    walk_back(netlist, links, standing, tried, &mut stack, high)
+    let mut stack = Stack::empty();
+    put_line(standing, tried, &mut stack, line);
+    walk_back(netlist, links, standing, tried, &mut stack)
 }

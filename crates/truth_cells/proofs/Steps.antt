@@ -1,10 +1,11 @@
 -- One step of each walk of the code.
 use Rattle.common_laws.proofs.Base.{Bool, true, false, ◌&&◌, ◌||◌, and-true, List, [], ◌∷◌, ◌++◌, map, ◌≡◌, refl, sym, ap, ◌∙◌, ℕ, zero, suc, ◌+◌, ◌*◌, ◌-◌, ◌/◌, ◌%◌, ◌^◌, ◌≤◌}
-use Rattle.common_laws.proofs.Base.{◌<◌, zero-add, add-one, arith, length, get_or, take, set, length-map, take-suc-set}
+use Rattle.common_laws.proofs.Base.{◌<◌, zero-add, add-one, add-suc, arith, length, get_or, take, set, length-map, take-suc-set}
+use Rattle.std.specs.List.{list_all, list_any, range_with_len}
 use Rattle.sizes.specs.Places.{group_place}
 use Rattle.reading.specs.Choice.{pick}
 use Rattle.library_table.specs.Cells.{Group}
-use Rattle.truth_tables.specs.Entries.{row_number, observing_group, groups_from}
+use Rattle.truth_tables.specs.Entries.{row_number}
 use Rattle.truth_tables.specs.Tables.{keep, all_of, digit}
 use Rattle.truth_tables.proofs.Lists.{map-append, map-map}
 use Rattle.truth_rows.specs.Masks.{down_from, up_from, is_bit, is_one, Bits}
@@ -24,14 +25,11 @@ met-more (suc i) columns place h = let e : suc i - 1 ≡ i = omega arith in rw e
 -- ---- the rows of a group
 
 module _ (table : List ℕ) (at n place : ℕ) where
-  pub met_next : (r rows : ℕ) → r < rows → met_from table at n place r (rows - r)
-      ≡ (met_by n (get_or table (at + 2 + 2 * r) 0) place || met_from table at n place (r + 1) (rows - (r + 1)))
+  pub met-any : (r left : ℕ) → list_any (λ (i : ℕ). met_by n (get_or table (at + 2 + 2 * i) 0) place) (range_with_len r left)
+      ≡ met_from table at n place r left
   unfolding met_from
-  met_next r rows h = let e : rows - r ≡ suc (rows - suc r) = omega arith in rw (add-one r, e) refl
-
-  pub met-none : (r rows : ℕ) → rows ≤ r → met_from table at n place r (rows - r) ≡ false
-  unfolding met_from
-  met-none r rows h = let e : rows - r ≡ 0 = omega arith in rw e refl
+  met-any r zero = refl
+  met-any r (suc left) = rw (add-one r, met-any (suc r) left) refl
 
 module _ (table : List ℕ) (at : ℕ) (number : ℕ → ℕ) (prime : ℕ → Bool) where
   -- The rows below one that are still looked for.
@@ -49,25 +47,16 @@ module _ (table : List ℕ) (at : ℕ) (number : ℕ → ℕ) (prime : ℕ → B
   left_other found zero h p = absurd (omega arith)
   left_other found (suc row) h p = let e : suc row - 1 ≡ row = omega arith in rw (e, rw e at p) refl
 
--- ---- the groups of the values, and of the pins
+-- ---- the groups of a line
 
-pub groups-two : (table : List ℕ) (cell first : ℕ) (g h : Group) → groups_are table cell first (g ∷ h ∷ [])
-    ≡ (rows_are table (group_place cell first) 0 (map row_number g) && rows_are table (group_place cell (first + 1)) 0 (map row_number h))
-unfolding groups_are
-groups-two table cell first g h =
-    let a = rows_are table (group_place cell first) 0 (map row_number g) in
-    let b = rows_are table (group_place cell (suc first)) 0 (map row_number h) in
-    rw (add-one first) (ap (λ (x : Bool). a && x) (and-true b))
-
-pub groups-next : (table : List ℕ) (cell first d n k : ℕ) (bits : List Bool) → k < n
-    → groups_are table cell (first + k) (groups_from d n bits k (n - k))
-    ≡ (rows_are table (group_place cell (first + k)) 0 (map row_number (observing_group d n bits k))
-    && groups_are table cell (first + (k + 1)) (groups_from d n bits (k + 1) (n - (k + 1))))
-unfolding groups_are groups_from
-groups-next table cell first d n k bits h =
+pub groups-next : (table : List ℕ) (cell first n k : ℕ) (g : ℕ → Group) → k < n
+    → groups_are table cell (first + k) (map g (up_from k (n - k)))
+    ≡ (rows_are table (group_place cell (first + k)) 0 (map row_number (g k)) && groups_are table cell (first + (k + 1)) (map g (up_from (k + 1) (n - (k + 1)))))
+unfolding groups_are up_from
+groups-next table cell first n k g h =
     let e : n - k ≡ suc (n - suc k) = omega arith in
-    let g : first + suc k ≡ suc (first + k) = omega arith in
-    rw (add-one k, e, g) refl
+    let f : first + suc k ≡ suc (first + k) = omega arith in
+    rw (add-one k, e, f) refl
 
 -- ---- the bits
 

@@ -1,24 +1,18 @@
 // The truth table that the rows of a group of value 1 tell: a setting gives 1 where it meets one of them.
 ghost use Rattle.std.specs.Prelude.{◌≡◌, ◌^◌, ◌≤◌, take};
+ghost use Rattle.sizes.specs.Sizes as Size;
 ghost use Rattle.truth_cells.specs.Words.{farthest, admits, met_by, rows_at, met_at, bit_byte, truth_bytes};
 
 use table::word;
-use truth_rows::masks::power;
-
-const ZERO: u8 = 48;
-
-const ONE: u8 = 49;
 
 const MOST_SETTINGS: usize = 16;
 
 // Whether the columns of a pin, as a digit, let it have a value.
+#[tactic(auto, unfolding(crate::specs::Words::admits, reading::specs::Choice::pick))]
 fn admits(digit: u32, value: u32) -> bool
     ensures { result ≡ admits digit value }
 {
-    if value == 0 {
-        return (digit == 0) | (digit == 2);
-    }
-    (digit == 0) | (digit == 1)
+    digit == 0 || digit == if value == 0 { 2 } else { 1 }
 }
 
 // Whether the setting at a place meets a row of these columns.
@@ -28,11 +22,9 @@ fn is_met(pins: usize, columns: u32, place: u32) -> bool
 {
     let mut rest = columns;
     let mut left = place;
-    let mut i = pins;
-    while 0 < i {
-        i -= 1;
-        let four = power(4, i);
-        let two = power(2, i);
+    for i in (0..pins).rev() {
+        let four = 4u32.pow(i as u32);
+        let two = 2u32.pow(i as u32);
         if !admits(rest / four, left / two) {
             return false;
         }
@@ -43,11 +35,11 @@ fn is_met(pins: usize, columns: u32, place: u32) -> bool
 }
 
 // How many rows a group has, at most as many as there is space for.
+#[tactic(auto, unfolding(crate::specs::Words::rows_at))]
 fn rows_at(library: &[u32], at: usize) -> usize
-    ensures { result ≡ rows_at library.now at }
+    ensures { (result ≡ rows_at library.now at) × (result ≤ Size.rows) }
 {
-    let n = word(library, at) as usize;
-    if n < sizes::ROWS { n } else { sizes::ROWS }
+    sizes::ROWS.min(word(library, at) as usize)
 }
 
 // Whether the setting at a place meets a row of the group.
@@ -55,22 +47,15 @@ fn is_one(library: &[u32], at: usize, pins: usize, place: u32) -> bool
     requires { (at ≤ farthest) × (pins ≤ 4) }
     ensures { result ≡ met_at library.now at pins place }
 {
-    let rows = rows_at(library, at);
-    let mut row = 0;
-    while row < rows {
-        if is_met(pins, word(library, at + 2 + 2 * row), place) {
-            return true;
-        }
-        row += 1;
-    }
-    false
+    (0..rows_at(library, at)).any(|row| is_met(pins, word(library, at + 2 + 2 * row), place))
 }
 
 // A value as a byte.
+#[tactic(auto, unfolding(crate::specs::Words::bit_byte, truth_tables::specs::Tables::digit))]
 fn byte_of(value: bool) -> u8
     ensures { result ≡ bit_byte value }
 {
-    if value { ONE } else { ZERO }
+    if value { b'1' } else { b'0' }
 }
 
 // The truth table as bytes, "0" and "1", in the front of the array.
@@ -78,12 +63,9 @@ pub fn bits_of(library: &[u32], at: usize, pins: usize) -> [u8; MOST_SETTINGS]
     requires { (at ≤ farthest) × (pins ≤ 4) }
     ensures { take (2 ^ pins) result ≡ truth_bytes library.now at pins }
 {
-    let settings = power(2, pins) as usize;
     let mut bits = [0u8; MOST_SETTINGS];
-    let mut j = 0;
-    while j < settings {
+    for j in 0..2usize.pow(pins as u32) {
         bits[j] = byte_of(is_one(library, at, pins, j as u32));
-        j += 1;
     }
     bits
 }

@@ -1,19 +1,17 @@
 // Whether the groups of a cell, in the table, are those of a truth table.
-ghost use Rattle.std.specs.Prelude.{map, ◌≡◌, ◌+◌, ◌≤◌, ◌<◌};
+ghost use Rattle.std.specs.Prelude.{map, ℕ, ◌≡◌, ◌+◌, ◌≤◌, ◌<◌};
 ghost use Rattle.sizes.specs.Places.{group_place};
 ghost use Rattle.sizes.specs.Sizes as Size;
-ghost use Rattle.truth_tables.specs.Entries.{setting_groups, observing_groups};
-ghost use Rattle.truth_rows.specs.Asked.{Small, asked_number};
-ghost use Rattle.truth_rows.specs.Masks.{is_one, prime_rows, Bits};
+ghost use Rattle.library_table.specs.Cells.{Group};
+ghost use Rattle.truth_rows.specs.declared.Asked.{Asked};
+ghost use Rattle.truth_rows.specs.Asked.{AsksFor, Small, asked_number};
+ghost use Rattle.truth_rows.specs.Masks.{is_one, prime_rows, up_from, Bits};
 ghost use Rattle.truth_cells.specs.Words.{farthest, row_is, rows_are, groups_are, groups_of};
 
+use library_table::Heading;
 use table::word;
-use truth_rows::masks::{is_prime, number, power};
+use truth_rows::masks::{is_prime, number};
 use truth_rows::{Asked, of_pin, of_value};
-
-const ZERO: u8 = 48;
-
-const ONE: u8 = 49;
 
 // Where a group of a cell starts.
 pub fn group_place(cell: u32, group: usize) -> usize
@@ -26,13 +24,15 @@ pub fn group_place(cell: u32, group: usize) -> usize
         + group * sizes::GROUP_WORDS
 }
 
-// Whether a row of a group is the one that is written as this number.
+// Whether a row of a group is the one that an entry of one bit of depth writes as this number.
+#[tactic(auto, unfolding(crate::specs::Words::row_is, library_table::specs::Cells::depth_bits))]
 fn is_row(library: &[u32], at: usize, row: usize, number: u32) -> bool
     requires { (at ≤ farthest) × (row ≤ 81) }
     ensures { result ≡ row_is library.now at row number }
 {
-    (word(library, at + 1 + 2 * row) == number % 2)
-        & (word(library, at + 2 + 2 * row) == number / 2)
+    let depths = Heading::Plain.depths();
+    word(library, at + 1 + 2 * row) == number % depths
+        && word(library, at + 2 + 2 * row) == number / depths
 }
 
 // Whether the group at a place has just the rows that are asked for, in their order.
@@ -43,9 +43,7 @@ fn has_rows(library: &[u32], at: usize, asked: Asked) -> bool
 {
     let pins = asked.pins;
     let mut found = 0;
-    let mut row = power(3, pins);
-    while 0 < row {
-        row -= 1;
+    for row in (0..3u32.pow(pins as u32)).rev() {
         if is_prime(asked.wanted, pins, row) {
             if !is_row(
                 library,
@@ -61,38 +59,24 @@ fn has_rows(library: &[u32], at: usize, asked: Asked) -> bool
     word(library, at) as usize == found
 }
 
-// Whether the two groups from one on are those of the values.
-fn has_values(
+// Whether so many groups from one on are those that are asked for, each by its place behind it.
+fn has_line<F: Fn(usize) -> Asked>(
     library: &[u32],
     cell: u32,
     first: usize,
-    depth: u32,
-    pins: usize,
-    bits: &[u8],
+    count: usize,
+    group: F,
 ) -> bool
-    requires { Bits pins bits.now × (depth ≤ 1) × (first + 2 ≤ Size.groups) }
-    ensures { result ≡ groups_are library.now cell first
-        (setting_groups depth pins (map is_one bits.now)) }
+    requires few { first + count ≤ Size.groups }
+    requires may_call { (k : ℕ) → k < count → F.pre group k }
+    requires small { (k : ℕ) (a : Asked) → k < count → F.post group k a → Small a }
+    ensures { (g : ℕ → Group) → ((k : ℕ) (a : Asked) → k < count → F.post group k a → AsksFor a (g k))
+        → result ≡ groups_are library.now cell first (map g (up_from 0 count)) }
 {
-    let zero = of_value(depth, pins, bits, ZERO);
-    let one = of_value(depth, pins, bits, ONE);
-    has_rows(library, group_place(cell, first), zero)
-        & has_rows(library, group_place(cell, first + 1), one)
-}
-
-// Whether the groups from one on are those of the pins.
-fn has_pins(library: &[u32], cell: u32, first: usize, depth: u32, pins: usize, bits: &[u8]) -> bool
-    requires { Bits pins bits.now × (depth ≤ 1) × (first + pins ≤ Size.groups) }
-    ensures { result ≡ groups_are library.now cell first
-        (observing_groups depth pins (map is_one bits.now)) }
-{
-    let mut k = 0;
-    while k < pins {
-        let asked = of_pin(depth, pins, bits, k);
-        if !has_rows(library, group_place(cell, first + k), asked) {
+    for k in 0..count {
+        if !has_rows(library, group_place(cell, first + k), group(k)) {
             return false;
         }
-        k += 1;
     }
     true
 }
@@ -102,9 +86,31 @@ pub fn has_groups(library: &[u32], cell: u32, pins: usize, bits: &[u8]) -> bool
     requires { Bits pins bits.now }
     ensures { result ≡ groups_of library.now cell pins (map is_one bits.now) }
 {
-    let set = has_values(library, cell, sizes::CC_GROUP, 1, pins, bits)
-        & has_values(library, cell, sizes::SC_GROUP, 0, pins, bits);
-    let observed = has_pins(library, cell, sizes::CO_GROUP, 1, pins, bits)
-        & has_pins(library, cell, sizes::SO_GROUP, 0, pins, bits);
+    let set = has_line(
+        library,
+        cell,
+        sizes::CC_GROUP,
+        2,
+        |k| of_value(1, pins, bits, k == 1),
+    ) & has_line(
+        library,
+        cell,
+        sizes::SC_GROUP,
+        2,
+        |k| of_value(0, pins, bits, k == 1),
+    );
+    let observed = has_line(
+        library,
+        cell,
+        sizes::CO_GROUP,
+        pins,
+        |k| of_pin(1, pins, bits, k),
+    ) & has_line(
+        library,
+        cell,
+        sizes::SO_GROUP,
+        pins,
+        |k| of_pin(0, pins, bits, k),
+    );
     set & observed
 }

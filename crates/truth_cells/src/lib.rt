@@ -13,7 +13,6 @@ ghost use Rattle.truth_cells.specs.Words.{generated_at};
 use crate::bits::bits_of;
 use crate::groups::{group_place, has_groups};
 use library_table::cells::{count, pins_of};
-use truth_rows::masks::power;
 
 const MOST_PINS: u32 = 4;
 
@@ -30,6 +29,5 @@ pub fn is_generated(library: &[u32], cell: u32) -> bool
     }
     let pins = n as usize;
     let bits = bits_of(library, group_place(cell, sizes::CC_GROUP + 1), pins);
-    let settings = power(2, pins) as usize;
-    has_groups(library, cell, pins, &bits[..settings])
+    has_groups(library, cell, pins, &bits[..2usize.pow(n)])
 }

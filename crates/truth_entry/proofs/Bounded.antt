@@ -5,11 +5,13 @@ use Rattle.reading.specs.Choice.{pick}
 use Rattle.reading.specs.Numbers as No
 use Rattle.reading.specs.Refusal.{Read, refused, read, ◌>>=◌, ◌>>◌, weigh, form}
 use Rattle.reading.proofs.Laws.{by_test, and_left, refused-read}
+use Rattle.reading.specs.Answer.{answer_read}
 use Rattle.text.specs.Lines.{lines}
 use Rattle.text.specs.Numeral.{decimal, name_form}
 use Rattle.library_table.specs.Library.{Fields}
-use Rattle.writer.specs.declared.Written.{Written}
-use Rattle.writer.specs.Buffer.{text_within, length_read, written_read, Writes}
+use Rattle.std.specs.Prelude.{Result}
+use Rattle.reading.specs.declared.Refusal.{Refusal}
+use Rattle.writer.specs.Buffer.{text_within, length_read, Writes}
 use Rattle.truth_tables.specs.Entries.{cell_of, entry_bytes}
 use Rattle.truth_tables.specs.Tables.{all_of}
 use Rattle.truth_tables.proofs.Lengths.{longest_entry, entry-short}
@@ -114,10 +116,7 @@ bounded-long room (refused number line) b at e = let same : number ≡ No.report
 bounded-long room (read entry) b at e = refused-read (sym e)
 
 -- A call that writes what a text comes to.
-module _ (text before after : List ℕ) (said : Written) where
-  pub writes-long : Writes (generated_into text (length before)) before after said
-      → Writes (generated_into text (length before)) before after said × LongBelow (length before) (written_read said)
-  writes-long w = (
-    w,
-    rw w.answers (bounded-long (length before) (generated_into text (length before)) (bounded text (length before))),
-  )
+module _ (text before after : List ℕ) (said : Result ℕ Refusal) where
+  pub writes-long : Writes (generated_into text (length before)) before after said → LongBelow (length before) (answer_read said)
+  writes-long w =
+      rw w.answers (bounded-long (length before) (generated_into text (length before)) (bounded text (length before)))

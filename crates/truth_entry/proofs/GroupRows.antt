@@ -1,30 +1,30 @@
 -- How far the rows of a group are printed, while they are found one by one.
-use Rattle.common_laws.proofs.Base.{Bool, true, false, ◌||◌, List, [], ◌∷◌, ◌++◌, map, append_assoc, append-nil, ◌≡◌, refl, sym, ap, subst, ◌∙◌, ℕ, suc, ◌-◌, ◌^◌, ◌<◌, arith}
+use Rattle.common_laws.proofs.Base.{Bool, true, false, ◌||◌, List, [], ◌++◌, map, append_assoc, append-nil, ◌≡◌, refl, sym, ap, ◌∙◌, ℕ, suc, ◌-◌, ◌^◌, ◌<◌, arith}
 use Rattle.reading.specs.Choice.{pick}
 use Rattle.reading.proofs.Laws.{by_test}
 use Rattle.text.specs.Bytes.{bytes}
-use Rattle.writer.specs.Put.{Put}
-use Rattle.writer.proofs.Steps.{put-none, put_then}
+use Rattle.writer.specs.Put.{Puts}
+use Rattle.writer.specs.declared.bytes.Cursor.{Cursor}
+use Rattle.writer.proofs.Steps.{puts-none, puts_then}
 use Rattle.truth_tables.specs.Tables.{keep}
 use Rattle.truth_rows.specs.Asked.{asked_number}
 use Rattle.truth_rows.specs.Masks.{prime_row, down_from, prime_rows}
 use Rattle.truth_rows.specs.declared.Asked.{Asked}
 use Rattle.truth_entry.specs.Printed.{one_bytes, more_bytes, rows_bytes, Passed}
-use Rattle.truth_entry.specs.declared.printed.rows.Cursor.{Cursor}
 
 -- The rows below a number that are still to be printed.
 unfoldable pub left_bytes : Asked → Bool → ℕ → List ℕ
 left_bytes a any row = more_bytes any (map (asked_number a) (keep (prime_row a.wanted a.pins) (down_from row)))
 
-pub record Progress (a : Asked) (at : ℕ) (before : List ℕ) (row : ℕ) (cursor : Cursor) (after : List ℕ) : Type 0 where
+pub record Progress (a : Asked) (before : Cursor) (row : ℕ) (any : Bool) (after : Cursor) : Type 0 where
   pub done : List ℕ
-  pub put : Put at done before after cursor.at
-  pub whole : done ++ left_bytes a cursor.any row ≡ rows_bytes a
+  pub put : Puts done before after
+  pub whole : done ++ left_bytes a any row ≡ rows_bytes a
 
-module _ (a : Asked) (at : ℕ) (before : List ℕ) where
-  pub progress-none : (row : ℕ) → row ≡ 3 ^ a.pins → Progress a at before row (record { at = at; any = false }) before
+module _ (a : Asked) (before : Cursor) where
+  pub progress-none : (row : ℕ) → row ≡ 3 ^ a.pins → Progress a before row false before
   unfolding left_bytes rows_bytes prime_rows
-  progress-none row e = record { done = []; put = put-none at before; whole = rw e refl }
+  progress-none row e = record { done = []; put = puts-none before; whole = rw e refl }
 
   left_row : (any : Bool) (r : ℕ) → left_bytes a any (suc r)
       ≡ pick (prime_row a.wanted a.pins r) (one_bytes any (asked_number a r)) [] ++ left_bytes a (prime_row a.wanted a.pins r || any) r
@@ -36,28 +36,26 @@ module _ (a : Asked) (at : ℕ) (before : List ℕ) where
       ++ left_bytes a (prime_row a.wanted a.pins (row - 1) || any) (row - 1)
   left_one any row h = let e : row ≡ suc (row - 1) = omega arith in ap (left_bytes a any) e ∙ left_row any (row - 1)
 
-  pub progress-more : (row : ℕ) (cursor next : Cursor) (mid after : List ℕ) → 0 < row → Progress a at before row cursor mid
-      → Passed a (row - 1) cursor next mid after → Progress a at before (row - 1) next after
-  progress-more row cursor next mid after h p q =
-      let one = pick (prime_row a.wanted a.pins (row - 1)) (one_bytes cursor.any (asked_number a (row - 1))) [] in
+  pub progress-more : (row : ℕ) (any next : Bool) (mid after : Cursor) → 0 < row → Progress a before row any mid
+      → Passed a (row - 1) any next mid after → Progress a before (row - 1) next after
+  progress-more row any next mid after h p q =
+      let one = pick (prime_row a.wanted a.pins (row - 1)) (one_bytes any (asked_number a (row - 1))) [] in
       record {
         done = p.done ++ one;
-        put = put_then p.put q.put;
+        put = puts_then p.put q.put;
         whole =
-            append_assoc p.done one (left_bytes a next.any (row - 1))
-            ∙ ap (λ (l : List ℕ). p.done ++ l) (rw q.any (sym (left_one cursor.any row h)))
+            append_assoc p.done one (left_bytes a next (row - 1))
+            ∙ ap (λ (l : List ℕ). p.done ++ l) (rw q.any (sym (left_one any row h)))
             ∙ p.whole;
       }
 
-  pub progress-all : (cursor : Cursor) (after : List ℕ) → Progress a at before 0 cursor after → cursor.any ≡ true → Put at (rows_bytes a) before after cursor.at
+  pub progress-all : (after : Cursor) → Progress a before 0 true after → Puts (rows_bytes a) before after
   unfolding left_bytes down_from keep more_bytes pick
-  progress-all cursor after p e =
-      let all : p.done ≡ rows_bytes a = sym (append-nil p.done) ∙ (rw e at p.whole) in
-      rw (← all) p.put
+  progress-all after p =
+      let all : p.done ≡ rows_bytes a = sym (append-nil p.done) ∙ p.whole in rw (← all) p.put
 
-  pub progress-empty : (cursor : Cursor) (mid after : List ℕ) (next : ℕ) → Progress a at before 0 cursor mid → cursor.any ≡ false
-      → Put cursor.at (bytes "Z") mid after next → Put at (rows_bytes a) before after next
+  pub progress-empty : (mid after : Cursor) → Progress a before 0 false mid → Puts (bytes "Z") mid after → Puts (rows_bytes a) before after
   unfolding left_bytes down_from keep more_bytes pick
-  progress-empty cursor mid after next p e q =
-      let all : p.done ++ bytes "Z" ≡ rows_bytes a = rw e at p.whole in
-      rw (← all) (put_then p.put q)
+  progress-empty mid after p q =
+      let all : p.done ++ bytes "Z" ≡ rows_bytes a = p.whole in
+      rw (← all) (puts_then p.put q)

@@ -1,6 +1,6 @@
 -- The line of a truth table, by its fields.
-use Rattle.common_laws.proofs.Base.{Bool, true, false, ◌&&◌, List, [], ◌∷◌, ◌++◌, Option, none, some, ◌≡◌, refl, sym, ap, ◌∙◌, ℕ, ◌+◌, ◌≤◌, ◌<◌, arith, ltb, eqb, length, get_or}
-use Rattle.common_laws.proofs.Base.{drop, drop-cons, eqb-true, eqb-false, ne_eqb, le-ltb, ltb-true, ltb-false}
+use Rattle.common_laws.proofs.Base.{Bool, false, ◌&&◌, List, [], ◌∷◌, Option, none, some, ◌≡◌, refl, sym, ◌∙◌, ℕ, ◌+◌, ◌≤◌, ◌<◌, arith, ltb, eqb, length, get_or}
+use Rattle.common_laws.proofs.Base.{eqb-true, eqb-false, ne_eqb, le-ltb, ltb-true, ltb-false}
 use Rattle.sizes.specs.Sizes as Size
 use Rattle.reading.specs.Choice.{pick}
 use Rattle.reading.specs.Refusal.{◌>>◌, weigh}
@@ -8,9 +8,7 @@ use Rattle.reading.proofs.Laws.{by_test}
 use Rattle.text.specs.Lines.{lines, fields, part, lines_from, next_after}
 use Rattle.text.proofs.Laws.{linesFrom_start, linesFrom_line, linesFrom_end, linesFrom_unended, next_after-within, part-within}
 use Rattle.library_table.specs.Library.{Fields}
-use Rattle.truth_tables.specs.Tables.{all_of}
-use Rattle.truth_rows.specs.Masks.{is_bit}
-use Rattle.truth_entry.specs.Generated.{TableLine, table_line, table_after, ended, one_line, generated, judged_into, generated_into}
+use Rattle.truth_entry.specs.Generated.{table_line, table_after, ended, one_line, generated, judged_into, generated_into}
 
 not-formed : (name n bits : List ℕ) → table_line false name n bits ≡ none
 unfolding table_line pick
@@ -81,12 +79,6 @@ module _ (text : List ℕ) where
       ∙ by_test (eqb (length first + 1) (length text))
       (λ t. rw (e, f, g, h, t) (by_fields (fields first)))
       (λ t. rw (e, t) (sym (not-formed name n bits)))
-
--- ---- bits
-
-pub bits-more : (bits : List ℕ) (i : ℕ) → i < length bits → all_of is_bit (drop i bits) ≡ (is_bit (get_or bits i 0) && all_of is_bit (drop (i + 1) bits))
-unfolding all_of
-bits-more bits i h = rw (native.Mathlib.Numerals.add-one i, drop-cons bits i 0 h) refl
 
 -- ---- the whole text
 

@@ -1,17 +1,19 @@
 -- What the generator makes of a text, and what it leaves in a lent buffer. Document 02, K6.
-use Rattle.std.specs.Prelude.{Bool, true, not, ◌&&◌, List, [], ◌∷◌, map, ℕ, ◌^◌, leb, ltb, eqb, length}
+use Rattle.std.specs.Prelude.{Bool, true, not, ◌&&◌, List, [], ◌∷◌, map, ◌≡◌, ℕ, ◌^◌, leb, ltb, eqb, length, Result, Ok, Err}
 use Rattle.std.proofs.Math.Option.{Option, none, some}
 use Rattle.sizes.specs.Sizes as Size
 use Rattle.reading.specs.Choice.{pick}
+use Rattle.reading.specs.Cause.{cause_number}
+use Rattle.reading.specs.declared.Cause.{Cause}
 use Rattle.reading.specs.Numbers as No
-use Rattle.reading.specs.Refusal.{Read, read, ◌>>=◌, ◌>>◌, weigh, form, refusal_open}
+use Rattle.reading.specs.Refusal.{Read, read, refused, ◌>>=◌, ◌>>◌, weigh, form, refusal_open}
 use Rattle.text.specs.Lines.{lines, lines_open}
 use Rattle.text.specs.Numeral.{decimal, name_form, numeral_open}
 use Rattle.writer.specs.Buffer.{text_within}
 use Rattle.library_table.specs.Library.{Fields}
 use Rattle.truth_tables.specs.Entries.{cell_of, entry_bytes, entries_open}
 use Rattle.truth_tables.specs.Tables.{all_of}
-use Rattle.truth_rows.specs.Masks.{is_bit, is_one}
+use Rattle.truth_rows.specs.Masks.{is_bit, is_one, Bits}
 
 -- ---- the line
 
@@ -60,6 +62,11 @@ entry_of t =
 -- "Any other form is 3".
 unfoldable pub judged : Option TableLine → Read (List ℕ)
 judged o = form No.library_form 1 o >>= entry_of
+
+-- What is told of such a line, whose name and BITS these are: the pins of its truth table, or why it has none.
+abbrev pub Tells : Option TableLine → (name bits : List ℕ) → Result ℕ Cause → Type 0
+Tells o name bits (Ok n) = Bits n bits × (judged o ≡ read (entry_bytes (cell_of name n (map is_one bits))))
+Tells o name bits (Err cause) = judged o ≡ refused (cause_number cause) 1
 
 -- What the program prints of a text: an entry, or a refusal. "refusal 2" is "as in `scoap`".
 unfoldable pub generated : List ℕ → Read (List ℕ)

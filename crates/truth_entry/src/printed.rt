@@ -3,99 +3,52 @@
 // For this crate: `put_cell`, of a truth table of few pins. Crate `truth_tables` says what the text is.
 mod rows;
 
-ghost use Rattle.std.specs.Prelude.{◌∷◌, map, ◌≡◌, ◌≤◌, ◌<◌, true};
-ghost use Rattle.writer.specs.Put.{Put};
-ghost use Rattle.truth_tables.specs.Entries.{setting_group, setting_groups, observing_group, observing_groups, cell_of};
-ghost use Rattle.truth_tables.specs.Entries.{group_bytes, line_bytes, name_bytes, entry_bytes};
-ghost use Rattle.truth_rows.specs.Masks.{is_bit, is_one, Bits};
-ghost use Rattle.truth_rows.specs.Asked.{Small};
+ghost use Rattle.std.specs.Prelude.{◌∷◌, map, ℕ, ◌≡◌, ◌≤◌, ◌<◌};
+ghost use Rattle.writer.specs.Put.{Put, Puts};
+ghost use Rattle.library_table.specs.Cells.{Group};
+ghost use Rattle.truth_tables.specs.Entries.{cell_of, line_bytes, name_bytes, entry_bytes};
+ghost use Rattle.truth_rows.specs.declared.Asked.{Asked};
+ghost use Rattle.truth_rows.specs.Masks.{is_one, up_from, Bits};
+ghost use Rattle.truth_rows.specs.Asked.{AsksFor, Small};
 ghost use Rattle.truth_entry.specs.Printed.{rows_bytes};
 
 use crate::printed::rows::put_rows;
 use truth_rows::{Asked, of_pin, of_value};
-use writer::bytes::{put_byte, put_bytes, put_decimal};
-
-const COMMA: u8 = 44;
-
-const LINE_END: u8 = 10;
-
-const ZERO: u8 = 48;
-
-const ONE: u8 = 49;
+use writer::bytes::Cursor;
 
 // A group behind its comma.
-fn put_group(entry: &mut [u8], at: usize, asked: Asked) -> usize
+fn put_group(entry: &mut Cursor, asked: Asked)
     requires { Small asked }
-    ensures { Put at (44 ∷ rows_bytes asked) entry.old entry.new result }
+    ensures { Puts (44 ∷ rows_bytes asked) entry.old entry.new }
 {
-    let next = put_byte(entry, at, COMMA);
-    put_rows(entry, next, asked)
+    entry.put_byte(b',');
+    put_rows(entry, asked);
 }
 
-// The group of a value, "0" or "1".
-fn put_value(entry: &mut [u8], at: usize, depth: u32, pins: usize, bits: &[u8], value: u8) -> usize
-    requires { Bits pins bits.now × (depth ≤ 1) × (is_bit value ≡ true) }
-    ensures { Put at (44 ∷ group_bytes (setting_group depth pins (map is_one bits.now) (is_one value)))
-        entry.old entry.new result }
+// A line of so many groups, each by its place.
+fn put_line<F: Fn(usize) -> Asked>(entry: &mut Cursor, word: &[u8], count: usize, group: F)
+    requires may_call { (k : ℕ) → k < count → F.pre group k }
+    requires small { (k : ℕ) (a : Asked) → k < count → F.post group k a → Small a }
+    ensures { (g : ℕ → Group) → ((k : ℕ) (a : Asked) → k < count → F.post group k a → AsksFor a (g k))
+        → Puts (line_bytes word.now (map g (up_from 0 count))) entry.old entry.new }
 {
-    let asked = of_value(depth, pins, bits, value);
-    put_group(entry, at, asked)
-}
-
-// The group of the pin that stands behind k others: over the other pins.
-fn put_pin(entry: &mut [u8], at: usize, depth: u32, pins: usize, bits: &[u8], k: usize) -> usize
-    requires { Bits pins bits.now × (depth ≤ 1) × (k < pins) }
-    ensures { Put at (44 ∷ group_bytes (observing_group depth pins (map is_one bits.now) k))
-        entry.old entry.new result }
-{
-    let asked = of_pin(depth, pins, bits, k);
-    put_group(entry, at, asked)
-}
-
-// A line of both values' groups.
-fn put_values(
-    entry: &mut [u8],
-    at: usize,
-    word: &[u8],
-    depth: u32,
-    pins: usize,
-    bits: &[u8],
-) -> usize
-    requires { Bits pins bits.now × (depth ≤ 1) }
-    ensures { Put at (line_bytes word.now (setting_groups depth pins (map is_one bits.now)))
-        entry.old entry.new result }
-{
-    let first = put_bytes(entry, at, word);
-    let second = put_value(entry, first, depth, pins, bits, ZERO);
-    let end = put_value(entry, second, depth, pins, bits, ONE);
-    put_byte(entry, end, LINE_END)
-}
-
-// A line of the pins' groups.
-fn put_pins(entry: &mut [u8], at: usize, word: &[u8], depth: u32, pins: usize, bits: &[u8]) -> usize
-    requires { Bits pins bits.now × (depth ≤ 1) }
-    ensures { Put at (line_bytes word.now (observing_groups depth pins (map is_one bits.now)))
-        entry.old entry.new result }
-{
-    let mut next = put_bytes(entry, at, word);
-    let mut k = 0;
-    while k < pins {
-        next = put_pin(entry, next, depth, pins, bits, k);
-        k += 1;
+    entry.put_bytes(word);
+    for k in 0..count {
+        put_group(entry, group(k));
     }
-    put_byte(entry, next, LINE_END)
+    entry.put_byte(b'\n');
 }
 
 // The name line.
-fn put_name(entry: &mut [u8], name: &[u8], pins: usize) -> usize
+fn put_name(entry: &mut Cursor, name: &[u8], pins: usize)
     requires { pins ≤ 4 }
-    ensures { Put 0 (name_bytes name.now pins) entry.old entry.new result }
+    ensures { Puts (name_bytes name.now pins) entry.old entry.new }
 {
-    let first = put_bytes(entry, 0, b"Name,");
-    let comma = put_bytes(entry, first, name);
-    let count = put_byte(entry, comma, COMMA);
-    let end = put_decimal(entry, count, pins as u32);
-    put_byte(entry, end, LINE_END)
+    entry.put_bytes(b"Name,");
+    entry.put_bytes(name);
+    entry.put_byte(b',');
+    entry.put_decimal(pins as u32);
+    entry.put_byte(b'\n');
 }
 
 // The six lines.
@@ -104,10 +57,12 @@ pub fn put_cell(entry: &mut [u8], name: &[u8], pins: usize, bits: &[u8]) -> usiz
     ensures { Put 0 (entry_bytes (cell_of name.now pins (map is_one bits.now)))
         entry.old entry.new result }
 {
-    let cc = put_name(entry, name, pins);
-    let co = put_values(entry, cc, b"CC", 1, pins, bits);
-    let sc = put_pins(entry, co, b"CO", 1, pins, bits);
-    let so = put_values(entry, sc, b"SC", 0, pins, bits);
-    let end = put_pins(entry, so, b"SO", 0, pins, bits);
-    put_bytes(entry, end, b"End\n")
+    let mut text = Cursor::new(entry);
+    put_name(&mut text, name, pins);
+    put_line(&mut text, b"CC", 2, |k| of_value(1, pins, bits, k == 1));
+    put_line(&mut text, b"CO", pins, |k| of_pin(1, pins, bits, k));
+    put_line(&mut text, b"SC", 2, |k| of_value(0, pins, bits, k == 1));
+    put_line(&mut text, b"SO", pins, |k| of_pin(0, pins, bits, k));
+    text.put_bytes(b"End\n");
+    text.at
 }

@@ -3,10 +3,12 @@ use Rattle.common_laws.proofs.Base.{List, ◌↔◌, ◌≡◌, refl, sym, ap, �
 use Rattle.reading.specs.Numbers as No
 use Rattle.reading.specs.Refusal.{refused, read, ◌>>=◌}
 use Rattle.reading.proofs.Laws.{by_test, refused-read}
+use Rattle.reading.specs.Answer.{answer_read}
 use Rattle.text.specs.Bytes.{text, bytes_open}
 use Rattle.writer.specs.Put.{Put}
-use Rattle.writer.specs.Buffer.{text_within, length_read, written_read, Writes, Closes, LineBelow}
-use Rattle.writer.specs.declared.Written.{Written}
+use Rattle.writer.specs.Buffer.{text_within, length_read, Writes, Closes, LineBelow}
+use Rattle.std.specs.Prelude.{Result}
+use Rattle.reading.specs.declared.Refusal.{Refusal}
 use Rattle.writer.proofs.Buffer.{text-fits, text-long, text-line, put-closed}
 use Rattle.truth_figures.specs.BuiltIn.{entries, tables, built_in}
 use Rattle.truth_figures.specs.Figures.{cell-figures_hold}
@@ -45,10 +47,10 @@ long-exactly space =
     )
 
 -- The text put into the front, and the buffer closed.
-pub promised : {end : ℕ} {before mid after : List ℕ} {said : Written} → Put 0 (text built_in) before mid end → Closes No.report_long end mid after said
+pub promised : {end : ℕ} {before mid after : List ℕ} {said : Result ℕ Refusal} → Put 0 (text built_in) before mid end → Closes No.report_long end mid after said
     → Writes (built_in_within (length before)) before after said
     × ((length_read (entries tables) ≡ read 2044)
-    × ((written_read said ≡ refused No.report_long 0) ↔ (length before < 2044)))
+    × ((answer_read said ≡ refused No.report_long 0) ↔ (length before < 2044)))
 promised {end} {before} {mid} {after} {said} p c =
     let w : Writes (built_in_within (length before)) before after said = rw (within_text (length before)) (put-closed No.report_long refl p c) in
     (w, (text-bytes, rw w.answers (long-exactly (length before))))

@@ -1,19 +1,19 @@
 -- What the code asks of BITS is what the definitions ask of settings, and what it makes of terms is their rows' numbers.
-use Rattle.common_laws.proofs.Base.{Bool, true, false, not, ◌||◌, List, [], ◌∷◌, ◌++◌, map, none, some, ◌≡◌, refl, sym, ap, subst, ◌∙◌, ℕ, zero, suc, ◌+◌, ◌*◌, ◌-◌, ◌/◌, ◌%◌, ◌^◌}
+use Rattle.common_laws.proofs.Base.{Bool, true, false, not, ◌||◌, List, [], ◌∷◌, ◌++◌, map, none, ◌≡◌, refl, sym, ap, subst, ◌∙◌, ℕ, zero, suc, ◌+◌, ◌*◌, ◌-◌, ◌/◌, ◌%◌, ◌^◌}
 use Rattle.common_laws.proofs.Base.{◌≤◌, ◌<◌, pow-suc, one-le-pow, add-zero, add-suc, suc-add, zero-add, mul_assoc, mul_comm, div-eq_of_lt, mod-eq_of_lt, add-mul-div_right}
 use Rattle.common_laws.proofs.Base.{add-mul-mod_self_right, arith, eqb, length, get_or, pow-add, ne_eqb, eqb-true}
 use native.Mathlib.Nat.{add-mul}
 use lib.ListN.{get_or-map}
 use Rattle.common_laws.proofs.Numbers.{two-four}
-use Rattle.reading.specs.Choice.{pick}
 use Rattle.reading.specs.Each.{Each}
 use Rattle.reading.proofs.Laws.{by_test, clash, and_left, and_right, each_append, each_map}
-use Rattle.truth_tables.specs.Entries.{literal_columns, term_columns, observe_column, setting_row, observing_row, setting_group, observing_group, row_number}
+use Rattle.library_table.specs.Cells.{Group}
+use Rattle.truth_tables.specs.Entries.{literal_columns, term_columns, observe_column, setting_row, observing_row, setting_group, observing_group, groups_from, row_number}
 use Rattle.truth_tables.specs.Tables.{Setting, Term, Condition, digit, settings, place, output, same, all_of, primes, gives, put_in, changes, observing}
 use Rattle.truth_tables.proofs.Lists.{map-append, map-map, map_each}
 use Rattle.truth_tables.proofs.Order.{place-below, term_below, length_putIn}
 use Rattle.truth_tables.proofs.Rows.{primes-length}
-use Rattle.truth_rows.specs.Masks.{mask_of, wanted_mask, is_bit, is_one, Bits, ask_at, up_from, prime_rows, spread, number_of}
+use Rattle.truth_rows.specs.Masks.{mask_of, wanted_mask, is_bit, is_one, Bits, gives_at, changes_at, up_from, prime_rows, spread, number_of}
 use Rattle.truth_rows.proofs.Primes.{prime-rows}
 
 -- ---- the places of the settings
@@ -22,6 +22,12 @@ up_shift : (c j left : ℕ) → up_from (c + j) left ≡ map (λ i. c + i) (up_f
 unfolding up_from
 up_shift c j zero = refl
 up_shift c j (suc left) = ap (λ (l : List ℕ). (c + j) ∷ l) (ap (λ (k : ℕ). up_from k left) (sym (add-suc c j)) ∙ up_shift c (suc j) left)
+
+-- The groups of the pins, by their places.
+pub pins-groups : (d n : ℕ) (bits : List Bool) (k left : ℕ) → map (observing_group d n bits) (up_from k left) ≡ groups_from d n bits k left
+unfolding groups_from up_from
+pins-groups d n bits k zero = refl
+pins-groups d n bits k (suc left) = ap (λ (gs : List Group). observing_group d n bits k ∷ gs) (pins-groups d n bits (suc k) left)
 
 pub up-append : (j a b : ℕ) → up_from j (a + b) ≡ up_from j a ++ up_from (j + a) b
 unfolding up_from
@@ -105,12 +111,12 @@ unfolding is_bit is_one digit
 same_bits a b h k = same-value a (is_one b) h ∙ ap (eqb a) (is_byte b k)
 
 module _ (n : ℕ) (bits : List ℕ) (B : Bits n bits) where
-  pub gives_mask : (e : Bool) → mask_of (map (ask_at bits 0 (48 + digit e)) (up_from 0 (length bits))) ≡ wanted_mask n (gives (map is_one bits) e)
-  unfolding wanted_mask gives output ask_at pick
+  pub gives_mask : (e : Bool) → mask_of (map (gives_at bits (48 + digit e)) (up_from 0 (length bits))) ≡ wanted_mask n (gives (map is_one bits) e)
+  unfolding wanted_mask gives output gives_at
   gives_mask e =
       let f : ℕ → Bool = λ j. same (get_or (map is_one bits) j false) e in
       ap mask_of
-      (map_each (λ j. j < 0 + length bits) (ask_at bits 0 (48 + digit e)) f
+      (map_each (λ j. j < 0 + length bits) (gives_at bits (48 + digit e)) f
       (λ j h. sym (ap (λ (b : Bool). same b e) (one_at bits j) ∙ same-value (get_or bits j 0) e (bit_at bits j B.digits (omega arith)))) (up_from 0 (length bits)) (up-each 0 (length bits))
       ∙ ap (λ (l : List ℕ). map f l) (ap (up_from 0) B.long ∙ sym (places n))
       ∙ map-map f place (settings n))
@@ -162,9 +168,9 @@ columns_putIn (suc k) (l ∷ t) h =
     rw (less, length_putIn k none t, columns_putIn k t (omega arith))
     (omega (arith, put-digit 4 (length t) k (literal_columns l) (term_columns t) 0 (omega arith) (omega arith)))
 
-module _ (n : ℕ) (bits : List ℕ) (B : Bits n bits) (k value : ℕ) (h : k < n) where
-  differs : (s : Setting) → length s ≡ n - 1 → changes (map is_one bits) k s ≡ ask_at bits (2 ^ (n - 1 - k)) value (place s)
-  unfolding changes output ask_at pick digit
+module _ (n : ℕ) (bits : List ℕ) (B : Bits n bits) (k : ℕ) (h : k < n) where
+  differs : (s : Setting) → length s ≡ n - 1 → changes (map is_one bits) k s ≡ changes_at bits (2 ^ (n - 1 - k)) (place s)
+  unfolding changes output changes_at digit
   differs s l =
       let w = 2 ^ (n - 1 - k) in
       let some : 0 < w = one-le-pow (n - 1 - k) 2 (omega arith) in
@@ -175,7 +181,7 @@ module _ (n : ℕ) (bits : List ℕ) (B : Bits n bits) (k value : ℕ) (h : k < 
       let high : place (put_in k true s) ≡ place s / w * (2 * w) + place s % w + w = omega (arith, at true) in
       let inside : (v : Bool) → is_bit (get_or bits (place (put_in k v s)) 0) ≡ true =
       λ v. bit_at bits (place (put_in k v s)) B.digits (reach v) in
-      rw (ne_eqb w 0 (λ z. omega arith), ← high, ← low, one_at bits (place (put_in k false s)), one_at bits (place (put_in k true s)))
+      rw (← high, ← low, one_at bits (place (put_in k false s)), one_at bits (place (put_in k true s)))
       (ap not (same_bits (get_or bits (place (put_in k false s)) 0) (get_or bits (place (put_in k true s)) 0) (inside false) (inside true)))
     where
       reach : (v : Bool) → place (put_in k v s) < length bits
@@ -183,10 +189,10 @@ module _ (n : ℕ) (bits : List ℕ) (B : Bits n bits) (k value : ℕ) (h : k < 
           let whole : suc (n - 1) ≡ n = omega arith in
           rw B.long (subst (λ (m : ℕ). place (put_in k v s) < 2 ^ m) (length_putIn k v s ∙ ap suc l ∙ whole) (place-below (put_in k v s)))
 
-  pub changes_mask : mask_of (map (ask_at bits (2 ^ (n - 1 - k)) value) (up_from 0 (length bits / 2))) ≡ wanted_mask (n - 1) (changes (map is_one bits) k)
+  pub changes_mask : mask_of (map (changes_at bits (2 ^ (n - 1 - k))) (up_from 0 (length bits / 2))) ≡ wanted_mask (n - 1) (changes (map is_one bits) k)
   unfolding wanted_mask
   changes_mask =
-      let f : ℕ → Bool = ask_at bits (2 ^ (n - 1 - k)) value in
+      let f : ℕ → Bool = changes_at bits (2 ^ (n - 1 - k)) in
       let whole : suc (n - 1) ≡ n = omega arith in
       let half : length bits / 2 ≡ 2 ^ (n - 1) = omega (arith, B.long, ap (λ (m : ℕ). 2 ^ m) (sym whole), pow-suc 2 (n - 1)) in
       ap mask_of
@@ -233,23 +239,23 @@ observe-four n = pow-add 2 (2 * n) 2 ∙ rw (two-four n) (omega arith)
 -- ---- groups, as the code asks for them
 
 module _ (d n mask weight : ℕ) (bits : List ℕ) (B : Bits n bits) where
-  pub setting_group_lem : (value : ℕ) → is_bit value ≡ true → mask ≡ mask_of (map (ask_at bits 0 value) (up_from 0 (length bits))) → weight ≡ 4 ^ n
+  pub setting_group_lem : (value : ℕ) → is_bit value ≡ true → mask ≡ mask_of (map (gives_at bits value) (up_from 0 (length bits))) → weight ≡ 4 ^ n
       → map (number_of d weight n) (prime_rows mask n) ≡ map row_number (setting_group d n (map is_one bits) (is_one value))
   unfolding setting_group
   setting_group_lem value v m w =
       let e = is_one value in
       let is_wanted : mask ≡ wanted_mask n (gives (map is_one bits) e) =
-      m ∙ ap (λ (b : ℕ). mask_of (map (ask_at bits 0 b) (up_from 0 (length bits)))) (sym (is_byte value v)) ∙ gives_mask n bits B e in
+      m ∙ ap (λ (b : ℕ). mask_of (map (gives_at bits b) (up_from 0 (length bits)))) (sym (is_byte value v)) ∙ gives_mask n bits B e in
       rw w (setting-numbers d n (gives (map is_one bits) e) mask is_wanted)
 
-  pub observing_group_lem : (k base light value : ℕ) → k < n → light ≡ 2 ^ (n - 1 - k)
-      → mask ≡ mask_of (map (ask_at bits light value) (up_from 0 (length bits / 2))) → base ≡ d + 8 * 4 ^ n → weight ≡ 4 ^ (n - 1 - k)
+  pub observing_group_lem : (k base light : ℕ) → k < n → light ≡ 2 ^ (n - 1 - k)
+      → mask ≡ mask_of (map (changes_at bits light) (up_from 0 (length bits / 2))) → base ≡ d + 8 * 4 ^ n → weight ≡ 4 ^ (n - 1 - k)
       → map (number_of base weight (n - 1)) (prime_rows mask (n - 1)) ≡ map row_number (observing_group d n (map is_one bits) k)
   unfolding observing_group observing observe_column
-  observing_group_lem k base light value h l m b w =
+  observing_group_lem k base light h l m b w =
       let C = changes (map is_one bits) k in
       let whole : suc (n - 1) ≡ n = omega arith in
-      let is_wanted : mask ≡ wanted_mask (n - 1) C = m ∙ rw l (changes_mask n bits B k value h) in
+      let is_wanted : mask ≡ wanted_mask (n - 1) C = m ∙ rw l (changes_mask n bits B k h) in
       let column : base ≡ d + 2 * observe_column (suc (n - 1)) = b ∙ rw whole (eight n) in
       rw w (observing-numbers d (n - 1) C mask is_wanted base k (omega arith) column
       ∙ ap (λ (m : ℕ). map row_number (map (observing_row d m) (map (λ t. put_in k none t) (primes (n - 1) C)))) whole)

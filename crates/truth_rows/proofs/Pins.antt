@@ -136,11 +136,22 @@ unfolding up_from
 length_up j zero = refl
 length_up j (suc left) = ap suc (length_up (suc j) left)
 
-pub mask_up : (f : ℕ → Bool) (j left : ℕ) → left ≤ 16 → mask_of (map f (up_from j left)) < 65536
-mask_up f j left h =
+-- The settings from a place on, of so many, are short as a mask; one more stands below them.
+pub mask-short : (count j : ℕ) → count ≤ 16 → 2 ^ (count - j) ≤ 65536
+mask-short count j h =
     let two : 0 < 2 = omega arith in
-    let long : length (map f (up_from j left)) ≡ left = length-map (up_from j left) f ∙ length_up j left in
-    omega (arith, rw long at (mask_below (map f (up_from j left))), pow-le-pow_right two h)
+    let few : count - j ≤ 16 = omega arith in
+    pow-le-pow_right two few
+
+pub mask-shorter : (mask b count j : ℕ) → b ≤ 1 → 0 < j → j ≤ count → mask < 2 ^ (count - j) → mask * 2 + b < 2 ^ (count - (j - 1))
+mask-shorter mask b count j h k l m =
+    let left : count - (j - 1) ≡ suc (count - j) = omega arith in
+    rw (left, pow-suc 2 (count - j)) (omega arith)
+
+pub mask_more : (p : ℕ → Bool) (b : Bool) (mask count j : ℕ) → b ≡ p (j - 1) → 0 < j → j ≤ count → mask ≡ mask_of (map p (up_from j (count - j)))
+    → mask * 2 + digit b ≡ mask_of (map p (up_from (j - 1) (count - (j - 1))))
+unfolding mask_of
+mask_more p b mask count j e h k m = rw (up_more j count h k, ← e, ← m) (omega arith)
 
 -- ---- pins that cannot be dropped
 

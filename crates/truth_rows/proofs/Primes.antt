@@ -1,7 +1,7 @@
 -- The rows that the code finds are the prime implicants: masks against settings, numbers in base 3 against terms.
-use Rattle.common_laws.proofs.Base.{Bool, true, false, not, ◌&&◌, ◌||◌, List, [], ◌∷◌, ◌++◌, map, append_assoc, Option, none, some, ◌≡◌, refl, sym, ap, ◌∙◌, ℕ, zero, suc, ◌+◌, ◌*◌}
-use Rattle.common_laws.proofs.Base.{◌-◌, ◌/◌, ◌%◌, ◌^◌, ◌≤◌, ◌<◌, min, pow-suc, pow-zero, one-le-pow, add-zero, add-suc, suc-add, add-mul-div_right, add-mul-mod_self_right}
-use Rattle.common_laws.proofs.Base.{mul-add-div_right, div-eq_of_lt, mul_assoc, mul_comm, mod-eq_of_lt, arith, bit_and, and_step, eqb, length, pow-add, eq-eqb, ne_eqb, eqb-true}
+use Rattle.common_laws.proofs.Base.{Bool, true, false, not, ◌&&◌, ◌||◌, List, [], ◌∷◌, ◌++◌, map, none, some, ◌≡◌, refl, sym, ap, ◌∙◌, ℕ, zero, suc, ◌+◌, ◌*◌}
+use Rattle.common_laws.proofs.Base.{◌-◌, ◌/◌, ◌%◌, ◌^◌, ◌≤◌, ◌<◌, min, pow-suc, one-le-pow, add-zero, add-suc, suc-add, add-mul-div_right, add-mul-mod_self_right}
+use Rattle.common_laws.proofs.Base.{mul-add-div_right, div-eq_of_lt, mul_assoc, mul_comm, mod-eq_of_lt, arith, bit_and, and_step, eqb, pow-add, eq-eqb, ne_eqb, eqb-true}
 use Rattle.common_laws.proofs.Base.{eqb-false}
 use Rattle.reading.specs.Choice.{pick}
 use Rattle.reading.specs.Each.{Each}

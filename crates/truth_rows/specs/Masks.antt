@@ -1,6 +1,6 @@
 -- How the code holds conditions and terms: a condition as the bits of a number, a term as a number in base 3, its digits the
 -- pins' columns. `proofs/Primes.antt` ties them to the definitions of crate `truth_tables`, which are the ones to read.
-use Rattle.std.specs.Prelude.{Bool, true, false, not, ◌&&◌, ◌||◌, List, [], ◌∷◌, ◌++◌, map, ◌≡◌, ℕ, zero, suc, ◌+◌, ◌*◌, ◌/◌, ◌%◌, ◌^◌, ◌≤◌, eqb, length, get_or}
+use Rattle.std.specs.Prelude.{Bool, true, false, not, ◌&&◌, ◌||◌, List, [], ◌∷◌, map, ◌≡◌, ℕ, zero, suc, ◌+◌, ◌*◌, ◌/◌, ◌%◌, ◌^◌, ◌≤◌, eqb, length, get_or}
 use Rattle.std.proofs.Math.Option.{Option, none, some}
 use Rattle.std.specs.Int.Bits.{bit_and}
 use Rattle.reading.specs.Choice.{pick}
@@ -33,12 +33,14 @@ pub record Bits (n : ℕ) (bits : List ℕ) : Type 0 where
   pub long : length bits ≡ 2 ^ n
   pub digits : all_of is_bit bits ≡ true
 
--- What is asked of the setting at a place, by the bytes of BITS: with no weight, whether the output is a value, "0" or "1";
--- else whether it changes when the pin of that weight does, the place being that of the other pins.
-unfoldable pub ask_at : List ℕ → (weight value j : ℕ) → Bool
-ask_at bits weight value j =
-    pick (eqb weight 0) (eqb (get_or bits j 0) value)
-    (not (eqb (get_or bits (j / weight * (2 * weight) + j % weight) 0) (get_or bits (j / weight * (2 * weight) + j % weight + weight) 0)))
+-- By the bytes of BITS: whether the output of the setting at a place is a value, "0" or "1"; and whether it changes when the pin
+-- of a weight does, the place being that of the other pins.
+unfoldable pub gives_at : List ℕ → (value j : ℕ) → Bool
+gives_at bits value j = eqb (get_or bits j 0) value
+
+unfoldable pub changes_at : List ℕ → (weight j : ℕ) → Bool
+changes_at bits weight j =
+    not (eqb (get_or bits (j / weight * (2 * weight) + j % weight) 0) (get_or bits (j / weight * (2 * weight) + j % weight + weight) 0))
 
 unfoldable pub up_from : (j left : ℕ) → List ℕ
 up_from j zero = []

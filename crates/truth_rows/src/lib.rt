@@ -2,7 +2,7 @@
 // group's condition, and the number that each is written as. Crate `truth_tables` says what they are.
 //
 // For the crates above, each of few pins: `of_value` and `of_pin` with the type `Asked` (specs/Asked.antt), and of module
-// `masks` `power`, `is_prime` and `number` (specs/Masks.antt).
+// `masks` `is_prime` and `number` (specs/Masks.antt).
 #![tactic(auto)]
 
 pub mod masks;
@@ -12,9 +12,7 @@ ghost use Rattle.truth_tables.specs.Entries.{setting_group, observing_group};
 ghost use Rattle.truth_rows.specs.Masks.{is_bit, is_one, Bits};
 ghost use Rattle.truth_rows.specs.Asked.{AsksFor};
 
-use crate::masks::{power, wanted};
-
-const ZERO: u8 = 48;
+use crate::masks::{changes, wanted};
 
 // What is asked of a group's rows: the settings wanted, of so many pins; what every row has besides the columns of its term,
 // and the weight of the two columns above which a pin is left out that is not named.
@@ -26,34 +24,33 @@ pub struct Asked {
     pub weight: u32,
 }
 
-// The group of a value, "0" or "1".
-pub fn of_value(depth: u32, pins: usize, bits: &[u8], value: u8) -> Asked
-    requires { Bits pins bits.now × (depth ≤ 1) × (is_bit value ≡ true) }
-    ensures { AsksFor result (setting_group depth pins (map is_one bits.now) (is_one value)) }
+// The group of a value.
+pub fn of_value(depth: u32, pins: usize, bits: &[u8], value: bool) -> Asked
+    requires { Bits pins bits.now × (depth ≤ 1) }
+    ensures { AsksFor result (setting_group depth pins (map is_one bits.now) value) }
 {
-    let mask = wanted(bits, 0, value, bits.len());
-    let weight = power(4, pins);
+    let byte = if value { b'1' } else { b'0' };
     Asked {
-        wanted: mask,
+        wanted: wanted(bits.len(), |j| bits[j] == byte),
         pins,
         base: depth,
-        weight,
+        weight: 4u32.pow(pins as u32),
     }
 }
 
-// The group of the pin that stands behind k others: over the other pins.
+// The group of the pin that stands behind k others: over the other pins. (Two functions, as each promises a group of its own:
+// what they share is `wanted`.)
 pub fn of_pin(depth: u32, pins: usize, bits: &[u8], k: usize) -> Asked
     requires { Bits pins bits.now × (depth ≤ 1) × (k < pins) }
     ensures { AsksFor result (observing_group depth pins (map is_one bits.now) k) }
 {
     let behind = pins - 1 - k;
-    let mask = wanted(bits, power(2, behind) as usize, ZERO, bits.len() / 2);
-    let base = depth + 8 * power(4, pins);
-    let weight = power(4, behind);
+    // The pin's weight in the place of a setting.
+    let light = 1 << behind;
     Asked {
-        wanted: mask,
+        wanted: wanted(bits.len() / 2, |j| changes(bits, light, j)),
         pins: pins - 1,
-        base,
-        weight,
+        base: depth + 8 * 4u32.pow(pins as u32),
+        weight: 4u32.pow(behind as u32),
     }
 }

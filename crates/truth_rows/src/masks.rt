@@ -1,26 +1,15 @@
 // Conditions on the settings of the pins as the bits of a number, and terms as numbers in base 3
 // (specs/Masks.antt).
-ghost use Rattle.std.specs.Prelude.{map, ◌≡◌, ◌^◌, ◌*◌, ◌+◌, ◌/◌, ◌%◌, ◌≤◌, ◌<◌, get_or, eqb};
+ghost use Rattle.std.specs.Prelude.{Bool, map, ℕ, ◌≡◌, ◌^◌, ◌*◌, ◌+◌, ◌/◌, ◌%◌, ◌≤◌, ◌<◌, eqb};
 ghost use Rattle.truth_tables.specs.Entries.{term_columns};
 ghost use Rattle.truth_rows.specs.Masks.{cover_mask, term_of, term_but, widened, implied, loose, prime_row, spread, number_of};
-ghost use Rattle.truth_rows.specs.Masks.{mask_of, ask_at, up_from};
+ghost use Rattle.truth_rows.specs.Masks.{mask_of, changes_at, up_from};
 ghost use Rattle.reading.specs.Choice.{pick};
 
-// A power of a small base.
-pub fn power(base: u32, exponent: usize) -> u32
-    requires { (1 ≤ base) × (base ≤ 4) × (exponent ≤ 4) }
-    ensures { result ≡ base ^ exponent }
-{
-    let mut product = 1;
-    let mut i = 0;
-    while i < exponent {
-        product *= base;
-        i += 1;
-    }
-    product
-}
+use table::at_or;
 
 // The mask of a term of one pin more, by that of the others and the pin's digit.
+#[tactic(auto, unfolding(crate::specs::Masks::widened))]
 fn widened(mask: u32, wide: u32, digit: u32) -> u32
     requires { (mask < wide) × (wide ≤ 256) }
     ensures { result ≡ widened mask wide digit }
@@ -33,6 +22,7 @@ fn widened(mask: u32, wide: u32, digit: u32) -> u32
 }
 
 // The digit of a pin in what is left of a row: none where the pin is the one that is dropped.
+#[tactic(auto, unfolding(reading::specs::Choice::pick))]
 fn digit(rest: u32, i: usize, free: usize) -> u32
     ensures { result ≡ pick (eqb i free) 0 (rest % 3) }
 {
@@ -47,17 +37,16 @@ fn cover(pins: usize, row: u32, free: usize) -> u32
     let mut mask = 1;
     let mut wide = 2;
     let mut rest = row;
-    let mut i = 0;
-    while i < pins {
+    for i in 0..pins {
         mask = widened(mask, wide, digit(rest, i, free));
         wide *= wide;
         rest /= 3;
-        i += 1;
     }
     mask
 }
 
 // Whether every setting of a mask is wanted.
+#[tactic(auto, unfolding(crate::specs::Masks::implied))]
 fn implied(wanted: u32, cover: u32) -> bool
     ensures { result ≡ implied wanted cover }
 {
@@ -65,14 +54,12 @@ fn implied(wanted: u32, cover: u32) -> bool
 }
 
 // Whether a pin, of this digit, is named and can be dropped.
+#[tactic(auto, unfolding(crate::specs::Masks::loose))]
 fn loose(wanted: u32, pins: usize, row: u32, digit: u32, i: usize) -> bool
     requires { pins ≤ 4 }
     ensures { result ≡ loose wanted pins row digit i }
 {
-    if digit == 0 {
-        return false;
-    }
-    implied(wanted, cover(pins, row, i))
+    digit != 0 && implied(wanted, cover(pins, row, i))
 }
 
 // Whether a row's term is a prime implicant.
@@ -84,13 +71,11 @@ pub fn is_prime(wanted: u32, pins: usize, row: u32) -> bool
         return false;
     }
     let mut rest = row;
-    let mut i = 0;
-    while i < pins {
+    for i in 0..pins {
         if loose(wanted, pins, row, rest % 3, i) {
             return false;
         }
         rest /= 3;
-        i += 1;
     }
     true
 }
@@ -101,14 +86,10 @@ fn columns(pins: usize, row: u32) -> u32
     ensures { result ≡ term_columns (term_of pins row) }
 {
     let mut sum = 0;
-    let mut weight = 1;
     let mut rest = row;
-    let mut i = 0;
-    while i < pins {
-        sum += rest % 3 * weight;
-        weight *= 4;
+    for i in 0..pins {
+        sum += (rest % 3) << (2 * i);
         rest /= 3;
-        i += 1;
     }
     sum
 }
@@ -122,37 +103,27 @@ pub fn number(base: u32, weight: u32, pins: usize, row: u32) -> u32
     base + 2 * (plain / weight * (4 * weight) + plain % weight)
 }
 
-// A byte of BITS; 0 past the end.
-fn byte_at(bits: &[u8], i: usize) -> u8
-    ensures { result ≡ get_or bits.now i 0 }
+// Whether the output at a place, that of a setting of the other pins, changes when the pin of a weight does.
+#[tactic(auto, unfolding(crate::specs::Masks::changes_at))]
+pub fn changes(bits: &[u8], weight: usize, j: usize) -> bool
+    requires { (1 ≤ weight) × (weight ≤ 8) × (j ≤ 16) }
+    ensures { result ≡ changes_at bits.now weight j }
 {
-    if i < bits.len() { bits[i] } else { 0 }
-}
-
-// What is asked of the setting at a place: with no weight, whether the output is a value; else whether it changes when the
-// pin of that weight does, the place being that of the other pins.
-fn asked(bits: &[u8], weight: usize, value: u8, j: usize) -> bool
-    requires { (weight ≤ 8) × (j ≤ 16) }
-    ensures { result ≡ ask_at bits.now weight value j }
-{
-    if weight == 0 {
-        return byte_at(bits, j) == value;
-    }
     let low = j / weight * (2 * weight) + j % weight;
-    byte_at(bits, low) != byte_at(bits, low + weight)
+    at_or(bits, low, 0) != at_or(bits, low + weight, 0)
 }
 
-// The settings of which it holds, of so many.
-pub fn wanted(bits: &[u8], weight: usize, value: u8, count: usize) -> u32
-    requires { (weight ≤ 8) × (count ≤ 16) }
-    ensures { result ≡ mask_of (map (ask_at bits.now weight value) (up_from 0 count)) }
+// The settings, of so many, of which a test of their places holds.
+pub fn wanted<F: Fn(usize) -> bool>(count: usize, test: F) -> u32
+    requires few { count ≤ 16 }
+    requires may_call { (j : ℕ) → j < count → F.pre test j }
+    ensures { (p : ℕ → Bool) → ((j : ℕ) (b : Bool) → j < count → F.post test j b → b ≡ p j)
+        → result ≡ mask_of (map p (up_from 0 count)) }
 {
-    let mut mask: u32 = 0;
-    let mut j = count;
-    while 0 < j {
-        j -= 1;
+    let mut mask = 0;
+    for j in (0..count).rev() {
         mask *= 2;
-        if asked(bits, weight, value, j) {
+        if test(j) {
             mask += 1;
         }
     }

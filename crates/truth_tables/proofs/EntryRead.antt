@@ -16,10 +16,13 @@ use Rattle.text.proofs.FieldLaws.{digit-high, digits-free}
 use Rattle.writer.specs.Decimal.{decimal_bytes, decimal_open}
 use Rattle.writer.specs.Octal.{octal_bytes}
 use Rattle.writer.proofs.Octal.{octal_digits, octal_value, octal_read}
-use Rattle.library_table.specs.Cells.{plain, Row, row_of, depth_bits, Group, Cell}
+use Rattle.library_table.specs.Cells.{Row, row_of, depth_bits, Group, Cell}
+use Rattle.library_table.specs.declared.Heading.TheVariants.{Plain as plain}
 use Rattle.library_table.specs.declared.Word.{Word}
 use Rattle.library_table.specs.declared.Word.TheVariants.{CC, CO, SC, SO}
-use Rattle.library_table.specs.Library.{Fields, holds, row_digits, is_row, is_join, is_z, Before, word, row, join, may_join, may_end, rows_form, join_first, with_row, groups_of, any_of, above_rows, above, word_bytes, group_count, column_count, row_idle, rows_after, row_line, heading_of, header_of, name_after, end_after, cell_named, name_used, pins_bad, name_line, line_after, begun, with_groups, library_line, library_end, library_from, library}
+use Rattle.library_table.specs.Library.{Fields, holds, row_digits, is_row, is_join, is_z, may_join, may_end, rows_form, join_first, with_row, groups_of, any_of, above_rows, above, word_bytes, group_count, column_count, row_idle, rows_after, row_line, heading_of, header_of, name_after, end_after, cell_named, name_used, pins_bad, name_line, line_after, begun, with_groups, library_line, library_end, library_from, library}
+use Rattle.library_table.specs.declared.Before.{Before}
+use Rattle.library_table.specs.declared.Before.TheVariants.{Word as word, Row as row, Join as join}
 use Rattle.truth_tables.specs.Entries.{row_number, row_bytes, group_bytes, groups_bytes, line_bytes, name_bytes, entry_bytes}
 
 -- ---- a row's field

@@ -4,7 +4,8 @@ use Rattle.std.proofs.Math.Option.{Option, none, some}
 use Rattle.text.specs.Bytes.{bytes, bytes_open}
 use Rattle.writer.specs.Decimal.{decimal_bytes, decimal_open}
 use Rattle.writer.specs.Octal.{octal_bytes, octal_open}
-use Rattle.library_table.specs.Cells.{plain, Row, Group, Cell}
+use Rattle.library_table.specs.Cells.{Row, Group, Cell}
+use Rattle.library_table.specs.declared.Heading.TheVariants.{Plain as plain}
 use Rattle.truth_tables.specs.Tables.{Term, primes, gives, observing, tables_open}
 
 -- ---- the cell of a truth table

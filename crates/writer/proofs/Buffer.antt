@@ -1,37 +1,27 @@
 -- The laws of a text in a buffer, or a refusal: from the cursor behind the text to the answer, from the answer to what is
 -- printed, and from a refusal to its one number and back.
 use Rattle.common_laws.proofs.Base.{Bool, false, List, ◌++◌, ◌≡◌, refl, sym, ap, ◌∙◌, ℕ, ◌≤◌, ◌<◌, arith, leb, ltb, length, drop, replicate, length-append, take-append_seam}
-use Rattle.common_laws.proofs.Base.{length-sets, le-leb, lt-leb, le-ltb, lt-ltb, leb-true, leb-false}
+use Rattle.common_laws.proofs.Base.{length-sets, le-ltb, lt-ltb, leb-true, leb-false}
 use lib.Seq.{drop-append_seam}
 use Rattle.reading.specs.Choice.{pick}
 use Rattle.reading.specs.Numbers as No
 use Rattle.reading.specs.Refusal.{Read, refused, read, ◌>>◌, weigh}
 use Rattle.reading.proofs.Bounds.{Within, any_number}
 use Rattle.reading.proofs.Laws.{by_test, refused-read}
+use Rattle.reading.specs.Answer.{answer_read}
 use Rattle.text.specs.Bytes.{bytes}
-use Rattle.writer.specs.declared.Written.{Written}
-use Rattle.writer.specs.declared.Written.TheVariants.{Length}
+use Rattle.std.specs.Prelude.{Result}
+use Rattle.reading.specs.declared.Refusal.{Refusal}
 use Rattle.writer.specs.Put.{Put}
 use Rattle.writer.specs.Refused.{refusal_bytes}
-use Rattle.writer.specs.Buffer.{text_within, length_read, left_by, written_read, Writes, Refuses, Closes, code_lines, refusal_code, Decoded, LineBelow, shown, ShownBy, Prints}
+use Rattle.writer.specs.Buffer.{text_within, length_read, left_by, Writes, Refuses, Closes, code_lines, refusal_code, Decoded, LineBelow, shown, ShownBy, Prints}
 use Rattle.writer.proofs.Decimal.{decimal-length}
 use Rattle.writer.proofs.Steps.{put_front}
 
 -- ---- the end of a text
 
-pub closes_within : (number end : ℕ) (buffer : List ℕ) → end ≤ length buffer → Closes number end buffer buffer (Length end)
-unfolding written_read pick
-closes_within number end buffer h =
-    record { answers = rw (le-leb end (length buffer) h) refl; leaves = rw (le-leb end (length buffer) h) refl }
-
-pub closes_past : (number end : ℕ) (before after : List ℕ) (said : Written) → length before < end → Refuses number 0 before after said
-    → Closes number end before after said
-unfolding pick
-closes_past number end before after said h r =
-    record { answers = rw (lt-leb end (length before) h) r.answers; leaves = rw (lt-leb end (length before) h) r.leaves }
-
 -- A refusal behind the entry is written.
-pub refuses-writes : (number line : ℕ) (before after : List ℕ) (said : Written) → No.of_entry number ≡ false → Refuses number line before after said
+pub refuses-writes : (number line : ℕ) (before after : List ℕ) (said : Result ℕ Refusal) → No.of_entry number ≡ false → Refuses number line before after said
     → Writes (refused number line) before after said
 unfolding length_read left_by pick
 refuses-writes number line before after said e r = record { answers = r.answers; leaves = rw e r.leaves }
@@ -46,7 +36,7 @@ module _ (number space : ℕ) (text : List ℕ) where
   text-long h = rw (lt-ltb space (length text) h) refl
 
 -- A text put into the front, and the buffer closed.
-pub put-closed : (number : ℕ) → No.of_entry number ≡ false → {end : ℕ} {text before mid after : List ℕ} {said : Written}
+pub put-closed : (number : ℕ) → No.of_entry number ≡ false → {end : ℕ} {text before mid after : List ℕ} {said : Result ℕ Refusal}
     → Put 0 text before mid end → Closes number end mid after said → Writes (text_within number (length before) text) before after said
 unfolding length_read left_by pick
 put-closed number e {end} {text} {before} {mid} {after} {said} p c =
@@ -109,8 +99,8 @@ answer-prints (refused number line) h long front p = put-prints p (omega (arith,
 answer-prints (read text) h long front p = let f = front text refl in front-prints f.0 f.1 p.0 p.1 long
 
 -- The same of a call that writes what `o` is.
-pub writes-prints : {space said : ℕ} {o : Read (List ℕ)} {before mid after : List ℕ} {w : Written} → 50 ≤ space → space ≡ length mid
-    → Writes o before mid w → ShownBy (written_read w) mid after said → Prints space (shown o) (left_by o before) after said
+pub writes-prints : {space said : ℕ} {o : Read (List ℕ)} {before mid after : List ℕ} {w : Result ℕ Refusal} → 50 ≤ space → space ≡ length mid
+    → Writes o before mid w → ShownBy (answer_read w) mid after said → Prints space (shown o) (left_by o before) after said
 unfolding left_by
 writes-prints {o = o} {before = before} h long c s =
     rw (← c.leaves)

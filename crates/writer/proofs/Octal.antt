@@ -1,19 +1,11 @@
 -- The laws of numbers in octal.
-use Rattle.common_laws.proofs.Base.{true, [], ◌∷◌, ◌++◌, some, ◌≡◌, ℕ, suc, ◌+◌, ◌/◌, ◌%◌, ◌^◌, ◌≤◌, ◌<◌, arith, length}
+use Rattle.common_laws.proofs.Base.{true, some, ◌≡◌, ℕ, suc, ◌^◌, ◌≤◌, ◌<◌, arith, length}
 use Rattle.text.specs.Numeral.{all_digits, value, numeral}
 use Rattle.writer.specs.Octal.{octal_bytes}
-use Rattle.writer.proofs.Digits.{digits-one, digits-then, digits_value, digits-all, digits-most, digits-read}
+use Rattle.writer.proofs.Digits.{digits_value, digits-all, digits-most, digits-read}
 
 eight : 0 < 8
 eight = omega arith
-
-pub octal_one : (n : ℕ) → n < 8 → octal_bytes n ≡ (48 + n % 8) ∷ []
-unfolding octal_bytes
-octal_one n h = digits-one 8 eight 21 n h
-
-pub octal_more : (n : ℕ) → 8 ≤ n → n < 8 ^ 22 → octal_bytes n ≡ octal_bytes (n / 8) ++ ((48 + n % 8) ∷ [])
-unfolding octal_bytes
-octal_more n h q = digits-then 8 eight 21 n h q
 
 pub octal_digits : (n : ℕ) → all_digits 8 (octal_bytes n) ≡ true
 unfolding octal_bytes

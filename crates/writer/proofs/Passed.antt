@@ -1,5 +1,5 @@
 -- How far a number's digits stand in a buffer that is filled from the last digit to the first.
-use Rattle.common_laws.proofs.Base.{List, [], ◌++◌, append-nil, append_assoc, ◌≡◌, refl, sym, ap, ◌∙◌, ℕ, ◌+◌, ◌-◌, ◌/◌, ◌%◌, ◌^◌, ◌≤◌, ◌<◌, arith, length, length-append}
+use Rattle.common_laws.proofs.Base.{List, ◌++◌, append_assoc, ◌≡◌, refl, sym, ap, ◌∙◌, ℕ, ◌+◌, ◌-◌, ◌/◌, ◌%◌, ◌^◌, ◌≤◌, ◌<◌, arith, length, length-append}
 use Rattle.common_laws.proofs.Base.{sets}
 use Rattle.writer.specs.Decimal.{decimal_bytes, two_digits}
 use Rattle.writer.proofs.Decimal.{decimal_hundreds}
@@ -16,9 +16,6 @@ pub two-more : (rest : ℕ) → 100 ≤ rest → rest < 10 ^ 20 → length (deci
 two-more rest h q = rw (decimal_hundreds rest h q, length-append (decimal_bytes (rest / 100)) (two_digits (rest % 100))) refl
 
 module _ (n at : ℕ) (before : List ℕ) where
-  pub passed_none : (end : ℕ) → end ≡ at + length (decimal_bytes n) → Passed n at before n end before
-  passed_none end e = record { tail = []; digits = sym (append-nil (decimal_bytes n)); ends = e; stored = refl }
-
   module _ (rest behind : ℕ) (after last : List ℕ) (p : Passed n at before rest behind after) where
     pub passed-more : 100 ≤ rest → rest < 10 ^ 20 → last ≡ sets after (behind - 2) (two_digits (rest % 100))
         → Passed n at before (rest / 100) (behind - 2) last

@@ -4,7 +4,8 @@ use Rattle.common_laws.proofs.Base.{drop, length-append, sets, length-sets, sets
 use Rattle.reading.proofs.Laws.{by_test}
 use lib.Seq.{set_comm}
 use Rattle.common_laws.proofs.Lists.{sets-past, sets-append}
-use Rattle.writer.specs.Put.{Put}
+use Rattle.writer.specs.Put.{Put, Puts}
+use Rattle.writer.specs.declared.bytes.Cursor.{Cursor}
 
 -- where a cursor is held back it stands past the end
 sets-held : (vs l : List ℕ) (at n : ℕ) → sets l (at + min n (length l + 1 - at)) vs ≡ sets l (at + n) vs
@@ -50,3 +51,19 @@ put_then {at} {next} {end} {vs} {ws} {l} {l₁} {l₂} p q =
 -- bytes that fit stand in the buffer's front
 pub put_front : {next : ℕ} {vs l l₁ : List ℕ} → Put 0 vs l l₁ next → length vs ≤ length l → l₁ ≡ vs ++ drop (length vs) l
 put_front {next} {vs} {l} {l₁} p h = p.stored ∙ sets-eq vs l 0 (rw zero-add h) ∙ rw zero-add refl
+
+-- ---- the same of a cursor
+
+pub puts-none : (c : Cursor) → Puts [] c c
+puts-none c = record { lent = refl; put = put-none c.at c.buffer.now }
+
+-- For the attribute of a function that may put nothing.
+pub ruleset nothing_put = (puts-none)
+
+pub puts_then : {vs ws : List ℕ} {c d e : Cursor} → Puts vs c d → Puts ws d e → Puts (vs ++ ws) c e
+puts_then p q = record { lent = q.lent ∙ p.lent; put = put_then p.put q.put }
+
+-- When the lender has its buffer back.
+pub puts_lender : {word before after : List ℕ} {at : ℕ} {c d : Cursor} → Puts word c d → c.at ≡ at → c.buffer.now ≡ before → d.buffer.now ≡ after
+    → Put at word before after d.at
+puts_lender p e f g = rw (e, f, g) at p.put

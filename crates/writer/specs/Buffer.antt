@@ -8,8 +8,9 @@ use Rattle.reading.specs.Numbers as No
 use Rattle.reading.specs.Refusal.{Read, refused, read, ◌>>◌, weigh}
 use Rattle.writer.specs.Put.{Put}
 use Rattle.writer.specs.Refused.{refusal_bytes}
-use Rattle.writer.specs.declared.Written.{Written}
-use Rattle.writer.specs.declared.Written.TheVariants.{Length, Refused}
+use Rattle.std.specs.Prelude.{Result}
+use Rattle.reading.specs.declared.Refusal.{Refusal}
+use Rattle.reading.specs.Answer.{answer_read}
 
 -- ---- the answer, and the buffer afterwards
 
@@ -29,25 +30,20 @@ unfoldable pub left_by : Read (List ℕ) → List ℕ → List ℕ
 left_by (refused number line) before = pick (No.of_entry number) before (replicate (length before) 0)
 left_by (read text) before = text ++ drop (length text) before
 
--- What an answer of the code says.
-unfoldable pub written_read : Written → Read ℕ
-written_read (Length n) = read n
-written_read (Refused r) = refused r.number r.line
-
 -- What a call promises that writes into a buffer what `o` is.
-pub record Writes (o : Read (List ℕ)) (before after : List ℕ) (said : Written) : Type 0 where
-  pub answers : written_read said ≡ length_read o
+pub record Writes (o : Read (List ℕ)) (before after : List ℕ) (said : Result ℕ Refusal) : Type 0 where
+  pub answers : answer_read said ≡ length_read o
   pub leaves : after ≡ left_by o before
 
 -- A refusal behind the entry.
-pub record Refuses (number line : ℕ) (before after : List ℕ) (said : Written) : Type 0 where
-  pub answers : written_read said ≡ refused number line
+pub record Refuses (number line : ℕ) (before after : List ℕ) (said : Result ℕ Refusal) : Type 0 where
+  pub answers : answer_read said ≡ refused number line
   pub leaves : after ≡ replicate (length before) 0
 
 -- The end of a text that was put into a buffer's front, up to a cursor: it is longer than the buffer where the cursor stands
 -- past the buffer's end. (`put-closed` of proofs/Buffer.antt: this is `Writes` of `text_within`.)
-pub record Closes (number end : ℕ) (before after : List ℕ) (said : Written) : Type 0 where
-  pub answers : written_read said ≡ pick (leb end (length before)) (read end) (refused number 0)
+pub record Closes (number end : ℕ) (before after : List ℕ) (said : Result ℕ Refusal) : Type 0 where
+  pub answers : answer_read said ≡ pick (leb end (length before)) (read end) (refused number 0)
   pub leaves : after ≡ pick (leb end (length before)) before (replicate (length before) 0)
 
 -- ---- one number for C

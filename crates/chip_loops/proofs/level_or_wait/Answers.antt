@@ -10,5 +10,8 @@ returns-then-count-gate c = none
 pub returns-then-level_gate : goal.returns-then-level_gate
 returns-then-level_gate c = ahead-gate c.args.netlist.now c.args.gate (omega arith) c.level_gate.ensures.1
 
-pub returns : goal.returns
-returns c = ahead-gate c.args.netlist.now c.args.gate (omega arith) c.level_gate.ensures.1
+pub returns-in-Some : goal.returns-in-Some
+returns-in-Some c = ahead-gate c.args.netlist.now c.args.gate (omega arith) c.level_gate.ensures.1
+
+pub returns-in_default : goal.returns-in_default
+returns-in_default c = ahead-gate c.args.netlist.now c.args.gate (omega arith) c.level_gate.ensures.1

@@ -1,5 +1,5 @@
 -- `fill` stays within its buffer and ends: each turn but the last reads at least one byte.
-use Rattle.std.proofs.Common.{◌≡◌, ◌≤◌, ◌-◌, length}
+use Rattle.std.proofs.Common.{◌≤◌, ◌-◌, length}
 use Rattle.files.proofs.fill.Given as goal
 
 abbrev pub invariant-loop-loaded : goal.invariant-loop-loaded

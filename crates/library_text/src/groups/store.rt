@@ -6,6 +6,7 @@ ghost use Rattle.library_text.specs.Groups.{farthest, row_put, rowless_put};
 use table::put;
 
 // A group of no row.
+#[tactic(auto, unfolding(crate::specs::Groups::rowless_put))]
 pub fn put_rowless(table: &mut [u32], place: usize)
     ensures { table.new ≡ rowless_put place table.old }
 {
@@ -13,6 +14,7 @@ pub fn put_rowless(table: &mut [u32], place: usize)
 }
 
 // A row behind so many others of its group.
+#[tactic(auto, unfolding(crate::specs::Groups::row_put))]
 pub fn put_row(table: &mut [u32], place: usize, rows: u32, depth: u32, columns: u32)
     requires { (place ≤ farthest) × (rows ≤ Size.text_bytes) }
     ensures { table.new

@@ -3,7 +3,7 @@ ghost use Rattle.std.specs.Prelude.{◌≡◌, ◌+◌, ◌*◌, ◌≤◌, min,
 ghost use Rattle.std.proofs.lemmas.List.Edits.{sets};
 ghost use Rattle.sizes.specs.Places.{gate_place, mention_place};
 ghost use Rattle.sizes.specs.Sizes as Size;
-ghost use Rattle.netlist_table.specs.Admission.{mention_all, gate_stored, range_stored, one_more, gate_added};
+ghost use Rattle.netlist_table.specs.Admission.{mention_all, gate_stored, range_stored, gate_added};
 
 use netlist_table::RawStatement;
 use netlist_table::gates::place_of;
@@ -15,25 +15,12 @@ pub fn mention(table: &mut [u32], l: u32)
     put(table, sizes::MENTIONS_AT + l as usize, 1);
 }
 
-// The pins of which the table has the lines.
-fn kept(count: usize) -> usize
-    ensures { result ≡ min count Size.pins }
-{
-    if count < sizes::PINS {
-        count
-    } else {
-        sizes::PINS
-    }
-}
-
+// Mentions the lines of the pins that a gate has, of which the table has as many as stand in the array.
 fn mention_pins(table: &mut [u32], pins: [u32; sizes::PINS], count: usize)
     ensures { table.new ≡ mention_all (take (min count Size.pins) pins) table.old }
 {
-    let n = kept(count);
-    let mut i = 0;
-    while i < n {
-        mention(table, pins[i]);
-        i += 1;
+    for l in &pins[..count.min(sizes::PINS)] {
+        mention(table, *l);
     }
 }
 
@@ -42,10 +29,8 @@ fn put_pins(table: &mut [u32], g: u32, pins: [u32; sizes::PINS])
     ensures { table.new ≡ sets table.old (gate_place g + 2) (take Size.pins pins) }
 {
     let at = place_of(g as usize) + 2;
-    let mut i = 0;
-    while i < sizes::PINS {
+    for i in 0..sizes::PINS {
         put(table, at + i, pins[i]);
-        i += 1;
     }
 }
 
@@ -59,15 +44,8 @@ fn put_gate(table: &mut [u32], g: u32, cell: u32, line: u32, pins: [u32; sizes::
     put_pins(table, g, pins);
 }
 
-// A count of gates with one more. A netlist has at most as many gates as lines; in a table that holds none any count may
-// stand, and the highest is followed by 0.
-fn one_more(g: u32) -> u32
-    ensures { result ≡ one_more g }
-{
-    ((g as u64 + 1) % 4294967296) as u32
-}
-
-// Stores a gate behind those before it.
+// Stores a gate behind those before it, and counts it. A netlist has at most as many gates as lines; in a table that holds none
+// any count may stand, and the highest is followed by 0.
 pub fn store_gate(table: &mut [u32], g: u32, s: RawStatement)
     ensures { table.new ≡ gate_added g s table.old }
 {
@@ -77,7 +55,7 @@ pub fn store_gate(table: &mut [u32], g: u32, s: RawStatement)
     mention(table, l);
     mention_pins(table, pins, s.count);
     put_gate(table, g, s.cell, l, pins);
-    put(table, 0, one_more(g));
+    put(table, 0, g.wrapping_add(1));
 }
 
 // A range as one number.

@@ -6,18 +6,12 @@ ghost use Rattle.netlist_table.specs.Gates.{gate_count, gate_cell, gate_line, ga
 
 use super::place_of;
 
-fn wide(x: u32) -> usize
-    ensures { result ≡ x }
-{
-    x as usize
-}
-
 // The count of gates, as it stands there.
 pub fn count(table: &[u32]) -> usize
     requires { 1 ≤ length table.now }
     ensures { result ≡ gate_count table.now }
 {
-    wide(table[0])
+    table[0] as usize
 }
 
 // The cell of a gate.
@@ -33,20 +27,19 @@ pub fn line_of(table: &[u32], gate: usize, i: usize) -> usize
     requires { gate_place gate + 1 + i < length table.now }
     ensures { result ≡ gate_line table.now gate i }
 {
-    wide(table[place_of(gate) + 1 + i])
+    table[place_of(gate) + 1 + i] as usize
 }
 
-// All lines of a gate: the one that it drives, then those that its pins read, 0 after the last.
+// All lines of a gate: the one that it drives, then those that its pins read, 0 after the last. Number by number:
+// `copy_from_slice` takes half as long again here, and the sweeps call this at each visit.
 pub fn lines_of(table: &[u32], gate: usize) -> [u32; sizes::GATE_LINES]
     requires { gate_place gate + Size.gate_words ≤ length table.now }
     ensures { result ≡ gate_lines table.now gate }
 {
     let at = place_of(gate) + 1;
     let mut lines = [0u32; sizes::GATE_LINES];
-    let mut i = 0;
-    while i < sizes::GATE_LINES {
+    for i in 0..sizes::GATE_LINES {
         lines[i] = table[at + i];
-        i += 1;
     }
     lines
 }

@@ -2,7 +2,8 @@
 ghost use Rattle.std.specs.Prelude.{◌≡◌, ◌<◌, length, get_or};
 ghost use Rattle.sizes.specs.Places.{driver_place, output_place, mention_place, range_place};
 
-// What drives a line.
+// What drives a line. A number, as the next three are, not an enum or a `bool`: what stands there may be any, and is handed on
+// without a test.
 pub fn driver_of(table: &[u32], l: usize) -> u32
     requires { driver_place l < length table.now }
     ensures { result ≡ get_or table.now (driver_place l) 0 }

@@ -16,4 +16,4 @@ returns-in_default c = file_unread entry_printed _ _ c.in_default.is (search rul
 
 pub returns : goal.returns
 unfolding entry_printed
-returns c = file_read entry_printed _ _ entry-long (search rules) c.in-Bytes.is c.front.ensures (prints-outputs c.put_printed.ensures)
+returns c = file_read entry_printed _ _ entry-long (search rules) c.in-Some.is c.front.ensures (prints-outputs c.put_printed.ensures)

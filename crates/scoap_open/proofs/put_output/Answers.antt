@@ -14,12 +14,12 @@ pub returns-in_default : goal.returns-in_default
 returns-in_default c =
     library-unread copy_printed _ _ _ _ c.in_default.is (search rules) (search rules) c.put_unreadable.ensures
 
-pub returns-in_default-net_loaded : goal.returns-in_default-net_loaded
-returns-in_default-net_loaded c =
-    netlist-unread copy_printed _ _ _ _ c.in-Bytes.is c.in_default-net_loaded.is (search rules) (search rules)
-    c.put_unreadable-in_default-net_loaded.ensures
+pub returns-in_default-length : goal.returns-in_default-length
+returns-in_default-length c =
+    netlist-unread copy_printed _ _ _ _ c.in-Some.is c.in_default-length.is (search rules) (search rules)
+    c.put_unreadable-in_default-length.ensures
 
 pub returns : goal.returns
 returns c =
-    both_read copy_printed _ _ _ _ copy_long (search rules) (search rules) c.in-Bytes.is c.in-Bytes-net_loaded.is c.front.ensures
+    both_read copy_printed _ _ _ _ copy_long (search rules) (search rules) c.in-Some.is c.in-Some-length.is c.front.ensures
     c.front-2.ensures (prints-outputs c.put_copy.ensures.bytes)

@@ -8,12 +8,12 @@ pub returns-in_default : goal.returns-in_default
 returns-in_default c =
     library-unread _ _ _ _ _ c.in_default.is (search rules) (search rules) c.put_unreadable.ensures
 
-pub returns-in_default-net_loaded : goal.returns-in_default-net_loaded
-returns-in_default-net_loaded c =
-    netlist-unread _ _ _ _ _ c.in-Bytes.is c.in_default-net_loaded.is (search rules) (search rules)
-    c.put_unreadable-in_default-net_loaded.ensures
+pub returns-in_default-length : goal.returns-in_default-length
+returns-in_default-length c =
+    netlist-unread _ _ _ _ _ c.in-Some.is c.in_default-length.is (search rules) (search rules)
+    c.put_unreadable-in_default-length.ensures
 
 pub returns : goal.returns
 returns c =
-    both_read _ _ _ _ _ (plan-long _ _ _) (search rules) (search rules) c.in-Bytes.is c.in-Bytes-net_loaded.is c.front.ensures
+    both_read _ _ _ _ _ (plan-long _ _ _) (search rules) (search rules) c.in-Some.is c.in-Some-length.is c.front.ensures
     c.front-2.ensures (plan-outputs _ _ c.args.output.now _ _ _ c.clear_bytes.ensures (search rules) c.put_plan.ensures)

@@ -10,14 +10,11 @@ pub loop-i-preserved : goal.loop-i-preserved
 loop-i-preserved c =
     let l = c.loop-i in
     let xs = c.args.numbers.now in
-    let e : l.i / 2 * 6 + 4 + l.i % 2 ≡ observed_place l.i = omega arith in (
-      omega arith,
-      simp length-set l.invariant.1,
-      ap (λ (n : ℕ). set l.answer l.i (get_or xs n 0)) e
-          ∙ ap (λ (n : ℕ). set l.answer l.i n) (sym (observed-word xs l.i c.loop-i-test.true))
-          ∙ ap (λ (z : List ℕ). set z l.i (get_or (observed_words xs) l.i 0)) l.invariant.2
-          ∙ copy_next (observed_words xs) c.args.answer.now l.i (omega (arith, observed-length xs)) (omega arith),
-    )
+    let e : l.i / 2 * 6 + 4 + l.i % 2 ≡ observed_place l.i = omega arith in
+    ap (λ (n : ℕ). set l.answer l.i (get_or xs n 0)) e
+    ∙ ap (λ (n : ℕ). set l.answer l.i n) (sym (observed-word xs l.i c.loop-i-test.true))
+    ∙ ap (λ (z : List ℕ). set z l.i (get_or (observed_words xs) l.i 0)) l.invariant
+    ∙ copy_next (observed_words xs) c.args.answer.now l.i (omega (arith, observed-length xs)) (omega arith)
 
 pub returns : goal.returns
 returns c =
@@ -25,12 +22,4 @@ returns c =
     let xs = c.args.numbers.now in
     let e : l.i ≡ Size.observed = omega arith in
     let b : length (observed_words xs) ≤ Size.observed = omega (arith, observed-length xs) in
-    rw (take_all Size.observed (observed_words xs) b) at (rw e at l.invariant.2)
-
-pub loop-i-init : goal.loop-i-init
-loop-i-init c =
-    (omega arith, refl, refl)
-
-pub shape_of-answer : goal.shape_of-answer
-shape_of-answer c =
-    c.loop-i.invariant.1
+    rw (take_all Size.observed (observed_words xs) b) at (rw e at l.invariant)

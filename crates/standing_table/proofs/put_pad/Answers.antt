@@ -1,7 +1,6 @@
 -- `put_pad` runs CO and SO again, and stores the pad, the counts and the numbers.
-use Rattle.common_laws.proofs.Base.{◌∙◌, arith, rules}
+use Rattle.common_laws.proofs.Base.{◌∙◌, arith}
 use Rattle.standing_table.proofs.Slices.{ready-size}
-use Rattle.standing_table.proofs.Lengths.{anew-length}
 use Rattle.standing_table.proofs.StandingTable.{stores}
 use Rattle.standing_table.proofs.put_pad.Goals as goal
 
@@ -16,7 +15,7 @@ returns c cells ss h =
 
 pub observe-observed-requires : goal.observe-observed-requires
 observe-observed-requires c =
-    (c.requires.0, search rules)
+    c.requires.0
 
 pub overflow_add-pads : goal.overflow_add-pads
 overflow_add-pads c =
@@ -32,11 +31,7 @@ overflow_add-pads-2 c =
 
 pub put_standing-requires : goal.put_standing-requires
 put_standing-requires c =
-    let h = c.requires.0 in (
-      omega (arith, c.requires.1),
-      omega (arith, c.put.auto.table, ready-size c.args.standing.now c.requires.0),
-      anew-length h.cells h.statements c.args.standing.now _ c.observe-observed.result (ready-size c.args.standing.now c.requires.0) (c.observe-observed.ensures h.cells h.statements h.holds),
-    )
+    (omega (arith, c.requires.1), omega (arith, c.put.auto.table, ready-size c.args.standing.now c.requires.0))
 
 pub shape_of-standing : goal.shape_of-standing
 shape_of-standing c =

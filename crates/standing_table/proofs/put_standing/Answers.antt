@@ -24,7 +24,7 @@ clear_pads-requires c =
 
 pub put_numbers-requires : goal.put_numbers-requires
 put_numbers-requires c =
-    (omega (arith, c.clear_pads.auto.standing, c.requires.1), c.requires.2)
+    omega (arith, c.clear_pads.auto.standing, c.requires.1)
 
 pub overflow_cast-pads : goal.overflow_cast-pads
 overflow_cast-pads c =

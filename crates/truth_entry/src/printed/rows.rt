@@ -1,59 +1,46 @@
 // The rows of a group, found and printed one by one, by descending value.
-ghost use Rattle.writer.specs.Put.{Put};
+ghost use Rattle.writer.specs.Put.{Puts};
 ghost use Rattle.truth_rows.specs.Asked.{Small};
 ghost use Rattle.truth_entry.specs.Printed.{one_bytes, rows_bytes, Passed};
 
 use truth_rows::Asked;
-use truth_rows::masks::{is_prime, number, power};
-use writer::bytes::{put_byte, put_bytes, put_octal};
+use truth_rows::masks::{is_prime, number};
+use writer::bytes::Cursor;
 
-// Where the next row goes, and whether there is one before it.
-#[derive(Clone, Copy)]
-struct Cursor {
-    at: usize,
-    any: bool,
-}
-
-// A row, behind others of its group or as the first.
-fn put_row(entry: &mut [u8], at: usize, any: bool, number: u32) -> usize
-    ensures { Put at (one_bytes any number) entry.old entry.new result }
+// A row of the group: behind others, or as the first.
+#[tactic(auto, unfolding(crate::specs::Printed::one_bytes))]
+fn put_row(entry: &mut Cursor, any: bool, number: u32)
+    ensures { Puts (one_bytes any number) entry.old entry.new }
 {
     if any {
-        let next = put_bytes(entry, at, b",M,");
-        return put_octal(entry, next, number as u64);
+        entry.put_bytes(b",M,");
     }
-    put_octal(entry, at, number as u64)
+    entry.put_octal(u64::from(number));
 }
 
-// A row, where it is prime.
-fn pass_row(entry: &mut [u8], cursor: Cursor, asked: Asked, row: u32) -> Cursor
+// A row, where it is prime; whether there is one then.
+fn pass_row(entry: &mut Cursor, any: bool, asked: Asked, row: u32) -> bool
     requires { Small asked }
-    ensures { Passed asked row cursor result entry.old entry.new }
+    ensures { Passed asked row any result entry.old entry.new }
 {
     let pins = asked.pins;
     if !is_prime(asked.wanted, pins, row) {
-        return cursor;
+        return any;
     }
-    let x = number(asked.base, asked.weight, pins, row);
-    Cursor {
-        at: put_row(entry, cursor.at, cursor.any, x),
-        any: true,
-    }
+    put_row(entry, any, number(asked.base, asked.weight, pins, row));
+    true
 }
 
 // The rows of a group; the letter Z where there is none.
-pub fn put_rows(entry: &mut [u8], at: usize, asked: Asked) -> usize
+pub fn put_rows(entry: &mut Cursor, asked: Asked)
     requires { Small asked }
-    ensures { Put at (rows_bytes asked) entry.old entry.new result }
+    ensures { Puts (rows_bytes asked) entry.old entry.new }
 {
-    let mut cursor = Cursor { at, any: false };
-    let mut row = power(3, asked.pins);
-    while 0 < row {
-        row -= 1;
-        cursor = pass_row(entry, cursor, asked, row);
+    let mut any = false;
+    for row in (0..3u32.pow(asked.pins as u32)).rev() {
+        any = pass_row(entry, any, asked, row);
     }
-    if cursor.any {
-        return cursor.at;
+    if !any {
+        entry.put_byte(b'Z');
     }
-    put_byte(entry, cursor.at, b'Z')
 }

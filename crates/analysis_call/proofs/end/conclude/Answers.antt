@@ -1,26 +1,29 @@
 -- `conclude` calculates, and writes the report from the tables, or both.
-use Rattle.common_laws.proofs.Base.{refl, rules}
+use Rattle.std.proofs.lemmas.Result.{err_from_is_err_and}
+use Rattle.common_laws.proofs.Base.{refl}
 use Rattle.reading.specs.Numbers as No
+use Rattle.reading.specs.Answer.{answer_read}
 use Rattle.writer.proofs.Buffer.{put-closed}
-use Rattle.demands.specs.Answer.{answer_read}
 use Rattle.analysis_call.proofs.Told.{both-put, ends-long, ends-fitting}
 use Rattle.analysis_call.proofs.end.conclude.Goals as goal
 
-pub returns-in-Refused : goal.returns-in-Refused
+pub returns-in_err-length : goal.returns-in_err-length
 unfolding answer_read
-returns-in-Refused c cells ss h =
-    ends-long cells ss c.args.numbers.now c.args.report.now _ _ c.calculate-counts.result (c.calculate-counts.ensures cells ss h) c.close-written.result
+returns-in_err-length c cells ss h =
+    let p = err_from_is_err_and c.from_residual.result c.from_residual.ensures.1 in
+    rw (p.1, p.2)
+    (ends-long cells ss c.args.numbers.now c.args.report.now _ _ c.calculate-counts.result (c.calculate-counts.ensures cells ss h) c.close.result
     (put-closed No.report_long refl
     (both-put cells ss h _ _ _ _ _ _ _ _ (c.calculate-counts.ensures cells ss h) c.put_report-low.ensures (c.put_second-end.ensures cells ss h))
-    c.close-written.ensures) _ (search rules)
+    (rw c.number.ensures at c.close.ensures)) _ c.in_err-length.was)
 
-pub returns-in-Length : goal.returns-in-Length
+pub returns : goal.returns
 unfolding answer_read
-returns-in-Length c cells ss h =
-    ends-fitting cells ss c.args.numbers.now c.args.report.now _ _ c.calculate-counts.result (c.calculate-counts.ensures cells ss h) c.close-written.result
+returns c cells ss h =
+    ends-fitting cells ss c.args.numbers.now c.args.report.now _ _ c.calculate-counts.result (c.calculate-counts.ensures cells ss h) c.close.result
     (put-closed No.report_long refl
     (both-put cells ss h _ _ _ _ _ _ _ _ (c.calculate-counts.ensures cells ss h) c.put_report-low.ensures (c.put_second-end.ensures cells ss h))
-    c.close-written.ensures) _ (search rules)
+    (rw c.number.ensures at c.close.ensures)) _ c.in_ok-length.was
 
 pub put_second-end-requires : goal.put_second-end-requires
 put_second-end-requires c =

@@ -6,14 +6,14 @@ use Rattle.analysis_call.proofs.end.tell.Goals as goal
 pub conclude-requires : goal.conclude-requires
 conclude-requires c = c.requires (search rules)
 
-pub returns-in-AtEntry : goal.returns-in-AtEntry
-returns-in-AtEntry c =
+pub returns-in-Err-AtEntry : goal.returns-in-Err-AtEntry
+returns-in-Err-AtEntry c =
     told-entry c.args.progress c.args.library.now c.args.netlist.now c.args.numbers.now c.args.report.now _ (search rules) _
 
-pub returns-in-Later : goal.returns-in-Later
-returns-in-Later c =
+pub returns-in-Err-Later : goal.returns-in-Err-Later
+returns-in-Err-Later c =
     told_later c.args.progress c.args.library.now c.args.netlist.now c.args.numbers.now c.args.report.now _ (search rules) _ _ c.clear_bytes.ensures
 
-pub returns-in-Unrefused : goal.returns-in-Unrefused
-returns-in-Unrefused c =
+pub returns-in-Ok : goal.returns-in-Ok
+returns-in-Ok c =
     told-made c.args.progress c.args.library.now c.args.netlist.now c.args.numbers.now c.args.report.now (search rules) _ _ _ c.conclude.ensures

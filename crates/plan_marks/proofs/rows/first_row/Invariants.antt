@@ -1,11 +1,7 @@
 -- `first_row` goes from the first row on, and stops at the first that comes to the least sum.
-use Rattle.common_laws.proofs.Base.{◌-◌}
 use Rattle.sweep_groups.specs.Tables.{read_row}
 use Rattle.plan_marks.proofs.RowsLaws.{Sought}
 use Rattle.plan_marks.proofs.rows.first_row.Given as goal
 
 abbrev pub invariant-loop-row : goal.invariant-loop-row
 invariant-loop-row l = Sought (read_row l.wired l.lines l.pins) l.library l.costs l.group l.row
-
-abbrev pub decreases-loop-row : goal.decreases-loop-row
-decreases-loop-row l = l.rows - l.row

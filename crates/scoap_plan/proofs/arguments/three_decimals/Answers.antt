@@ -4,18 +4,18 @@ use Rattle.text.specs.Numeral.{numeral_read}
 use Rattle.scoap_plan.specs.Arguments.{three_decimals}
 use Rattle.scoap_plan.proofs.arguments.three_decimals.Goals as goal
 
-pub returns-in_default : goal.returns-in_default
+pub returns-in_err-line : goal.returns-in_err-line
 unfolding three_decimals numeral_read
-returns-in_default c = rw c.in_default.is refl
+returns-in_err-line c = rw (c.from_residual.ensures, c.in_err-line.was) refl
 
-pub returns-in_default-value : goal.returns-in_default-value
+pub returns-in_err-value : goal.returns-in_err-value
 unfolding three_decimals numeral_read
-returns-in_default-value c = rw (c.in-Value.is, c.in_default-value.is) refl
+returns-in_err-value c = rw (c.from_residual-in_err-value.ensures, c.in_ok-line.was, c.in_err-value.was) refl
 
-pub returns-in_default-kind : goal.returns-in_default-kind
+pub returns-in_err-kind : goal.returns-in_err-kind
 unfolding three_decimals numeral_read
-returns-in_default-kind c = rw (c.in-Value.is, c.in-Value-value.is, c.in_default-kind.is) refl
+returns-in_err-kind c = rw (c.from_residual-in_err-kind.ensures, c.in_ok-line.was, c.in_ok-value.was, c.in_err-kind.was) refl
 
 pub returns : goal.returns
 unfolding three_decimals numeral_read
-returns c = rw (c.in-Value.is, c.in-Value-value.is, c.in-Value-kind.is) refl
+returns c = rw (c.in_ok-line.was, c.in_ok-value.was, c.in_ok-kind.was) refl

@@ -4,7 +4,7 @@ use Rattle.sizes.specs.Sizes as Size
 use Rattle.calculation.specs.Calculation.{Analysed}
 use Rattle.standing_table.proofs.Slices.{ready-size}
 use Rattle.standing_change.specs.RunParts.{Stores}
-use Rattle.standing_change.proofs.RunsLaws.{begun-length, begun_whole}
+use Rattle.standing_change.proofs.RunsLaws.{begun_whole}
 use Rattle.standing_change.proofs.runs.begin_again.Goals as goal
 
 pub calculate-counts-requires : goal.calculate-counts-requires
@@ -14,11 +14,7 @@ calculate-counts-requires c =
 
 pub put_kept-requires : goal.put_kept-requires
 put_kept-requires c =
-    let h = c.requires.0 in (
-      c.requires.1,
-      ready-size c.args.standing.now c.requires.0,
-      begun-length h.cells h.statements _ c.calculate-counts.result (c.calculate-counts.ensures h.cells h.statements h.holds) h.holds.sound,
-    )
+    (c.requires.1, ready-size c.args.standing.now c.requires.0)
 
 pub returns : goal.returns
 returns c cells ss h =

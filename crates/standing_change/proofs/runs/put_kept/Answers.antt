@@ -6,9 +6,9 @@ use Rattle.standing_change.proofs.runs.put_kept.Goals as goal
 
 pub put_standing-requires : goal.put_standing-requires
 put_standing-requires c =
-    (omega (arith, c.wide.ensures, c.word.ensures, c.requires.0), c.requires.1, c.requires.2)
+    (omega (arith, c.word.ensures, c.requires.0), c.requires.1)
 
 pub returns : goal.returns
 returns c =
-    kept-stored c.args.standing.now c.requires.1 c.wide.result (whole c.args.counts c.args.numbers.now) _
-    (c.wide.ensures ∙ c.word.ensures) c.put_standing.ensures
+    kept-stored c.args.standing.now c.requires.1 c.word.result (whole c.args.counts c.args.numbers.now) _
+    (c.word.ensures) c.put_standing.ensures

@@ -1,5 +1,6 @@
 -- `place` refuses a line that takes no pad, and marks another.
 use Rattle.common_laws.proofs.Base.{some, sym, ◌∙◌, arith}
+use Rattle.reading.proofs.Causes.{ok-number}
 use Rattle.library_table.proofs.Names.{holds-told}
 use Rattle.netlist_table.specs.Netlist.{mark, output}
 use Rattle.netlist_table.specs.Admission.{StandsFor}
@@ -24,6 +25,7 @@ unfolding StandsFor
 returns c cells ss h =
     let lib = c.args.library.now in
     let net = c.args.netlist.now in
-    tried lib net cells ss h c.args.line (unfold InRange in (omega (arith, c.if-line-eq0.false), c.if-line-gt-LINES.false)) (sym c.mentioned.ensures ∙ c.if-not-mentioned.false) c.admit-cause.result _
-    (c.admit-cause.ensures cells (some (mark output c.args.line)) (holds-told lib cells (library-holds lib net cells ss h)) c.output_mark.ensures ss h.sound.netlist
-    (netlist-holds lib net cells ss h))
+    rw (c.is_ok.ensures.value, ← ok-number c.admit.result)
+    (tried lib net cells ss h c.args.line (unfold InRange in (omega (arith, c.if-line-eq0.false), c.if-line-gt-LINES.false)) (sym c.mentioned.ensures ∙ c.if-not-mentioned.false) _ _
+    (c.admit.ensures cells (some (mark output c.args.line)) (holds-told lib cells (library-holds lib net cells ss h)) (record { kind = c.mark.ensures.0; line = c.mark.ensures.1 }) ss h.sound.netlist
+    (netlist-holds lib net cells ss h)))

@@ -16,36 +16,29 @@ module _ (lib table net' : List ℕ) (cells : List Cell) (ss : List Statement) (
   tried : (l : ℕ) (a b : Bool) → l ≡ get_or table (Size.pads_at + i) 0 → a ≡ b → Tried l a → Tried (get_or (drop Size.pads_at table) i 0) b
   tried l a b e f h = subst (λ (k : ℕ). Tried k b) (e ∙ sym (get_or-drop Size.pads_at table i 0)) (subst (Tried l) f h)
 
-pub shape_of-netlist-then-not-place : goal.shape_of-netlist-then-not-place
-shape_of-netlist-then-not-place c = c.place.auto.netlist ∙ c.loop-i.invariant.1
-
 pub returns-then-not-place : goal.returns-then-not-place
 returns-then-not-place c cells ss h =
-    tried-stopped c.args.library.now cells ss (drop Size.pads_at c.args.standing.now) c.loop-i.i (omega (arith, length-drop Size.pads_at c.args.standing.now, c.requires.1, c.requires.0, c.loop-i-test.true)) c.loop-i.netlist _
-    (c.loop-i.invariant.2 cells ss h) c.args.count c.loop-i-test.true (omega (arith, length-drop Size.pads_at c.args.standing.now, c.requires.1, c.requires.0))
-    (tried c.args.library.now c.args.standing.now c.place.new.netlist cells ss c.loop-i.i c.wide.result _ _ (c.wide.ensures ∙ c.word.ensures) c.if-not-place.true
-    (c.place.ensures cells (padded ss (take c.loop-i.i (drop Size.pads_at c.args.standing.now))) ((c.loop-i.invariant.2 cells ss h).holds refl)))
+    let a = c.args in
+    let l = c.loop-i in
+    tried-stopped a.library.now cells ss (drop Size.pads_at a.standing.now) l.i (omega (arith, length-drop Size.pads_at a.standing.now, c.requires.1, c.requires.0, c.loop-i-test.true)) l.netlist _
+    (l.invariant cells ss h) a.count c.loop-i-test.true (omega (arith, length-drop Size.pads_at a.standing.now, c.requires.1, c.requires.0))
+    (tried a.library.now a.standing.now c.place.new.netlist cells ss l.i c.word.result _ _ c.word.ensures c.if-not-place.true
+    (c.place.ensures cells (padded ss (take l.i (drop Size.pads_at a.standing.now))) ((l.invariant cells ss h).holds refl)))
 
 pub loop-i-preserved : goal.loop-i-preserved
-loop-i-preserved c = (
-  omega (arith, c.loop-i-test.true),
-  c.place.auto.netlist ∙ c.loop-i.invariant.1,
-  λ cells ss h.
-      rw (add-one c.loop-i.i)
-      (tried-next c.args.library.now cells ss (drop Size.pads_at c.args.standing.now) c.loop-i.i (omega (arith, length-drop Size.pads_at c.args.standing.now, c.requires.1, c.requires.0, c.loop-i-test.true)) c.loop-i.netlist _
-      (c.loop-i.invariant.2 cells ss h) (tried c.args.library.now c.args.standing.now c.place.new.netlist cells ss c.loop-i.i c.wide.result _ _ (c.wide.ensures ∙ c.word.ensures) c.if-not-place.false
-      (c.place.ensures cells (padded ss (take c.loop-i.i (drop Size.pads_at c.args.standing.now))) ((c.loop-i.invariant.2 cells ss h).holds refl)))),
-)
+loop-i-preserved c cells ss h =
+    let a = c.args in
+    let l = c.loop-i in
+    rw (add-one l.i)
+    (tried-next a.library.now cells ss (drop Size.pads_at a.standing.now) l.i (omega (arith, length-drop Size.pads_at a.standing.now, c.requires.1, c.requires.0, c.loop-i-test.true)) l.netlist _
+    (l.invariant cells ss h) (tried a.library.now a.standing.now c.place.new.netlist cells ss l.i c.word.result _ _ c.word.ensures c.if-not-place.false
+    (c.place.ensures cells (padded ss (take l.i (drop Size.pads_at a.standing.now))) ((l.invariant cells ss h).holds refl))))
 
 pub returns : goal.returns
 returns c cells ss h =
-    let e : c.loop-i.i ≡ c.args.count = omega (arith, c.loop-i.invariant.0, c.loop-i-test.false) in
-    subst (λ (n : ℕ). PadsTried (c.args.library.now) cells ss (take n (drop Size.pads_at c.args.standing.now)) c.loop-i.netlist true) e (c.loop-i.invariant.2 cells ss h)
+    let l = c.loop-i in
+    let e : l.i ≡ c.args.count = omega arith in
+    subst (λ (n : ℕ). PadsTried c.args.library.now cells ss (take n (drop Size.pads_at c.args.standing.now)) l.netlist true) e (l.invariant cells ss h)
 
 pub loop-i-init : goal.loop-i-init
-loop-i-init c =
-    (omega arith, refl, λ cells ss h. tried-none c.args.library.now cells ss c.args.netlist.now h)
-
-pub shape_of-netlist : goal.shape_of-netlist
-shape_of-netlist c =
-    c.loop-i.invariant.1
+loop-i-init c cells ss h = tried-none c.args.library.now cells ss c.args.netlist.now h

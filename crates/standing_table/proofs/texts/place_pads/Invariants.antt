@@ -1,5 +1,5 @@
 -- `place_pads` marks one pad after the other.
-use Rattle.common_laws.proofs.Base.{true, List, ◌≡◌, ◌-◌, ◌≤◌, length, take, drop}
+use Rattle.common_laws.proofs.Base.{true, List, take, drop}
 use Rattle.sizes.specs.Sizes as Size
 use Rattle.library_table.specs.Cells.{Cell}
 use Rattle.netlist_table.specs.Netlist.{Statement}
@@ -9,10 +9,5 @@ use Rattle.standing_table.proofs.texts.place_pads.Given as goal
 
 abbrev pub invariant-loop-i : goal.invariant-loop-i
 invariant-loop-i l =
-    (l.i ≤ l.count)
-    × (length l.netlist ≡ length l.initial.netlist)
-    × ((cells : List Cell) (ss : List Statement) → Holds l.library l.initial.netlist cells ss
-    → PadsTried l.library cells ss (take l.i (drop Size.pads_at l.standing)) l.netlist true)
-
-abbrev pub decreases-loop-i : goal.decreases-loop-i
-decreases-loop-i l = l.count - l.i
+    (cells : List Cell) (ss : List Statement) → Holds l.library l.fn.netlist cells ss
+    → PadsTried l.library cells ss (take l.i (drop Size.pads_at l.standing)) l.netlist true

@@ -1,6 +1,0 @@
--- `all_are` ends: the place comes nearer to the end.
-use Rattle.std.proofs.Common.{◌-◌, length}
-use Rattle.lend_records.proofs.all_are.Given as goal
-
-abbrev pub decreases-loop-i : goal.decreases-loop-i
-decreases-loop-i l = length l.table - l.i
