@@ -28,6 +28,11 @@ static size_t net_length;
 static uint64_t answer;
 /* Which entry is called. The library's text is the line of a truth table for CELL. */
 static enum { REPORT, PLAN, CELL, BUILT_IN, QUALIFIES, STAND, ASK, COMMIT, CHANGE, BEST, ADVISE, RANK } entry;
+#define ENTRIES (RANK + 1)
+static const char *const names[ENTRIES] = { "report", "plan", "cell", "built_in", "qualifies", "stand",
+                                            "ask", "commit", "change", "best", "advise", "rank" };
+/* The most that each took. */
+static size_t most[ENTRIES];
 /* The line whose plan is written out, at 1. */
 static unsigned plan;
 /* A standing analysis, what is asked of it, and the line of the pad. */
@@ -185,6 +190,7 @@ static void measure(const char *label, unsigned number)
     unsigned is = answer < SCOAP_REFUSED ? 0 : scoap_number(answer);
 
     printf("%-38s %8zu bytes of stack\n", label, own);
+    most[entry] = own > most[entry] ? own : most[entry];
     if (is != number) {
         printf("FAILED: %s: answer %llu, number %u was meant\n", label,
                (unsigned long long)answer, number);
@@ -470,6 +476,9 @@ int main(void)
         failed++;
     }
 
+    for (unsigned each = 0; each < ENTRIES; each++) {
+        printf("most of scoap_%s %zu\n", names[each], most[each]);
+    }
     printf("%u passed, %u failed\n", passed, failed);
     return failed == 0 ? 0 : 1;
 }

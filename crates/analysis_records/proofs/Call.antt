@@ -39,7 +39,8 @@ use Rattle.analysis_records.specs.declared.record.Record.{Record}
 use Rattle.analysis_records.specs.Records.{record_forms, record_statements, from_records}
 use Rattle.analysis_records.specs.Walk.{declared_by, Walked}
 use Rattle.analysis_records.specs.Outcome.{given_records, RecordsPromised}
-use Rattle.analysis_records.proofs.Laws.{records_unranged, later, walked_end, refused_end, declared-end}
+use Rattle.analysis_records.specs.Steps.{later}
+use Rattle.analysis_records.proofs.Laws.{records_unranged, walked_end, refused_end, declared-end}
 use Rattle.netlist_table.proofs.Admission.{cleared-empty}
 
 module _ (text : List ℕ) (recs : List Record) where

@@ -25,7 +25,7 @@ use Rattle.analysis_texts.specs.declared.Stop.TheVariants.{Later}
 use Rattle.analysis_texts.specs.Progress.{Progress, progress_of}
 use Rattle.analysis_records.specs.declared.record.Record.{Record}
 use Rattle.analysis_records.specs.Records.{mark_form, gate_form, record_form, record_forms, record_statements, from_records}
-use Rattle.analysis_records.specs.Steps.{answer_after, RecordChecked, Checked}
+use Rattle.analysis_records.specs.Steps.{answer_after, RecordChecked, Checked, later}
 use Rattle.analysis_records.specs.Walk.{declared_by, Admitted, WalkReached, Walked}
 
 -- ---- no record is a range
@@ -144,11 +144,6 @@ module _ (lib ts₀ : List ℕ) (recs : List Record) (none : Record) (i : ℕ) (
   stops_there x q e =
       subst (λ (ys : List Record). Walked lib ts₀ ys (Err x) us) (take-append-drop (i + 1) recs)
       (walked_refused lib ts₀ (take (i + 1) recs) (drop (i + 1) recs) x us (rw q at (walked_at _ e)))
-
--- A refusal behind the entry, as `?` hands it on.
-abbrev pub later : Result (Unit {0}) Refusal → Progress
-later (Ok u) = Ok tt
-later (Err r) = Err (Later r)
 
 -- What the walk of the whole list answers and leaves.
 module _ (lib ts₀ : List ℕ) (recs : List Record) (us : List ℕ) (cells : List Cell) (tail : List ℕ) where

@@ -8,6 +8,9 @@ use Rattle.netlist_table.specs.Layout.{NetlistHolds}
 use Rattle.netlist_table.specs.Admission.{refusal_of, words_after}
 use Rattle.netlist_table.specs.Sound.{Sound}
 use Rattle.reading.specs.declared.Refusal.{Refusal}
+use Rattle.analysis_texts.specs.declared.Stop.{Stop}
+use Rattle.analysis_texts.specs.declared.Stop.TheVariants.{Later}
+use Rattle.analysis_texts.specs.Progress.{Progress}
 use Rattle.analysis_records.specs.declared.record.Record.{Record}
 use Rattle.analysis_records.specs.Records.{record_form}
 
@@ -27,7 +30,12 @@ pub record Checked (lib : List ℕ) (place : ℕ) (rec : Record) (ts : List ℕ)
   pub checks : (cells : List Cell) → LibraryHolds lib cells → (ss : List Statement) → Sound cells ss → (h : NetlistHolds ts ss)
       → RecordChecked cells ss h.past place rec r us
 
--- One step: once a refusal stands it stays, and so does the table; else the record is checked.
-pub record Stepped (lib : List ℕ) (place : ℕ) (so_far : Result (Unit {0}) Refusal) (rec : Record) (ts : List ℕ) (r : Result (Unit {0}) Refusal) (us : List ℕ) : Type 0 where
-  pub stays : (x : Refusal) → so_far ≡ Err x → (r ≡ Err x) × (us ≡ ts)
-  pub checks : (u : Unit {0}) → so_far ≡ Ok u → Checked lib place rec ts r us
+-- A refusal of a record is a later one.
+abbrev pub later : Result (Unit {0}) Refusal → Progress
+later (Ok u) = Ok tt
+later (Err r) = Err (Later r)
+
+-- One step: once a call is stopped it stays so, and so does the table; else the record is checked.
+pub record Stepped (lib : List ℕ) (place : ℕ) (so_far : Progress) (rec : Record) (ts : List ℕ) (r : Progress) (us : List ℕ) : Type 0 where
+  pub stays : (x : Stop) → so_far ≡ Err x → (r ≡ Err x) × (us ≡ ts)
+  pub checks : (u : Unit {0}) → so_far ≡ Ok u → (said : Result (Unit {0}) Refusal) × (r ≡ later said) × Checked lib place rec ts said us

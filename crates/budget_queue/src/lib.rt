@@ -1,7 +1,7 @@
 // A queue of costs in an array: which leaf has the cheapest, and of equal ones the first. To put a cost at
 // a leaf takes a step for each level of the tree. There is a leaf for each value of each line.
 //
-// For the crates above: `CostQueue`, with `empty`, `put`, `front` and `cost_at` (specs/Queue.antt).
+// For the crates above: `CostQueue`, with `empty`, `of_keys`, `put`, `front` and `cost_at` (specs/Queue.antt).
 #![tactic(auto)]
 
 ghost use Rattle.std.specs.Prelude.{List, ◌≡◌, ℕ, ◌≤◌, ◌<◌, MatchOption};
@@ -51,6 +51,14 @@ impl CostQueue {
         CostQueue {
             keys: [none; sizes::QUEUE],
         }
+    }
+
+    // The queue of these keys.
+    pub fn of_keys(keys: [u64; sizes::QUEUE]) -> CostQueue
+        requires { Queue keys }
+        ensures { result ≡ keys }
+    {
+        CostQueue { keys }
     }
 
     // The cost at a leaf.

@@ -84,24 +84,48 @@ fn level_gate(netlist: &[u32], gate: usize, marks: &mut [bool]) -> bool
 // on what waits: it says which gate to look at next, `level_gate` alone levels a line, and the passes behind it level what is
 // left out.
 
-#[derive(Drop)]
-struct Waits {
-    // For each line the last gate that waits for it.
-    last: [Option<usize>; sizes::LINE_PLACES],
-    // For each gate the one behind it: that waits for the same line, or, where its line is levelled, whose line comes next.
-    behind: [Option<usize>; sizes::GATES],
+// A gate, or none, in four bytes, since two lists have one for each line (D200): gates count from 1, and 0 is none.
+#[derive(Clone, Copy)]
+struct Waiting {
+    number: u32,
 }
 
-impl Waits {
-    fn behind(&self, gate: usize) -> Option<usize> {
+impl Waiting {
+    const NONE: Waiting = Waiting { number: 0 };
+
+    fn of(gate: usize) -> Waiting {
         if gate < sizes::GATES {
-            self.behind[gate]
+            Waiting {
+                number: (gate + 1) as u32,
+            }
         } else {
-            None
+            Waiting::NONE
         }
     }
 
-    fn put_behind(&mut self, gate: usize, next: Option<usize>) {
+    fn gate(self) -> Option<usize> {
+        (self.number as usize).checked_sub(1)
+    }
+}
+
+#[derive(Drop)]
+struct Waits {
+    // For each line the last gate that waits for it.
+    last: [Waiting; sizes::LINE_PLACES],
+    // For each gate the one behind it: that waits for the same line, or, where its line is levelled, whose line comes next.
+    behind: [Waiting; sizes::GATES],
+}
+
+impl Waits {
+    fn behind(&self, gate: usize) -> Waiting {
+        if gate < sizes::GATES {
+            self.behind[gate]
+        } else {
+            Waiting::NONE
+        }
+    }
+
+    fn put_behind(&mut self, gate: usize, next: Waiting) {
         if gate < sizes::GATES {
             self.behind[gate] = next;
         }
@@ -112,7 +136,7 @@ impl Waits {
         if line < sizes::LINE_PLACES {
             let next = self.last[line];
             self.put_behind(gate, next);
-            self.last[line] = Some(gate);
+            self.last[line] = Waiting::of(gate);
         }
     }
 
@@ -121,7 +145,7 @@ impl Waits {
         if sizes::LINE_PLACES <= line {
             return None;
         }
-        let gate = self.last[line]?;
+        let gate = self.last[line].gate()?;
         self.last[line] = self.behind(gate);
         Some(gate)
     }
@@ -152,12 +176,12 @@ fn wake_one(netlist: &[u32], top: usize, marks: &mut [bool], waits: &mut Waits) 
         return None;
     }
     let Some(next) = waits.wake(line_of(netlist, top, 0)) else {
-        return waits.behind(top);
+        return waits.behind(top).gate();
     };
     if !level_or_wait(netlist, next, marks, waits) {
         return Some(top);
     }
-    waits.put_behind(next, Some(top));
+    waits.put_behind(next, Waiting::of(top));
     Some(next)
 }
 
@@ -183,8 +207,8 @@ fn level_ahead(netlist: &[u32], marks: &mut [bool])
     ensures { Ahead (gates_held netlist.now) marks.old marks.new }
 {
     let mut waits = Waits {
-        last: [None; sizes::LINE_PLACES],
-        behind: [None; sizes::GATES],
+        last: [Waiting::NONE; sizes::LINE_PLACES],
+        behind: [Waiting::NONE; sizes::GATES],
     };
     for gate in 0..count(netlist) {
         level_from(netlist, gate, marks, &mut waits);

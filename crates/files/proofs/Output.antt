@@ -21,7 +21,7 @@ seen None buffer long w = record { within = tt; long = tt }
 pub prints-outputs : {space said : ℕ} {bs before after : List ℕ} → Prints space bs before after said → Outputs space bs after said
 prints-outputs p = record { answers = p.answers; prints = p.prints; long = p.long }
 
--- Some put into the front of a buffer that has room for them.
+-- Bytes put into the front of a buffer that has room for them.
 pub put-outputs : {space said : ℕ} {bs before after : List ℕ} → space ≡ length before → length bs ≤ space → Put 0 bs before after said
     → Outputs space bs after said
 put-outputs e h p = prints-outputs (put-prints p (omega arith) e)

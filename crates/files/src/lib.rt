@@ -1,9 +1,9 @@
 // Files and standard output, for the programs of this repository: reading a whole file by its name, printing bytes, and what
 // every program prints of its files alike.
 //
-// For those programs alone: `Loaded`, `load_file`, `load`, `front`, `put_unreadable` and `print`. A file that cannot be opened or
-// read to its end is unreadable, a directory among them. A file longer than a text may be fills the buffer, and is seen to be
-// longer. specs/Output.antt says what a program prints of files that were loaded.
+// For those programs alone: `Loaded`, `load_into`, `load_file`, `load`, `front`, `put_unreadable` and `print`. A file that cannot
+// be opened or read to its end is unreadable, a directory among them. A file longer than a text may be fills the buffer, and is
+// seen to be longer. specs/Output.antt says what a program prints of files that were loaded.
 #![tactic(auto)]
 
 ghost use Rattle.std.specs.Prelude.{◌≡◌, ◌≤◌, length, take};
@@ -22,19 +22,38 @@ use writer::bytes::Cursor;
 pub const FILE_BYTES: usize = sizes::TEXT_BYTES + 1;
 
 // A file that was loaded: the buffer, and how many of its bytes are the file's; none where the file is unreadable.
-#[derive(Drop)]
+#[derive(Clone, Copy)]
 pub struct Loaded {
     pub buffer: [u8; FILE_BYTES],
     pub length: Option<usize>,
 }
 
-// `load` into a buffer of its own.
+impl Loaded {
+    // A buffer, and no file yet.
+    pub fn none() -> Loaded
+        ensures { result.length ≡ None }
+    {
+        Loaded {
+            buffer: [0; FILE_BYTES],
+            length: None,
+        }
+    }
+}
+
+// `load` into its own buffer. So the programs do: a file that is handed back by value is copied twice.
+pub fn load_into(rt: &impl Files, path: &[u8], file: &mut Loaded)
+    ensures { Seen file.new.length file.new.buffer }
+{
+    file.length = load(rt, path, &mut file.buffer);
+}
+
+// The same with a buffer that is handed back.
 pub fn load_file(rt: &impl Files, path: &[u8]) -> Loaded
     ensures { Seen result.length result.buffer }
 {
-    let mut buffer = [0; FILE_BYTES];
-    let length = load(rt, path, &mut buffer);
-    Loaded { buffer, length }
+    let mut file = Loaded::none();
+    load_into(rt, path, &mut file);
+    file
 }
 
 // The name is one of a file that `rt` finds; one that is not UTF-8 finds none. How many bytes were loaded; none where the

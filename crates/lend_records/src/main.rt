@@ -319,7 +319,8 @@ fn main(rt: HostRuntime) {
     lend_and_print::<NUMBERS, 8>(&rt, NAND2, latch);
     // an open line; 14, where it has a driver; 20, where an output is marked that has none
     lend_each(&rt, &[mark(3, 5), mark(3, 4), mark(1, 5)]);
-    let long = files::load_file(&rt, b"lib.txt");
+    let mut long = files::Loaded::none();
+    files::load_into(&rt, b"lib.txt", &mut long);
     match long.length {
         Some(n) => lend_full(&rt, files::front(&long.buffer, n)),
         None => files::print(&rt, b"unreadable\n"),

@@ -8,7 +8,7 @@ ghost use Rattle.sizes.specs.Sizes as Size;
 ghost use Rattle.demands.specs.Printed.{printed};
 ghost use Rattle.files.specs.Output.{of_files, PrintsFiles};
 
-use files::{Loaded, front, load_file, put_unreadable};
+use files::{Loaded, front, load_into, put_unreadable};
 
 fn put_output(lib: &Loaded, net: &Loaded, output: &mut [u8; sizes::REPORT_BYTES]) -> usize
     ensures { PrintsFiles Size.report_bytes printed lib.now.length lib.now.buffer net.now.length
@@ -35,8 +35,10 @@ fn print_output(rt: &impl Print, lib: &Loaded, net: &Loaded, bytes: &[u8])
 }
 
 fn main(rt: HostRuntime) {
-    let lib = load_file(&rt, b"lib.txt");
-    let net = load_file(&rt, b"net.txt");
+    let mut lib = Loaded::none();
+    let mut net = Loaded::none();
+    load_into(&rt, b"lib.txt", &mut lib);
+    load_into(&rt, b"net.txt", &mut net);
     let mut output = [0u8; sizes::REPORT_BYTES];
     let length = put_output(&lib, &net, &mut output);
     print_output(&rt, &lib, &net, front(&output, length));

@@ -8,7 +8,7 @@ ghost use Rattle.files.specs.Output.{of_file, PrintsFile};
 ghost use Rattle.truth_entry.specs.Bounded.{entry_room};
 ghost use Rattle.scoap_cell.specs.Output.{entry_printed};
 
-use files::{Loaded, front, load_file, put_unreadable};
+use files::{Loaded, front, load_into, put_unreadable};
 use truth_entry::ENTRY_BYTES;
 
 fn put_output(table: &Loaded, output: &mut [u8; ENTRY_BYTES]) -> usize
@@ -28,7 +28,8 @@ fn print_output(rt: &impl Print, table: &Loaded, bytes: &[u8])
 }
 
 fn main(rt: HostRuntime) {
-    let table = load_file(&rt, b"table.txt");
+    let mut table = Loaded::none();
+    load_into(&rt, b"table.txt", &mut table);
     let mut output = [0u8; ENTRY_BYTES];
     let length = put_output(&table, &mut output);
     print_output(&rt, &table, front(&output, length));

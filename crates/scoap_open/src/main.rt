@@ -7,7 +7,7 @@ ghost use Rattle.std.specs.Prelude.{◌≡◌};
 ghost use Rattle.files.specs.Output.{of_files, PrintsFiles};
 ghost use Rattle.netlist_open.specs.Copied.{copy_bytes, copy_printed};
 
-use files::{Loaded, front, load_file, put_unreadable};
+use files::{Loaded, front, load_into, put_unreadable};
 use netlist_open::COPY_BYTES;
 
 fn put_output(lib: &Loaded, net: &Loaded, output: &mut [u8; COPY_BYTES]) -> usize
@@ -35,8 +35,10 @@ fn print_output(rt: &impl Print, lib: &Loaded, net: &Loaded, bytes: &[u8])
 }
 
 fn main(rt: HostRuntime) {
-    let lib = load_file(&rt, b"lib.txt");
-    let net = load_file(&rt, b"net.txt");
+    let mut lib = Loaded::none();
+    let mut net = Loaded::none();
+    load_into(&rt, b"lib.txt", &mut lib);
+    load_into(&rt, b"net.txt", &mut net);
     let mut output = [0u8; COPY_BYTES];
     let length = put_output(&lib, &net, &mut output);
     print_output(&rt, &lib, &net, front(&output, length));

@@ -15,7 +15,7 @@ ghost use Rattle.scoap_plan.specs.Arguments.{arguments_of};
 ghost use Rattle.scoap_plan.specs.Output.{plan_shown, plan_output, PlanOutputs};
 
 use crate::arguments::{Arguments, Words, put_usage, read_arguments};
-use files::{Loaded, front, load_file, put_unreadable};
+use files::{Loaded, front, load_into, put_unreadable};
 use std::env::FillError;
 use std::rt::Env;
 
@@ -102,8 +102,10 @@ fn main(rt: HostRuntime) {
         value: argument(&rt, 2, &mut value),
         kind: argument(&rt, 3, &mut kind),
     };
-    let lib = load_file(&rt, b"lib.txt");
-    let net = load_file(&rt, b"net.txt");
+    let mut lib = Loaded::none();
+    let mut net = Loaded::none();
+    load_into(&rt, b"lib.txt", &mut lib);
+    load_into(&rt, b"net.txt", &mut net);
     let mut output = [0u8; sizes::REPORT_BYTES];
     let length = put_output(&words, &lib, &net, &mut output);
     print_output(&rt, &words, &lib, &net, front(&output, length));

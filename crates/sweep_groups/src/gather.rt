@@ -2,12 +2,11 @@
 // bit, so that every row of the gate is summed over them.
 ghost use Rattle.std.specs.Prelude.{◌+◌, ◌*◌};
 ghost use Rattle.cost.specs.Kind.{kind_index};
-ghost use Rattle.sweep_groups.specs.Roles.{role_index};
 ghost use Rattle.sweep_groups.specs.Tables.{role_columns};
 ghost use Rattle.sweep_groups.specs.Fits.{Gathered, GatherFits, LineCostsFit};
 
 use super::places::{observing_place, setting_place};
-use super::turns::Role;
+use super::turns::{AsRole, Role};
 use cost::Kind;
 
 // The costs of so many lines at 1 and at 0, from that of the last pin back.
@@ -32,23 +31,23 @@ fn line_costs(
 
 // The costs of the columns that the rows of a visit may name, gathered anew where they are stale: the
 // pins' where lines are set, where they are observed the output's too.
-pub fn column_costs(
+pub fn column_costs<R: AsRole>(
     stale: bool,
-    role: Role,
+    role: R,
     kind: Kind,
     lines: &[u32; sizes::GATE_LINES],
     pins: usize,
     numbers: &[u32],
     costs: &mut [u32; sizes::COLUMNS],
 )
-    requires { GatherFits stale (role_index role) (kind_index kind) lines.now pins numbers.now costs.old }
-    ensures { Gathered (role_columns (role_index role) pins) (kind_index kind) lines.now pins numbers.now
+    requires { GatherFits stale (R.number role) (kind_index kind) lines.now pins numbers.now costs.old }
+    ensures { Gathered (role_columns (R.number role) pins) (kind_index kind) lines.now pins numbers.now
         costs.new }
 {
     if !stale {
         return;
     }
-    match role {
+    match role.as_role() {
         Role::Setting => line_costs(kind, lines, pins, numbers, pins, costs),
         Role::Observing => {
             line_costs(kind, lines, pins, numbers, pins + 1, costs);

@@ -10,14 +10,13 @@ ghost use Rattle.std.specs.Prelude.{◌≡◌, true, ◌+◌, ◌*◌, ◌≤◌
 ghost use Rattle.cost.specs.Cost.{never};
 ghost use Rattle.cost.specs.Kind.{kind_index};
 ghost use Rattle.sweep_sums.specs.Sums.{sum_number};
-ghost use Rattle.sweep_groups.specs.Roles.{role_index};
 ghost use Rattle.sweep_groups.specs.Tables.{group_visit};
 ghost use Rattle.sweep_turns.specs.VisitFits.{StoreFits, VisitFits, CostsOf};
 ghost use Rattle.sweep_turns.specs.Renewed.{Stored, Led, Renewed};
 
 use cost::{Kind, NEVER};
 use sweep_groups::least_of;
-use sweep_groups::turns::Role;
+use sweep_groups::turns::{AsRole, Role};
 use sweep_sums::{Sum, is_lower, lesser_of, number_of, sum_of};
 
 // Stores a sum at a place of its kind, and says whether another number stood there.
@@ -35,10 +34,10 @@ pub fn store(numbers: &mut [u32], place: usize, sum: Sum) -> bool
 
 // Whether no row sum is below a number: where lines are observed, the cost of the gate's output observed
 // is a term of each. A raw number above never is no cost yet: its visit makes one of it.
-fn lowest_already(role: Role, kind: Kind, number: u32, observed: u32) -> bool
-    ensures { result ≡ true → (role_index role ≡ 0 → ⊥) × (number ≤ observed) × (number ≤ never) }
+fn lowest_already<R: AsRole>(role: R, kind: Kind, number: u32, observed: u32) -> bool
+    ensures { result ≡ true → (R.number role ≡ 0 → ⊥) × (number ≤ observed) × (number ≤ never) }
 {
-    match role {
+    match role.as_role() {
         Role::Setting => false,
         Role::Observing => {
             number <= NEVER && !is_lower(sum_of(kind, observed), sum_of(kind, number))
@@ -48,8 +47,8 @@ fn lowest_already(role: Role, kind: Kind, number: u32, observed: u32) -> bool
 
 // Renews the number at a place by the row sums of a group, over the costs of its columns; whether it
 // changed. Sums that cannot be below the number are not taken.
-pub fn visit(
-    role: Role,
+pub fn visit<R: AsRole>(
+    role: R,
     kind: Kind,
     library: &[u32],
     group: usize,
@@ -63,7 +62,7 @@ pub fn visit(
     requires { VisitFits wired (kind_index kind) library.now group costs.now numbers.old place pins }
     ensures { CostsOf (kind_index kind) library.now group lines.now pins
         numbers.old costs.now
-        → Led (role_index role) (get_or costs.now (2 * pins + 2) 0) numbers.old
+        → Led (R.number role) (get_or costs.now (2 * pins + 2) 0) numbers.old
         (group_visit wired (kind_index kind) lines.now pins library.now group place)
         → Renewed
         (group_visit wired (kind_index kind) lines.now pins library.now group place)

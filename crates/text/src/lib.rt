@@ -112,7 +112,7 @@ fn part(text: &[u8], from: usize, piece: Piece) -> &[u8]
     if from <= text.len() {
         first(&text[from..], piece)
     } else {
-        &[]
+        &text[text.len()..]
     }
 }
 

@@ -219,7 +219,7 @@ module _ {standing netlist before stack between half : List ℕ} {gate end : ℕ
       here i a b h (no f) = stays put (gate_line netlist gate i) (p.back i a (omega (arith, f)) h)
 
 -- The walk goes on over them.
-puts_going : {standing before stack after pushed entry : List ℕ} {from : ℕ} {Behind : ℕ → ℕ → Type 0} {Open : ℕ → Type 0}
+pub puts_going : {standing before stack after pushed entry : List ℕ} {from : ℕ} {Behind : ℕ → ℕ → Type 0} {Open : ℕ → Type 0}
     → Puts standing before stack after pushed → Going standing entry Behind from Open before stack → Going standing entry Behind from Open after pushed
 puts_going Puts.none g = g
 puts_going (Puts.next ps put) g = put_going put (puts_going ps g)

@@ -42,6 +42,10 @@ unfoldable pub changes_at : List ℕ → (weight j : ℕ) → Bool
 changes_at bits weight j =
     not (eqb (get_or bits (j / weight * (2 * weight) + j % weight) 0) (get_or bits (j / weight * (2 * weight) + j % weight + weight) 0))
 
+-- What is asked of the setting at a place: with no weight the first of these, else the second.
+unfoldable pub ask_at : List ℕ → (weight value j : ℕ) → Bool
+ask_at bits weight value j = pick (eqb weight 0) (gives_at bits value j) (changes_at bits weight j)
+
 unfoldable pub up_from : (j left : ℕ) → List ℕ
 up_from j zero = []
 up_from j (suc left) = j ∷ up_from (suc j) left

@@ -12,7 +12,7 @@ ghost use Rattle.truth_tables.specs.Entries.{setting_group, observing_group};
 ghost use Rattle.truth_rows.specs.Masks.{is_bit, is_one, Bits};
 ghost use Rattle.truth_rows.specs.Asked.{AsksFor};
 
-use crate::masks::{changes, wanted};
+use crate::masks::{changes, passing};
 
 // What is asked of a group's rows: the settings wanted, of so many pins; what every row has besides the columns of its term,
 // and the weight of the two columns above which a pin is left out that is not named.
@@ -31,7 +31,7 @@ pub fn of_value(depth: u32, pins: usize, bits: &[u8], value: bool) -> Asked
 {
     let byte = if value { b'1' } else { b'0' };
     Asked {
-        wanted: wanted(bits.len(), |j| bits[j] == byte),
+        wanted: passing(bits.len(), |j| bits[j] == byte),
         pins,
         base: depth,
         weight: 4u32.pow(pins as u32),
@@ -39,7 +39,7 @@ pub fn of_value(depth: u32, pins: usize, bits: &[u8], value: bool) -> Asked
 }
 
 // The group of the pin that stands behind k others: over the other pins. (Two functions, as each promises a group of its own:
-// what they share is `wanted`.)
+// what they share is `passing`.)
 pub fn of_pin(depth: u32, pins: usize, bits: &[u8], k: usize) -> Asked
     requires { Bits pins bits.now × (depth ≤ 1) × (k < pins) }
     ensures { AsksFor result (observing_group depth pins (map is_one bits.now) k) }
@@ -48,7 +48,7 @@ pub fn of_pin(depth: u32, pins: usize, bits: &[u8], k: usize) -> Asked
     // The pin's weight in the place of a setting.
     let light = 1 << behind;
     Asked {
-        wanted: wanted(bits.len() / 2, |j| changes(bits, light, j)),
+        wanted: passing(bits.len() / 2, |j| changes(bits, light, j)),
         pins: pins - 1,
         base: depth + 8 * 4u32.pow(pins as u32),
         weight: 4u32.pow(behind as u32),

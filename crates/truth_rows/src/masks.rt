@@ -3,7 +3,7 @@
 ghost use Rattle.std.specs.Prelude.{Bool, map, ℕ, ◌≡◌, ◌^◌, ◌*◌, ◌+◌, ◌/◌, ◌%◌, ◌≤◌, ◌<◌, eqb};
 ghost use Rattle.truth_tables.specs.Entries.{term_columns};
 ghost use Rattle.truth_rows.specs.Masks.{cover_mask, term_of, term_but, widened, implied, loose, prime_row, spread, number_of};
-ghost use Rattle.truth_rows.specs.Masks.{mask_of, changes_at, up_from};
+ghost use Rattle.truth_rows.specs.Masks.{mask_of, ask_at, changes_at, up_from};
 ghost use Rattle.reading.specs.Choice.{pick};
 
 use table::at_or;
@@ -114,7 +114,7 @@ pub fn changes(bits: &[u8], weight: usize, j: usize) -> bool
 }
 
 // The settings, of so many, of which a test of their places holds.
-pub fn wanted<F: Fn(usize) -> bool>(count: usize, test: F) -> u32
+pub fn passing<F: Fn(usize) -> bool>(count: usize, test: F) -> u32
     requires few { count ≤ 16 }
     requires may_call { (j : ℕ) → j < count → F.pre test j }
     ensures { (p : ℕ → Bool) → ((j : ℕ) (b : Bool) → j < count → F.post test j b → b ≡ p j)
@@ -128,4 +128,16 @@ pub fn wanted<F: Fn(usize) -> bool>(count: usize, test: F) -> u32
         }
     }
     mask
+}
+
+// The settings, of so many, of which it holds what is asked: with no weight that the output is a value, else that it changes
+// when the pin of that weight does.
+pub fn wanted(bits: &[u8], weight: usize, value: u8, count: usize) -> u32
+    requires { (weight ≤ 8) × (count ≤ 16) }
+    ensures { result ≡ mask_of (map (ask_at bits.now weight value) (up_from 0 count)) }
+{
+    if weight == 0 {
+        return passing(count, |j| at_or(bits, j, 0) == value);
+    }
+    passing(count, |j| changes(bits, weight, j))
 }

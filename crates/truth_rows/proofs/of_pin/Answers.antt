@@ -11,11 +11,11 @@ two = omega arith
 four : 0 < 4
 four = omega arith
 
-pub wanted-requires-clause-few : goal.wanted-requires-clause-few
-wanted-requires-clause-few c = let b = c.requires.0 in omega (arith, b.long, pow-le-pow_right two b.few)
+pub passing-requires-clause-few : goal.passing-requires-clause-few
+passing-requires-clause-few c = let b = c.requires.0 in omega (arith, b.long, pow-le-pow_right two b.few)
 
-pub wanted-requires-clause-may_call : goal.wanted-requires-clause-may_call
-wanted-requires-clause-may_call c = λ j h.
+pub passing-requires-clause-may_call : goal.passing-requires-clause-may_call
+passing-requires-clause-may_call c = λ j h.
     let b = c.requires.0 in
     let w = 1 * 2 ^ (c.args.pins - 1 - c.args.k) % 2 ^ 64 in
     let least : c.args.pins - 1 - c.args.k ≤ 3 = omega (arith, b.few) in
@@ -56,7 +56,7 @@ returns c =
             weight = omega (arith, c.pow-2.ensures, pow-le-pow_right four least);
           };
       rows =
-          observing_group_lem a.depth a.pins c.wanted.result c.pow-2.result a.bits.now b a.k (a.depth + 8 * c.pow.result)
-          (1 * 2 ^ behind % 2 ^ 64) c.requires.2 bit (c.wanted.ensures (changes_at a.bits.now (1 * 2 ^ behind % 2 ^ 64)) (λ j b h k. search rules))
+          observing_group_lem a.depth a.pins c.passing.result c.pow-2.result a.bits.now b a.k (a.depth + 8 * c.pow.result)
+          (1 * 2 ^ behind % 2 ^ 64) c.requires.2 bit (c.passing.ensures (changes_at a.bits.now (1 * 2 ^ behind % 2 ^ 64)) (λ j b h k. search rules))
           (rw c.pow.ensures refl) c.pow-2.ensures;
     }

@@ -9,8 +9,8 @@ use Rattle.truth_rows.proofs.of_value.Goals.{then-value, else-value}
 four : 0 < 4
 four = omega arith
 
-pub wanted-requires-clause-few : goal.wanted-requires-clause-few
-wanted-requires-clause-few c =
+pub passing-requires-clause-few : goal.passing-requires-clause-few
+passing-requires-clause-few c =
     let b = c.requires.0 in
     let two : 0 < 2 = omega arith in
     omega (arith, b.long, pow-le-pow_right two b.few)
@@ -39,6 +39,6 @@ returns c =
           };
       rows =
           rw (← digit.1)
-          (setting_group_lem a.depth a.pins c.wanted.result c.pow.result a.bits.now b byte digit.0
-          (c.wanted.ensures (gives_at a.bits.now byte) (λ j b h k. search rules)) c.pow.ensures);
+          (setting_group_lem a.depth a.pins c.passing.result c.pow.result a.bits.now b byte digit.0
+          (c.passing.ensures (gives_at a.bits.now byte) (λ j b h k. search rules)) c.pow.ensures);
     }

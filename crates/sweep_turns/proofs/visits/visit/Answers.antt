@@ -1,7 +1,6 @@
 -- The lesser of the number and the least row sum is stored.
 use Rattle.common_laws.proofs.Base.{refl, ◌∙◌, ◌<◌, arith, length}
 use Rattle.cost.specs.Kind.{kind_index}
-use Rattle.sweep_groups.specs.Roles.{role_index}
 use Rattle.sweep_groups.specs.Tables.{read_row, group_visit}
 use Rattle.sweep_groups.proofs.Gathered.{group_same, read-narrow}
 use Rattle.sweep_turns.proofs.VisitsLaws.{visited, led-still}
@@ -10,14 +9,14 @@ use Rattle.sweep_turns.proofs.visits.visit.Goals as goal
 -- No sum can be below the number.
 pub returns-then-lowest_already : goal.returns-then-lowest_already
 unfolding group_visit
-returns-then-lowest_already c o led =
+returns-then-lowest_already g c o led =
     let a = c.args in
     let inside : a.place < length a.numbers.now = omega arith in
-    led-still (role_index a.role) (group_visit a.wired (kind_index a.kind) a.lines.now a.pins a.library.now a.group a.place) a.numbers.now inside refl led (c.lowest_already.ensures c.if-lowest_already.true)
+    led-still (g.R.AsRole.number a.role) (group_visit a.wired (kind_index a.kind) a.lines.now a.pins a.library.now a.group a.place) a.numbers.now inside refl led (c.lowest_already.ensures c.if-lowest_already.true)
 
 pub returns : goal.returns
 unfolding group_visit
-returns c o led =
+returns g c o led =
     let a = c.args in
     let inside : a.place < length a.numbers.now = omega arith in
     let sum =

@@ -1,7 +1,7 @@
--- `wanted` goes over the settings from the last on.
+-- `passing` goes over the settings from the last on.
 use Rattle.common_laws.proofs.Base.{Bool, map, ◌≡◌, ℕ, ◌-◌, ◌^◌, ◌<◌}
 use Rattle.truth_rows.specs.Masks.{mask_of, up_from}
-use Rattle.truth_rows.proofs.masks.wanted.Given as goal
+use Rattle.truth_rows.proofs.masks.passing.Given as goal
 
 abbrev pub invariant-loop-j : goal.invariant-loop-j
 invariant-loop-j g l = record {
