@@ -8,11 +8,12 @@ ghost use Rattle.sizes.specs.Sizes as Size;
 ghost use Rattle.netlist_table.specs.Netlist.{any_line_bad};
 ghost use Rattle.netlist_table.specs.Admission.{StandsFor};
 ghost use Rattle.analysis_records.specs.Records.{all_zero, pins_before, record_form};
-ghost use Rattle.analysis_records.specs.Steps.{Stepped};
+ghost use Rattle.analysis_records.specs.Steps.{Checked, Stepped};
 
 use analysis_texts::Stop;
 use netlist_admission::{admit, mark};
 use netlist_table::{RawStatement, line_bad};
+use reading::Refusal;
 
 // "kind (0 input, 1 output, 2 gate), cell index (from 0 in library order), line, eight pins, 0 after
 // the last." "In record lists, kind 3 is open." (K5)
@@ -75,7 +76,14 @@ fn take_apart(rec: Record) -> Option<RawStatement>
     Some(mark(kind, rec.line))
 }
 
-// Checks and stores one record, the place of which is its refusal's line, where the call was not stopped so far.
+// Checks and stores one record, the place of which is its refusal's line.
+fn check(table: &mut [u32], library: &[u32], place: usize, rec: Record) -> Result<(), Refusal>
+    ensures { Checked library.now place rec table.old result table.new }
+{
+    admit(table, library, take_apart(rec)).map_err(|cause| cause.at(place))
+}
+
+// The same where the call was not stopped so far.
 pub fn step(
     table: &mut [u32],
     library: &[u32],
@@ -86,6 +94,6 @@ pub fn step(
     ensures { Stepped library.now place so_far rec table.old result table.new }
 {
     so_far?;
-    admit(table, library, take_apart(rec)).map_err(|cause| cause.at(place))?;
+    check(table, library, place, rec)?;
     Ok(())
 }
