@@ -2,10 +2,11 @@
 // themselves; what they promise is said here, beside the laws that lead to it from the promises of the calls in Rattle, so
 // that a call is proved by one law.
 //
-// For the crates above: a function for each type of answer, and `limit_plan`. specs/Number.antt says what the number of all
-// calls tells, specs/Call.antt what a call keeps by it, specs/Coded.antt, specs/Plan.antt, specs/Cell.antt,
-// specs/BuiltIn.antt, specs/Qualifies.antt, specs/Stand.antt, specs/Change.antt, specs/Best.antt and specs/Advice.antt what
-// each call promises.
+// For the crates above: `answer_code`, `advised_code` and `change_code`, of a report, an advice and a change, which ask that a
+// refusal's line is below `code_lines`, as `writer::code` does, which tells of a length alone; `limit_plan`, which has no
+// condition. specs/Number.antt says what the number of all calls tells, specs/Call.antt what a call keeps by it,
+// specs/Coded.antt, specs/Plan.antt, specs/Cell.antt, specs/BuiltIn.antt, specs/Qualifies.antt, specs/Stand.antt,
+// specs/Change.antt, specs/Best.antt and specs/Advice.antt what each call promises.
 //
 // Module `qualifies`: whether the theorems of K8 apply, by one number.
 #![tactic(auto)]
